@@ -1,0 +1,40 @@
+-- Words that follow one another, cut into rows.
+use Rattle.std.proofs.Common.{◌≡◌, ℕ, zero, suc, ◌+◌, ◌*◌, ◌<◌, ◌≤◌, List, [], ◌∷◌, ◌++◌, length, take, drop, Some, refl, ap, ◌∙◌, arith, add-one}
+use Rattle.std.specs.Prelude.{ℤ, slice_get}
+use Rattle.std.proofs.lemmas.List.{nil_from_length, take_all, take-append-le, drop-append-le, drop-drop, length-drop}
+use Rattle.heap_pages.specs.Rows.{cut_rows}
+
+-- there are as many rows as were asked for
+pub length-cut_rows : (width n : ℕ) (words : List ℤ) → length (cut_rows width n words) ≡ n
+length-cut_rows width zero words = refl
+length-cut_rows width (suc n) words = ap suc (length-cut_rows width n (drop width words))
+
+-- a row ends where the rows up to it end
+pub row_end : (i n width : ℕ) → i < n → i * width + width ≤ n * width
+row_end i n width below = grind arith
+
+-- row i is what stands at its place among the words
+pub slice_get-cut_rows : (width n i : ℕ) (words : List ℤ) → i < n → slice_get (cut_rows width n words) i ≡ Some (take width (drop (i * width) words))
+slice_get-cut_rows width zero i words below = absurd (omega arith)
+slice_get-cut_rows width (suc n) zero words below = let none : 0 * width ≡ 0 = omega arith in rw none refl
+slice_get-cut_rows width (suc n) (suc i) words below =
+    let place : width + i * width ≡ suc i * width = omega arith in
+    slice_get-cut_rows width n i (drop width words) (omega arith)
+    ∙ ap (λ (ws : List ℤ). Some (take width ws)) (drop-drop (i * width) width words ∙ ap (λ k. drop k words) place)
+
+one_more : (width n : ℕ) (words row : List ℤ) → length words ≡ n * width → length row ≡ width → cut_rows width (suc n) (words ++ row) ≡ cut_rows width n words ++ row ∷ []
+one_more width zero words row filled wide =
+    let none : words ≡ [] = nil_from_length words (omega (arith, filled)) in
+    rw none (ap (λ r. r ∷ []) (take_all width row (omega (arith, wide))))
+one_more width (suc n) words row filled wide =
+    let enough : width ≤ length words = omega (arith, filled) in
+    let others : length (drop width words) ≡ n * width = simp length-drop (omega (arith, filled)) in
+    (λ i. take-append-le width words row enough i ∷ cut_rows width (suc n) (drop-append-le width words row enough i))
+    ∙ ap (λ rs. take width words ∷ rs) (one_more width n (drop width words) row others wide)
+
+-- a row at the end of the words is a row at the end of the rows
+pub cut_rows-append : (width n : ℕ) (words row : List ℤ) → length words ≡ n * width → length row ≡ width → cut_rows width (n + 1) (words ++ row) ≡ cut_rows width n words ++ row ∷ []
+cut_rows-append width n words row filled wide = rw add-one (one_more width n words row filled wide)
+
+-- what a heap's functions need of its rows
+pub ruleset of_rows = (length-cut_rows, slice_get-cut_rows, row_end, cut_rows-append)

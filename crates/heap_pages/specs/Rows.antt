@@ -1,0 +1,30 @@
+-- A table as a list of rows, and the pages on which they stand.
+use Rattle.std.specs.Prelude.{ℕ, ℤ, zero, suc, ◌+◌, ◌-◌, ◌*◌, ◌/◌, List, [], ◌∷◌, take, drop}
+use Rattle.heap_pages.specs.declared.heap.TheConstants.{PAGE_WORDS}
+
+-- a row has a word in each column
+abbrev pub Row : Type 0
+Row = List ℤ
+
+-- how many columns a table has, its rows in order, and for how many more rows there is room
+pub record Table : Type 0 where
+  pub columns : ℕ
+  pub rows : List Row
+  pub spare : ℕ
+
+-- words that follow one another, cut into n rows of one width
+abbrev pub cut_rows : ℕ → ℕ → List ℤ → List Row
+cut_rows width zero words = []
+cut_rows width (suc n) words = take width words ∷ cut_rows width n (drop width words)
+
+-- how many whole rows stand on a page
+abbrev pub rows_per_page : ℕ → ℕ
+rows_per_page columns = PAGE_WORDS / columns
+
+-- how many pages these rows take, all full but the last; no row takes none
+abbrev pub pages_of : ℕ → ℕ → ℕ
+pages_of columns rows = (rows + (rows_per_page columns - 1)) / rows_per_page columns
+
+-- the number of the row in this slot of this page
+abbrev pub row_number : ℕ → ℕ → ℕ → ℕ
+row_number columns page slot = page * rows_per_page columns + slot

@@ -1,0 +1,198 @@
+// The heap: all words in one vector, row after row.
+ghost use Rattle.std.specs.Prelude.{◌≡◌, ◌≢◌, ℕ, ◌+◌, ◌-◌, ◌*◌, ◌/◌, ◌^◌, ◌<◌, ◌≤◌, ◌↔◌, List, [], ◌∷◌, ◌++◌, take, drop, length, Some, slice_get, OnOk, OnErr, IfOk, IfErr, IsErrOf};
+ghost use Rattle.work_ledger.specs.Account.{Pays};
+ghost use Rattle.work_ledger.specs.declared.charge.TheConstants.{PAGE, ROW, FETCH};
+ghost use Rattle.heap_pages.specs.Rows.{rows_per_page, pages_of, row_number};
+
+use std::alloc::{AllocError, Global};
+use std::marker::Model;
+use work_ledger::{Exhausted, Ledger, charge};
+
+/// How many words stand on a page.
+const PAGE_WORDS: usize = 1024;
+
+/// The most rows of a table.
+pub const MAX_ROWS: u64 = 4194304;
+
+/// The most columns of a table.
+pub const MAX_COLUMNS: usize = 32;
+
+/// Why a heap didn't make room.
+#[derive(Clone, Copy, Debug, PartialEq, Eq)]
+pub enum HeapFault {
+    /// So many rows would be more than a table may have.
+    RowLimit {
+        /// The rows that the table would have.
+        value: u64,
+    },
+    /// Memory was wanted.
+    NoMemory,
+}
+
+impl From<AllocError> for HeapFault {
+    ghost use Rattle.std.specs.Prelude.{◌≡◌};
+    ghost use Rattle.heap_pages.specs.declared.heap.HeapFault.TheVariants.{NoMemory};
+
+    ghost from_gives = { λ _ fault. fault ≡ NoMemory };
+
+    fn from(_: AllocError) -> HeapFault {
+        HeapFault::NoMemory
+    }
+}
+
+/// A page of a heap, by its number from 0.
+#[derive(Clone, Copy, Debug, PartialEq, Eq)]
+pub struct PageView {
+    /// The page's number, from 0.
+    pub number: u64,
+}
+
+/// The rows of one table.
+#[derive(Drop)]
+pub struct Heap {
+    columns: usize,
+    words: Vec<i64>,
+    rows: u64,
+    spare: u64,
+}
+
+impl Model for Heap {
+    ghost use Rattle.std.specs.Prelude.{◌≡◌, ◌+◌, ◌*◌, ◌≤◌, vec_len, vec_capacity};
+    ghost use Rattle.heap_pages.specs.Rows.{Table, cut_rows};
+
+    ghost Value = { Table };
+
+    ghost view = { λ h. record { columns = h.columns; rows = cut_rows h.columns h.rows h.words.items; spare = h.spare } };
+
+    ghost use Rattle.heap_pages.specs.Layout.{IsLaidOut};
+
+    ghost invariant = { λ h. IsLaidOut h.columns h.rows h.spare (vec_len h.words) (vec_capacity h.words) };
+}
+
+// Lends the words of row i.
+fn words_of_row(words: &[i64], columns: usize, i: usize) -> &[i64]
+    requires { i * columns + columns ≤ length words.now }
+    ensures { result.now ≡ take columns (drop (i * columns) words.now) }
+{
+    let start = i * columns;
+    &words[start..start + columns]
+}
+
+#[tactic(auto, using(crate::proofs::CutRows::of_rows))]
+impl Heap {
+    /// A table without rows.
+    pub fn new(alloc: Global, columns: usize) -> Heap
+        requires some { 1 ≤ columns }
+        requires few { columns ≤ MAX_COLUMNS }
+        ensures columns { result.columns ≡ columns }
+        ensures rows { result.rows ≡ [] }
+        ensures spare { result.spare ≡ 0 }
+    {
+        Heap {
+            columns,
+            words: Vec::new(alloc),
+            rows: 0,
+            spare: 0,
+        }
+    }
+
+    /// How many rows there are.
+    pub fn rows(&self) -> u64
+        ensures count { result ≡ length self.now.rows }
+        ensures limit { result ≤ MAX_ROWS }
+    {
+        self.rows
+    }
+
+    /// How many pages the rows take.
+    pub fn pages(&self) -> u64
+        ensures { result ≡ pages_of self.now.columns (length self.now.rows) }
+    {
+        let per_page = (PAGE_WORDS / self.columns) as u64;
+        (self.rows + (per_page - 1)) / per_page
+    }
+
+    /// Row `i`, from 0. This read isn't paid.
+    pub fn get(&self, i: u64) -> &[i64]
+        requires { i < length self.now.rows }
+        ensures { slice_get self.now.rows i ≡ Some result.now }
+    {
+        words_of_row(&self.words, self.columns, i as usize)
+    }
+
+    /// Makes room for `n` more rows. A refusal leaves the rows and the room as they were.
+    pub fn reserve(&mut self, n: u64) -> Result<(), HeapFault>
+        requires { n ≤ 2 ^ 62 }
+        ensures rows { self.new.rows ≡ self.old.rows }
+        ensures columns { self.new.columns ≡ self.old.columns }
+        ensures spare { OnOk result (n ≤ self.new.spare) }
+        ensures kept { self.old.spare ≤ self.new.spare }
+        ensures unchanged { OnErr result (self.new ≡ self.old) }
+        ensures limit { IfErr result (λ fault. fault ≢ HeapFault.NoMemory → fault ≡ HeapFault.RowLimit (length self.old.rows + n)) }
+        ensures exactly { (MAX_ROWS < length self.old.rows + n) ↔ IsErrOf result (HeapFault.RowLimit (length self.old.rows + n)) }
+    {
+        let value = self.rows + n;
+        if value > MAX_ROWS {
+            return Err(HeapFault::RowLimit { value });
+        }
+        if n > self.spare {
+            self.words.reserve(n as usize * self.columns)?;
+            self.spare = n;
+        }
+        Ok(())
+    }
+
+    /// Appends a row, for which there is room, and answers its number.
+    pub fn append(&mut self, row: &[i64]) -> u64
+        requires room { 0 < self.old.spare }
+        requires width { length row.now ≡ self.old.columns }
+        ensures place { result ≡ length self.old.rows }
+        ensures rows { self.new.rows ≡ self.old.rows ++ row.now ∷ [] }
+        ensures columns { self.new.columns ≡ self.old.columns }
+        ensures spare { self.new.spare + 1 ≡ self.old.spare }
+    {
+        let Ok(()) = self.words.extend_from_slice(row) else {
+            unreachable!()
+        };
+        let place = self.rows;
+        self.rows += 1;
+        self.spare -= 1;
+        place
+    }
+
+    /// Opens page `no`, from 0, which pays for it.
+    pub fn page(&self, no: u64, ledger: &mut Ledger) -> Result<PageView, Exhausted>
+        requires { no < pages_of self.now.columns (length self.now.rows) }
+        ensures page { IfOk result (λ view. view.number ≡ no) }
+        ensures pays { Pays PAGE ledger.old ledger.new result }
+    {
+        ledger.pay(charge::PAGE)?;
+        Ok(PageView { number: no })
+    }
+
+    /// The row in this slot, from 0, of an opened page, which pays for the row.
+    pub fn row_of(
+        &self,
+        view: &PageView,
+        slot: usize,
+        ledger: &mut Ledger,
+    ) -> Result<&[i64], Exhausted>
+        requires on_page { slot < rows_per_page self.now.columns }
+        requires there { row_number self.now.columns view.now.number slot < length self.now.rows }
+        ensures row { IfOk result (λ row. slice_get self.now.rows (row_number self.now.columns view.now.number slot) ≡ Some row.now) }
+        ensures pays { Pays ROW ledger.old ledger.new result }
+    {
+        ledger.pay(charge::ROW)?;
+        Ok(self.get(view.number * (PAGE_WORDS / self.columns) as u64 + slot as u64))
+    }
+
+    /// Row `i`, from 0, which pays for the look-up.
+    pub fn fetch(&self, i: u64, ledger: &mut Ledger) -> Result<&[i64], Exhausted>
+        requires { i < length self.now.rows }
+        ensures row { IfOk result (λ row. slice_get self.now.rows i ≡ Some row.now) }
+        ensures pays { Pays FETCH ledger.old ledger.new result }
+    {
+        ledger.pay(charge::FETCH)?;
+        Ok(self.get(i))
+    }
+}

@@ -1,0 +1,10 @@
+-- Counts of what went wrong outside.
+use Rattle.std.specs.Prelude.{ℕ, ◌+◌, ◌-◌, ◌^◌, ◌≤◌, min}
+
+-- the count one higher; it ends at 2^64 - 1
+abbrev pub raised : ℕ → ℕ
+raised count = min (count + 1) (2 ^ 64 - 1)
+
+-- the count rose, or it stands at its end
+abbrev pub Rose : ℕ → ℕ → Type 0
+Rose before after = raised before ≤ after

@@ -1,0 +1,4 @@
+pub mod Count
+pub mod Files
+pub mod Calls
+pub mod Memory

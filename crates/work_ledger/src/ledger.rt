@@ -1,0 +1,75 @@
+// The ledger: two numbers, and the one place where they are compared.
+ghost use Rattle.std.specs.Prelude.{◌≡◌, ◌+◌, ◌^◌, ◌≤◌};
+ghost use Rattle.work_ledger.specs.Account.{Pays};
+
+use std::marker::Model;
+
+/// The answer to a payment that doesn't fit the limit. All that was left is spent then.
+#[derive(Clone, Copy, Debug, PartialEq, Eq)]
+pub struct Exhausted;
+
+/// The work spent so far and the limit up to which it may be spent, both in units of work.
+#[derive(Debug, Drop)]
+pub struct Ledger {
+    spent: u128,
+    limit: u128,
+}
+
+impl Model for Ledger {
+    ghost use Rattle.std.specs.Prelude.{◌≤◌, ◌^◌};
+    ghost use Rattle.work_ledger.specs.Account.{Account};
+
+    ghost Value = { Account };
+
+    ghost view = { λ l. record { spent = l.spent; limit = l.limit } };
+
+    ghost invariant = { λ l. (l.spent ≤ l.limit) × (l.limit ≤ 2 ^ 126) };
+}
+
+impl Ledger {
+    /// Nothing is spent, and nothing may be.
+    pub fn new() -> Ledger
+        ensures spent { result.spent ≡ 0 }
+        ensures limit { result.limit ≡ 0 }
+    {
+        Ledger { spent: 0, limit: 0 }
+    }
+
+    /// The work paid so far.
+    pub fn spent(&self) -> u128
+        ensures { result ≡ self.now.spent }
+    {
+        self.spent
+    }
+
+    /// The work up to which payments fit.
+    pub fn limit(&self) -> u128
+        ensures { result ≡ self.now.limit }
+    {
+        self.limit
+    }
+
+    /// Allows as much work more as the budget says, counted from what is spent. What was left before is gone.
+    pub fn grant(&mut self, budget: u128)
+        requires { self.old.spent + budget ≤ 2 ^ 126 }
+        ensures spent { self.new.spent ≡ self.old.spent }
+        ensures limit { self.new.limit ≡ self.old.spent + budget }
+    {
+        self.limit = self.spent + budget;
+    }
+
+    /// Pays `n` units. A payment that doesn't fit spends what is left and is refused.
+    pub fn pay(&mut self, n: u128) -> Result<(), Exhausted>
+        requires { n ≤ 2 ^ 126 }
+        ensures pays { Pays n self.old self.new result }
+        ensures never_falls { self.old.spent ≤ self.new.spent }
+    {
+        let after = self.spent + n;
+        if after > self.limit {
+            self.spent = self.limit;
+            return Err(Exhausted);
+        }
+        self.spent = after;
+        Ok(())
+    }
+}

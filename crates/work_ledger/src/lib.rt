@@ -1,0 +1,27 @@
+//! The account of work. Whoever does a unit of work pays its charge here first, so what is spent is the exact sum of
+//! what was done, and an execution that runs out has spent exactly what it was granted.
+//! To the layers above it promises that `spent` never falls, that only `grant` moves the limit, and that a payment is
+//! refused exactly where it doesn't fit. It never looks at what the work is for, and never takes memory.
+#![tactic(auto)]
+
+pub mod charge;
+mod ledger;
+
+pub use ledger::{Exhausted, Ledger};
+
+#[cfg(test)]
+mod tests {
+    use super::*;
+
+    #[test]
+    fn a_payment_that_does_not_fit_spends_what_is_left(rt: HostRuntime) {
+        let mut ledger = Ledger::new();
+        ledger.grant(10);
+        assert_eq!(rt; ledger.pay(10), Ok(()), "all that was granted may be paid");
+        ledger.grant(5);
+        assert_eq!(rt; ledger.pay(3), Ok(()));
+        assert_eq!(rt; ledger.pay(3), Err(Exhausted));
+        assert_eq!(rt; ledger.spent(), 15);
+        assert_eq!(rt; ledger.limit(), 15);
+    }
+}
