@@ -36,5 +36,15 @@ one_more width (suc n) words row filled wide =
 pub cut_rows-append : (width n : ℕ) (words row : List ℤ) → length words ≡ n * width → length row ≡ width → cut_rows width (n + 1) (words ++ row) ≡ cut_rows width n words ++ row ∷ []
 cut_rows-append width n words row filled wide = rw add-one (one_more width n words row filled wide)
 
--- what a heap's functions need of its rows
-pub ruleset of_rows = (length-cut_rows, slice_get-cut_rows, row_end, cut_rows-append)
+-- rows behind rows are the rows of the words behind the words
+pub cut_rows-append_all : (width m n : ℕ) (words more : List ℤ) → length words ≡ m * width → cut_rows width (m + n) (words ++ more) ≡ cut_rows width m words ++ cut_rows width n more
+cut_rows-append_all width zero n words more filled =
+    let none : words ≡ [] = nil_from_length words (omega (arith, filled)) in
+    rw none (ap (λ k. cut_rows width k more) (omega arith))
+cut_rows-append_all width (suc m) n words more filled =
+    let enough : width ≤ length words = omega (arith, filled) in
+    let others : length (drop width words) ≡ m * width = simp length-drop (omega (arith, filled)) in
+    let count : suc m + n ≡ suc (m + n) = omega arith in
+    ap (λ k. cut_rows width k (words ++ more)) count
+    ∙ (λ i. take-append-le width words more enough i ∷ cut_rows width (m + n) (drop-append-le width words more enough i))
+    ∙ ap (λ rs. take width words ∷ rs) (cut_rows-append_all width m n (drop width words) more others)

@@ -1,1 +1,3 @@
 pub mod CutRows
+pub mod Pages
+pub mod OfRows

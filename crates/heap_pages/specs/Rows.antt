@@ -1,5 +1,5 @@
 -- A table as a list of rows, and the pages on which they stand.
-use Rattle.std.specs.Prelude.{ℕ, ℤ, zero, suc, ◌+◌, ◌-◌, ◌*◌, ◌/◌, List, [], ◌∷◌, take, drop}
+use Rattle.std.specs.Prelude.{min, ℕ, ℤ, zero, suc, ◌+◌, ◌-◌, ◌*◌, ◌/◌, List, [], ◌∷◌, take, drop}
 use Rattle.heap_pages.specs.declared.heap.TheConstants.{PAGE_WORDS}
 
 -- a row has a word in each column
@@ -24,6 +24,10 @@ rows_per_page columns = PAGE_WORDS / columns
 -- how many pages these rows take, all full but the last; no row takes none
 abbrev pub pages_of : ℕ → ℕ → ℕ
 pages_of columns rows = (rows + (rows_per_page columns - 1)) / rows_per_page columns
+
+-- how many rows stand on this page
+abbrev pub rows_on_page : ℕ → ℕ → ℕ → ℕ
+rows_on_page columns rows page = min (rows_per_page columns) (rows - page * rows_per_page columns)
 
 -- the number of the row in this slot of this page
 abbrev pub row_number : ℕ → ℕ → ℕ → ℕ

@@ -1,8 +1,8 @@
 // The heap: all words in one vector, row after row.
-ghost use Rattle.std.specs.Prelude.{◌≡◌, ◌≢◌, ℕ, ◌+◌, ◌-◌, ◌*◌, ◌/◌, ◌^◌, ◌<◌, ◌≤◌, ◌↔◌, List, [], ◌∷◌, ◌++◌, take, drop, length, Some, slice_get, OnOk, OnErr, IfOk, IfErr, IsErrOf};
+ghost use Rattle.std.specs.Prelude.{◌≡◌, ◌≢◌, ℕ, ◌+◌, ◌-◌, ◌*◌, ◌/◌, ◌^◌, ◌<◌, ◌≤◌, ◌↔◌, List, [], ◌∷◌, ◌++◌, take, drop, length, Some, slice_get, OnOk, OnErr, IfOk, IfErr, IsErrOf, vec_capacity};
 ghost use Rattle.work_ledger.specs.Account.{Pays};
 ghost use Rattle.work_ledger.specs.declared.charge.TheConstants.{PAGE, ROW, FETCH};
-ghost use Rattle.heap_pages.specs.Rows.{rows_per_page, pages_of, row_number};
+ghost use Rattle.heap_pages.specs.Rows.{cut_rows, rows_per_page, pages_of, rows_on_page, row_number};
 
 use std::alloc::{AllocError, Global};
 use std::marker::Model;
@@ -69,6 +69,19 @@ impl Model for Heap {
     ghost invariant = { λ h. IsLaidOut h.columns h.rows h.spare (vec_len h.words) (vec_capacity h.words) };
 }
 
+// Puts words behind those that are there. Where there are none they are taken over, not copied.
+fn join(words: &mut Vec<i64>, more: Vec<i64>) -> Result<(), AllocError>
+    ensures joined { OnOk result (words.new.items ≡ words.old.items ++ more.items) }
+    ensures unchanged { OnErr result (words.new.items ≡ words.old.items) }
+    ensures room { OnErr result (vec_capacity words.old ≤ vec_capacity words.new) }
+{
+    if words.is_empty() {
+        *words = more;
+        return Ok(());
+    }
+    words.extend_from_slice(&more)
+}
+
 // Lends the words of row i.
 fn words_of_row(words: &[i64], columns: usize, i: usize) -> &[i64]
     requires { i * columns + columns ≤ length words.now }
@@ -78,7 +91,7 @@ fn words_of_row(words: &[i64], columns: usize, i: usize) -> &[i64]
     &words[start..start + columns]
 }
 
-#[tactic(auto, using(crate::proofs::CutRows::of_rows))]
+#[tactic(auto, using(crate::proofs::OfRows::of_rows))]
 impl Heap {
     /// A table without rows.
     pub fn new(alloc: Global, columns: usize) -> Heap
@@ -104,12 +117,22 @@ impl Heap {
         self.rows
     }
 
-    /// How many pages the rows take.
+    /// How many pages the rows take. A page holds at least one row.
     pub fn pages(&self) -> u64
-        ensures { result ≡ pages_of self.now.columns (length self.now.rows) }
+        ensures count { result ≡ pages_of self.now.columns (length self.now.rows) }
+        ensures row_fits { 1 ≤ rows_per_page self.now.columns }
     {
         let per_page = (PAGE_WORDS / self.columns) as u64;
         (self.rows + (per_page - 1)) / per_page
+    }
+
+    /// How many rows stand on page `no`, from 0.
+    pub fn rows_on_page(&self, no: u64) -> usize
+        requires { no < pages_of self.now.columns (length self.now.rows) }
+        ensures { result ≡ rows_on_page self.now.columns (length self.now.rows) no }
+    {
+        let per_page = PAGE_WORDS / self.columns;
+        per_page.min(self.rows as usize - no as usize * per_page)
     }
 
     /// Row `i`, from 0. This read isn't paid.
@@ -158,6 +181,28 @@ impl Heap {
         self.rows += 1;
         self.spare -= 1;
         place
+    }
+
+    /// Appends `n` rows whose words follow one another. Where there are no rows yet the words are taken over, not copied.
+    /// A refusal leaves the rows and the room as they were.
+    pub fn append_rows(&mut self, words: Vec<i64>, n: u64) -> Result<(), HeapFault>
+        requires some { n ≤ 2 ^ 62 }
+        requires filled { length words.items ≡ n * self.old.columns }
+        ensures rows { OnOk result (self.new.rows ≡ self.old.rows ++ cut_rows self.old.columns n words.items) }
+        ensures columns { self.new.columns ≡ self.old.columns }
+        ensures unchanged { OnErr result (self.new ≡ self.old) }
+        ensures limit { IfErr result (λ fault. fault ≢ HeapFault.NoMemory → fault ≡ HeapFault.RowLimit (length self.old.rows + n)) }
+        ensures exactly { (MAX_ROWS < length self.old.rows + n) ↔ IsErrOf result (HeapFault.RowLimit (length self.old.rows + n)) }
+    {
+        if n > MAX_ROWS - self.rows {
+            return Err(HeapFault::RowLimit {
+                value: self.rows + n,
+            });
+        }
+        join(&mut self.words, words)?;
+        self.rows += n;
+        self.spare = 0;
+        Ok(())
     }
 
     /// Opens page `no`, from 0, which pays for it.

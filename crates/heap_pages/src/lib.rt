@@ -30,6 +30,9 @@ mod tests {
         assert_eq!(rt; heap.rows(), 2);
         assert_eq!(rt; heap.pages(), 1);
         assert_eq!(rt; heap.get(0), [1, 2].as_slice());
+        let more = Vec::from_slice(rt.alloc(), &[5, 6, 7, 8])?;
+        assert_eq!(rt; heap.append_rows(more, 2), Ok(()));
+        assert_eq!(rt; heap.get(3), [7, 8].as_slice());
 
         let mut ledger = Ledger::new();
         ledger.grant(18);

@@ -64,8 +64,9 @@ impl Source for MemorySource {
         ensures failed { OnErr result (Rose self.old.calls.failed self.new.calls.failed) }
         ensures never_falls { self.old.calls.failed ≤ self.new.calls.failed }
 
-        // The calls that are to fail do, and no others.
+        // The calls that are to fail do, and no others. One that fails takes nothing.
         ensures fails { is_ok result ≡ not (fails_next self.old.calls) }
+        ensures kept { OnErr result (self.new.left ≡ self.old.left) }
         ensures counted { self.new.calls ≡ after_call self.old.calls }
     {
         if self.calls.next_fails() {

@@ -65,6 +65,7 @@ impl MemoryFolder {
     pub fn new(alloc: Global, fails: Vec<u64>) -> MemoryFolder
         ensures files { result.files ≡ finite.empty }
         ensures calls { result.calls ≡ no_calls fails.items }
+        ensures counts { result.read_faults ≡ 0 × result.write_faults ≡ 0 × result.misses ≡ 0 }
     {
         MemoryFolder {
             alloc,
@@ -81,6 +82,7 @@ impl MemoryFolder {
         ensures added { OnOk result (self.new.files ≡ with_file self.old.files name.now bytes.now) }
         ensures kept { OnErr result (self.new.files ≡ self.old.files) }
         ensures calls { self.new.calls ≡ self.old.calls }
+        ensures counts { self.new.read_faults ≡ self.old.read_faults × self.new.write_faults ≡ self.old.write_faults × self.new.misses ≡ self.old.misses }
     {
         put_file(self.alloc, &mut self.files, name, bytes)
     }

@@ -10,9 +10,6 @@ use std::io::{ErrorKind, Read, Write};
 use std::rt::Files;
 use std::{fs, io};
 
-// How many bytes one read asks a file for.
-const BLOCK_BYTES: usize = 131072;
-
 // Reads once, and again where a signal came between.
 fn read_some<R: Read>(reader: &mut R, into: &mut [u8]) -> io::Result<usize>
     ensures { IfOk result (λ n. n ≤ length into.old) }
