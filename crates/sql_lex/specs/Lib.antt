@@ -1,0 +1,7 @@
+pub mod Bytes
+pub mod Run
+pub mod Gap
+pub mod Values
+pub mod Forms
+pub mod Tokens
+pub mod Written

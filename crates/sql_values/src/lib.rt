@@ -1,0 +1,64 @@
+//! The values of SQL as every layer above passes them: texts, values, the columns of a table, and the operators that
+//! compare values.
+//! It promises that a `Text` is exactly the bytes that it was made from, and that two of them are equal exactly where
+//! their bytes are. It never looks into the bytes of a `Text` (they need not be UTF-8), and only `Text::new` and
+//! `clone` take memory.
+#![tactic(auto)]
+
+mod column;
+mod op;
+mod text;
+mod value;
+
+pub use column::{ColumnDef, ColumnType};
+pub use op::Op;
+pub use text::Text;
+pub use value::Value;
+
+#[cfg(test)]
+mod tests {
+    use super::*;
+    use std::test::Fail;
+
+    #[test]
+    fn a_text_is_its_bytes(rt: HostRuntime) -> Result<(), Fail> {
+        let text = Text::new(rt.alloc(), b"it's")?;
+        assert_eq!(rt; text.bytes(), b"it's".as_slice());
+        let copy = text.clone()?;
+        assert!(rt; copy == text);
+        let other = Text::new(rt.alloc(), b"its")?;
+        assert!(rt; other != text, "a quote tells them apart");
+        let bytes = copy.into_vec();
+        assert_eq!(rt; bytes.as_slice(), b"it's".as_slice());
+        let back = Value::Text(Text::from(bytes));
+        assert!(rt; back == Value::Text(text));
+        assert!(rt; back != Value::Null);
+        Ok(())
+    }
+
+    #[test]
+    fn a_column_is_its_name_kind_and_null_rule(rt: HostRuntime) -> Result<(), Fail> {
+        let name = Text::new(rt.alloc(), b"ID")?;
+        let column = ColumnDef {
+            name,
+            kind: ColumnType::Varchar(12),
+            not_null: true,
+        };
+        let copy = column.clone()?;
+        assert!(rt; copy == column);
+        let ColumnDef {
+            name,
+            kind,
+            not_null,
+        } = copy;
+        assert!(rt;
+            ColumnDef {
+                name,
+                kind,
+                not_null: !not_null
+            } != column
+        );
+        assert!(rt; Op::Lt != Op::Le);
+        Ok(())
+    }
+}

@@ -1,0 +1,10 @@
+/// An operator that compares two values (SQL-92, 8.2): `=`, `<>`, `<`, `<=`, `>` and `>=`.
+#[derive(Clone, Copy, Debug, PartialEq, Eq)]
+pub enum Op {
+    Eq,
+    Ne,
+    Lt,
+    Le,
+    Gt,
+    Ge,
+}
