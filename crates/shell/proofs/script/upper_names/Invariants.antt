@@ -1,0 +1,6 @@
+use Rattle.std.proofs.Common.{◌≡◌, map, take}
+use Rattle.shell.specs.Words.{upper}
+use Rattle.shell.proofs.script.upper_names.Given as goal
+
+abbrev pub invariant-loop-word : goal.invariant-loop-word
+invariant-loop-word l = l.names.items ≡ map upper (map (λ w. w.now) (take l.word-index l.words))

@@ -1,0 +1,15 @@
+pub mod Digits
+pub mod Entries
+pub mod FirstForm
+pub mod Load
+pub mod Order
+pub mod SortKey
+pub mod Printed
+pub mod Scan
+pub mod Script
+pub mod ScriptReader
+pub mod Serve
+pub mod Source
+pub mod Stop
+pub mod TextWriter
+pub mod Words

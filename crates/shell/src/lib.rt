@@ -1,0 +1,25 @@
+//! The program but for its adapters: it reads a script, carries its statements out one after another and prints what
+//! each answers, up to and with the first that is refused.
+//! To the program it promises, for every source, folder and sink, which bytes go out and what each status means. It
+//! never prints what wasn't due, and never answers a fault that none of the three counted.
+#![tactic(auto)]
+
+mod lines;
+mod load;
+mod order;
+mod print;
+mod program;
+mod scan;
+mod script;
+mod session;
+mod source;
+mod statement;
+mod status;
+mod stop;
+mod table;
+
+pub use program::{one_answer_is_due, serve};
+pub use status::Status;
+
+#[cfg(test)]
+mod tests;
