@@ -1,13 +1,13 @@
 -- A table as a list of rows, and the pages on which they stand.
 use Rattle.std.specs.Prelude.{min, ℕ, ℤ, zero, suc, ◌+◌, ◌-◌, ◌*◌, ◌/◌, List, [], ◌∷◌, take, drop}
-use Rattle.heap_pages.specs.declared.heap.TheConstants.{PAGE_WORDS}
+use Rattle.heap_pages.specs.Limits.{page_words}
 
 -- a row has a word in each column
 abbrev pub Row : Type 0
 Row = List ℤ
 
--- how many columns a table has, its rows in order, and for how many more rows there is room
-pub record Table : Type 0 where
+-- what is seen of a heap: how many columns its table has, the rows in order, and for how many more there is room
+pub record HeapState : Type 0 where
   pub columns : ℕ
   pub rows : List Row
   pub spare : ℕ
@@ -19,7 +19,7 @@ cut_rows width (suc n) words = take width words ∷ cut_rows width n (drop width
 
 -- how many whole rows stand on a page
 abbrev pub rows_per_page : ℕ → ℕ
-rows_per_page columns = PAGE_WORDS / columns
+rows_per_page columns = page_words / columns
 
 -- how many pages these rows take, all full but the last; no row takes none
 abbrev pub pages_of : ℕ → ℕ → ℕ

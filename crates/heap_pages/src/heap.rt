@@ -1,7 +1,10 @@
-// The heap: all words in one vector, row after row.
-ghost use Rattle.std.specs.Prelude.{◌≡◌, ◌≢◌, ℕ, ◌+◌, ◌-◌, ◌*◌, ◌/◌, ◌^◌, ◌<◌, ◌≤◌, ◌↔◌, List, [], ◌∷◌, ◌++◌, take, drop, length, Some, slice_get, OnOk, OnErr, IfOk, IfErr, IsErrOf, vec_capacity};
+// The heap: all words in one vector, row after row. It relies on the ledger for each paid read, and never changes or
+// drops a row.
+ghost use Rattle.std.specs.Prelude.{◌≡◌, ◌+◌, ◌*◌, ◌^◌, ◌<◌, ◌≤◌, [], ◌∷◌, ◌++◌, take, drop, length, Some, slice_get, OnOk, OnErr, IfOk, vec_capacity};
 ghost use Rattle.work_ledger.specs.Account.{Pays};
-ghost use Rattle.work_ledger.specs.declared.charge.TheConstants.{PAGE, ROW, FETCH};
+ghost use Rattle.work_ledger.specs.Charges.{page_charge, row_charge, fetch_charge};
+ghost use Rattle.heap_pages.specs.Limits.{max_rows, max_columns};
+ghost use Rattle.heap_pages.specs.Refused.{KeepsRowLimit};
 ghost use Rattle.heap_pages.specs.Rows.{cut_rows, rows_per_page, pages_of, rows_on_page, row_number};
 
 use std::alloc::{AllocError, Global};
@@ -17,7 +20,13 @@ pub const MAX_ROWS: u64 = 4194304;
 /// The most columns of a table.
 pub const MAX_COLUMNS: usize = 32;
 
-/// Why a heap didn't make room.
+/// Each constant is the limit that the definitions state.
+pub fn limits_are_as_stated()
+    ensures rows { MAX_ROWS ≡ max_rows }
+    ensures columns { MAX_COLUMNS ≡ max_columns }
+{}
+
+/// Why a heap took no rows.
 #[derive(Clone, Copy, Debug, PartialEq, Eq)]
 pub enum HeapFault {
     /// So many rows would be more than a table may have.
@@ -25,7 +34,7 @@ pub enum HeapFault {
         /// The rows that the table would have.
         value: u64,
     },
-    /// Memory was wanted.
+    /// Out of memory.
     NoMemory,
 }
 
@@ -58,9 +67,9 @@ pub struct Heap {
 
 impl Model for Heap {
     ghost use Rattle.std.specs.Prelude.{◌≡◌, ◌+◌, ◌*◌, ◌≤◌, vec_len, vec_capacity};
-    ghost use Rattle.heap_pages.specs.Rows.{Table, cut_rows};
+    ghost use Rattle.heap_pages.specs.Rows.{HeapState, cut_rows};
 
-    ghost Value = { Table };
+    ghost Value = { HeapState };
 
     ghost view = { λ h. record { columns = h.columns; rows = cut_rows h.columns h.rows h.words.items; spare = h.spare } };
 
@@ -69,7 +78,7 @@ impl Model for Heap {
     ghost invariant = { λ h. IsLaidOut h.columns h.rows h.spare (vec_len h.words) (vec_capacity h.words) };
 }
 
-// Puts words behind those that are there. Where there are none they are taken over, not copied.
+// Puts words after those that are there. Where there are none they are taken over, not copied.
 fn join(words: &mut Vec<i64>, more: Vec<i64>) -> Result<(), AllocError>
     ensures joined { OnOk result (words.new.items ≡ words.old.items ++ more.items) }
     ensures unchanged { OnErr result (words.new.items ≡ words.old.items) }
@@ -96,7 +105,7 @@ impl Heap {
     /// A table without rows.
     pub fn new(alloc: Global, columns: usize) -> Heap
         requires some { 1 ≤ columns }
-        requires few { columns ≤ MAX_COLUMNS }
+        requires few { columns ≤ max_columns }
         ensures columns { result.columns ≡ columns }
         ensures rows { result.rows ≡ [] }
         ensures spare { result.spare ≡ 0 }
@@ -112,7 +121,7 @@ impl Heap {
     /// How many rows there are.
     pub fn rows(&self) -> u64
         ensures count { result ≡ length self.now.rows }
-        ensures limit { result ≤ MAX_ROWS }
+        ensures limit { result ≤ max_rows }
     {
         self.rows
     }
@@ -151,8 +160,7 @@ impl Heap {
         ensures spare { OnOk result (n ≤ self.new.spare) }
         ensures kept { self.old.spare ≤ self.new.spare }
         ensures unchanged { OnErr result (self.new ≡ self.old) }
-        ensures limit { IfErr result (λ fault. fault ≢ HeapFault.NoMemory → fault ≡ HeapFault.RowLimit (length self.old.rows + n)) }
-        ensures exactly { (MAX_ROWS < length self.old.rows + n) ↔ IsErrOf result (HeapFault.RowLimit (length self.old.rows + n)) }
+        ensures limit { KeepsRowLimit (length self.old.rows + n) result }
     {
         let value = self.rows + n;
         if value > MAX_ROWS {
@@ -165,7 +173,7 @@ impl Heap {
         Ok(())
     }
 
-    /// Appends a row, for which there is room, and answers its number.
+    /// Appends a row, for which there is room, and returns its number, from 0.
     pub fn append(&mut self, row: &[i64]) -> u64
         requires room { 0 < self.old.spare }
         requires width { length row.now ≡ self.old.columns }
@@ -183,16 +191,17 @@ impl Heap {
         place
     }
 
-    /// Appends `n` rows whose words follow one another. Where there are no rows yet the words are taken over, not copied.
-    /// A refusal leaves the rows and the room as they were.
+    /// Appends `n` rows whose words follow one another, without use of the spare room, which is given up. Where there are no
+    /// rows yet the words are taken over, not copied. A refusal leaves the rows and the room as they were.
     pub fn append_rows(&mut self, words: Vec<i64>, n: u64) -> Result<(), HeapFault>
         requires some { n ≤ 2 ^ 62 }
         requires filled { length words.items ≡ n * self.old.columns }
-        ensures rows { OnOk result (self.new.rows ≡ self.old.rows ++ cut_rows self.old.columns n words.items) }
+        ensures rows { OnOk result
+            (self.new.rows ≡ self.old.rows ++ cut_rows self.old.columns n words.items) }
         ensures columns { self.new.columns ≡ self.old.columns }
+        ensures spare { OnOk result (self.new.spare ≡ 0) }
         ensures unchanged { OnErr result (self.new ≡ self.old) }
-        ensures limit { IfErr result (λ fault. fault ≢ HeapFault.NoMemory → fault ≡ HeapFault.RowLimit (length self.old.rows + n)) }
-        ensures exactly { (MAX_ROWS < length self.old.rows + n) ↔ IsErrOf result (HeapFault.RowLimit (length self.old.rows + n)) }
+        ensures limit { KeepsRowLimit (length self.old.rows + n) result }
     {
         if n > MAX_ROWS - self.rows {
             return Err(HeapFault::RowLimit {
@@ -209,7 +218,7 @@ impl Heap {
     pub fn page(&self, no: u64, ledger: &mut Ledger) -> Result<PageView, Exhausted>
         requires { no < pages_of self.now.columns (length self.now.rows) }
         ensures page { IfOk result (λ view. view.number ≡ no) }
-        ensures pays { Pays PAGE ledger.old ledger.new result }
+        ensures pays { Pays page_charge ledger.old ledger.new result }
     {
         ledger.pay(charge::PAGE)?;
         Ok(PageView { number: no })
@@ -224,8 +233,9 @@ impl Heap {
     ) -> Result<&[i64], Exhausted>
         requires on_page { slot < rows_per_page self.now.columns }
         requires there { row_number self.now.columns view.now.number slot < length self.now.rows }
-        ensures row { IfOk result (λ row. slice_get self.now.rows (row_number self.now.columns view.now.number slot) ≡ Some row.now) }
-        ensures pays { Pays ROW ledger.old ledger.new result }
+        ensures row { IfOk result (λ row. slice_get self.now.rows
+            (row_number self.now.columns view.now.number slot) ≡ Some row.now) }
+        ensures pays { Pays row_charge ledger.old ledger.new result }
     {
         ledger.pay(charge::ROW)?;
         Ok(self.get(view.number * (PAGE_WORDS / self.columns) as u64 + slot as u64))
@@ -235,7 +245,7 @@ impl Heap {
     pub fn fetch(&self, i: u64, ledger: &mut Ledger) -> Result<&[i64], Exhausted>
         requires { i < length self.now.rows }
         ensures row { IfOk result (λ row. slice_get self.now.rows i ≡ Some row.now) }
-        ensures pays { Pays FETCH ledger.old ledger.new result }
+        ensures pays { Pays fetch_charge ledger.old ledger.new result }
     {
         ledger.pay(charge::FETCH)?;
         Ok(self.get(i))

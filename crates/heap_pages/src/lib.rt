@@ -6,7 +6,7 @@
 
 mod heap;
 
-pub use heap::{Heap, HeapFault, MAX_COLUMNS, MAX_ROWS, PageView};
+pub use heap::{Heap, HeapFault, MAX_COLUMNS, MAX_ROWS, PageView, limits_are_as_stated};
 
 #[cfg(test)]
 mod tests {

@@ -1,10 +1,15 @@
 -- What is known of an account of work, and what a payment does to it.
-use Rattle.std.specs.Prelude.{◌≡◌, ℕ, ◌+◌, ◌≤◌, ◌↔◌, Result, IsOk, OnOk, OnErr}
+use Rattle.std.specs.Prelude.{◌≡◌, ℕ, ◌+◌, ◌≤◌, ◌^◌, ◌↔◌, Result, IsOk, OnOk, OnErr}
 
 -- the work paid so far, and the most that may be paid
 pub record Account : Type 0 where
   pub spent : ℕ
   pub limit : ℕ
+
+-- what is spent was granted, and both stay below 2^126, so that no sum leaves 128 bits
+pub record IsInBounds (account : Account) : Type 0 where
+  pub granted : account.spent ≤ account.limit
+  pub bounded : account.limit ≤ 2 ^ 126
 
 -- a payment of n: it is made exactly where it fits, and else spends what is left; the limit stays
 pub record Pays {T E : Type 0} (n : ℕ) (old new : Account) (result : Result T E) : Type 0 where

@@ -1,14 +1,14 @@
-// The ledger: two numbers, and the one place where they are compared.
+// The ledger: two numbers, and the one place where they are compared. It relies on nothing, and never takes memory.
 ghost use Rattle.std.specs.Prelude.{◌≡◌, ◌+◌, ◌^◌, ◌≤◌};
-ghost use Rattle.work_ledger.specs.Account.{Pays};
+ghost use Rattle.work_ledger.specs.Account.{Pays, IsInBounds};
 
 use std::marker::Model;
 
-/// The answer to a payment that doesn't fit the limit. All that was left is spent then.
+/// A payment didn't fit the limit. All that was left is spent then.
 #[derive(Clone, Copy, Debug, PartialEq, Eq)]
 pub struct Exhausted;
 
-/// The work spent so far and the limit up to which it may be spent, both in units of work.
+/// The work spent so far and the limit up to which it may be spent, both in units, of 0 to 2^126.
 #[derive(Debug, Drop)]
 pub struct Ledger {
     spent: u128,
@@ -16,14 +16,13 @@ pub struct Ledger {
 }
 
 impl Model for Ledger {
-    ghost use Rattle.std.specs.Prelude.{◌≤◌, ◌^◌};
-    ghost use Rattle.work_ledger.specs.Account.{Account};
+    ghost use Rattle.work_ledger.specs.Account.{Account, IsInBounds};
 
     ghost Value = { Account };
 
     ghost view = { λ l. record { spent = l.spent; limit = l.limit } };
 
-    ghost invariant = { λ l. (l.spent ≤ l.limit) × (l.limit ≤ 2 ^ 126) };
+    ghost invariant = { λ l. IsInBounds (record { spent = l.spent; limit = l.limit }) };
 }
 
 impl Ledger {
@@ -37,7 +36,8 @@ impl Ledger {
 
     /// The work paid so far.
     pub fn spent(&self) -> u128
-        ensures { result ≡ self.now.spent }
+        ensures spent { result ≡ self.now.spent }
+        ensures bounds { IsInBounds self.now }
     {
         self.spent
     }
@@ -63,6 +63,7 @@ impl Ledger {
         requires { n ≤ 2 ^ 126 }
         ensures pays { Pays n self.old self.new result }
         ensures never_falls { self.old.spent ≤ self.new.spent }
+        ensures bounds { IsInBounds self.new }
     {
         let after = self.spent + n;
         if after > self.limit {
