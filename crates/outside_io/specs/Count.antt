@@ -8,3 +8,8 @@ raised count = min (count + 1) (2 ^ 64 - 1)
 -- the count rose, or it stands at its end
 abbrev pub Rose : ℕ → ℕ → Type 0
 Rose before after = raised before ≤ after
+
+-- a count never falls, and it rose where what it counts was met
+pub record HasCause (met : Type 0) (before after : ℕ) : Type 0 where
+  pub rose : met → Rose before after
+  pub never_falls : before ≤ after

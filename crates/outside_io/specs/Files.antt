@@ -4,9 +4,10 @@ use Rattle.std.specs.Ordering.{nat_cmp}
 use Rattle.std.specs.Cmp.Lexicographic.{slice_cmp}
 use Rattle.std.specs.FinMap as map
 use Rattle.std.specs.declared.alloc.Global.{Global}
-use Rattle.outside_io.specs.declared.folder.TheConstants.{FILE_BYTES}
 use Rattle.outside_io.specs.declared.fault.FileFault.{FileFault}
 use Rattle.outside_io.specs.declared.fault.FileFault.TheVariants as fault
+use Rattle.outside_io.specs.Limits.{max_file_bytes}
+use Rattle.outside_io.specs.Count.{HasCause}
 
 -- the bytes of each file under the bytes of its name
 abbrev pub Files : Type 0
@@ -21,27 +22,27 @@ abbrev pub with_file : Files → List ℕ → List ℕ → Files
 with_file files name bytes = map.insert files name bytes
 
 -- what the answer to a read says of the file: its bytes, that it isn't there, or its length
-abbrev pub Answers : Files → List ℕ → Result (Vec ℕ Global) FileFault → Type 0
-Answers files name (Ok bytes) = file_of files name ≡ Some bytes.items
-Answers files name (Err fault.Absent) = file_of files name ≡ None
-Answers files name (Err (fault.TooLong len)) = IsSomeAnd (file_of files name) (λ bytes. length bytes ≡ len)
-Answers files name (Err fault.Failed) = ⊤
-Answers files name (Err fault.NoMemory) = ⊤
+abbrev pub IsReadAnswer : Files → List ℕ → Result (Vec ℕ Global) FileFault → Type 0
+IsReadAnswer files name (Ok bytes) = file_of files name ≡ Some bytes.items
+IsReadAnswer files name (Err fault.Absent) = file_of files name ≡ None
+IsReadAnswer files name (Err (fault.TooLong len)) = IsSomeAnd (file_of files name) (λ bytes. length bytes ≡ len)
+IsReadAnswer files name (Err fault.Failed) = ⊤
+IsReadAnswer files name (Err fault.NoMemory) = ⊤
 
 -- a read gives no more bytes than the limit, and only a longer file is too long
-abbrev pub IsWithinLimit : Result (Vec ℕ Global) FileFault → Type 0
-IsWithinLimit (Ok bytes) = length bytes.items ≤ FILE_BYTES
-IsWithinLimit (Err fault.Absent) = ⊤
-IsWithinLimit (Err (fault.TooLong len)) = FILE_BYTES < len
-IsWithinLimit (Err fault.Failed) = ⊤
-IsWithinLimit (Err fault.NoMemory) = ⊤
+abbrev pub KeepsFileLimit : Result (Vec ℕ Global) FileFault → Type 0
+KeepsFileLimit (Ok bytes) = length bytes.items ≤ max_file_bytes
+KeepsFileLimit (Err fault.Absent) = ⊤
+KeepsFileLimit (Err (fault.TooLong len)) = max_file_bytes < len
+KeepsFileLimit (Err fault.Failed) = ⊤
+KeepsFileLimit (Err fault.NoMemory) = ⊤
 
 -- any fault but that the file is too long
-abbrev pub TellsNoLength : FileFault → Type 0
-TellsNoLength fault.Absent = ⊤
-TellsNoLength (fault.TooLong len) = ⊥
-TellsNoLength fault.Failed = ⊤
-TellsNoLength fault.NoMemory = ⊤
+abbrev pub IsNotTooLong : FileFault → Type 0
+IsNotTooLong fault.Absent = ⊤
+IsNotTooLong (fault.TooLong len) = ⊥
+IsNotTooLong fault.Failed = ⊤
+IsNotTooLong fault.NoMemory = ⊤
 
 -- an answer that says why the file can't be had, though nothing failed
 abbrev pub IsMiss : FileFault → Type 0
@@ -53,3 +54,27 @@ IsMiss fault.NoMemory = ⊥
 -- every other name has what it had
 abbrev pub KeepsOthers : List ℕ → Option Files → Option Files → Type 0
 KeepsOthers name old new = IfSome old (λ files. IsSomeAnd new (λ after. (other : List ℕ) → other ≢ name → file_of after other ≡ file_of files other))
+
+-- what is known of a folder: its files, where its contents are known, and its three counts
+pub record FolderState : Type 0 where
+  pub files : Option Files
+  pub read_faults : ℕ
+  pub write_faults : ℕ
+  pub misses : ℕ
+
+-- a folder whose files aren't known
+abbrev pub unknown_files : ℕ → ℕ → ℕ → FolderState
+unknown_files read_faults write_faults misses = record { files = None; read_faults = read_faults; write_faults = write_faults; misses = misses }
+
+-- reading files: the folder holds what it held, and its counts have their causes
+pub record OnlyReads (failed missed : Type 0) (old new : FolderState) : Type 0 where
+  pub files : new.files ≡ old.files
+  pub read_faults : HasCause failed old.read_faults new.read_faults
+  pub write_faults : new.write_faults ≡ old.write_faults
+  pub misses : HasCause missed old.misses new.misses
+
+-- writing files: of the counts only that of failed writes rises, and it has its cause
+pub record OnlyWrites (failed : Type 0) (old new : FolderState) : Type 0 where
+  pub read_faults : new.read_faults ≡ old.read_faults
+  pub write_faults : HasCause failed old.write_faults new.write_faults
+  pub misses : new.misses ≡ old.misses

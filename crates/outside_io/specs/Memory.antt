@@ -1,10 +1,10 @@
 -- What the implementations in memory hold.
-use Rattle.std.specs.Prelude.{ℕ, List, Vec, map, refl}
+use Rattle.std.specs.Prelude.{ℕ, List, Some, Vec, map, refl}
 use Rattle.std.specs.FinMap as finite
 use Rattle.std.specs.Coded.{Coded, code_by, coded×, coded_ℕ, coded_list}
 use Rattle.std.specs.declared.alloc.Global.{Global}
 use Rattle.outside_io.specs.Calls.{Calls}
-use Rattle.outside_io.specs.Files.{Files}
+use Rattle.outside_io.specs.Files.{Files, FolderState}
 
 -- a source: the bytes that are left, and its calls
 pub record Supply : Type 0 where
@@ -23,6 +23,10 @@ pub record Shelf : Type 0 where
   pub read_faults : ℕ
   pub write_faults : ℕ
   pub misses : ℕ
+
+-- what is known of the folder
+abbrev pub state_of : Shelf → FolderState
+state_of shelf = record { files = Some shelf.files; read_faults = shelf.read_faults; write_faults = shelf.write_faults; misses = shelf.misses }
 
 -- the files under their names, as a list has them
 abbrev pub named_files : List (Vec ℕ Global × Vec ℕ Global) → Files

@@ -1,48 +1,35 @@
 // Where the files lie.
-ghost use Rattle.std.specs.Prelude.{◌≡◌, ◌⊎◌, ℕ, ◌≤◌, Option, OnOk, IfErr, IfSome, IsErrOf, option_map};
-ghost use Rattle.outside_io.specs.Count.{Rose};
-ghost use Rattle.outside_io.specs.Files.{Files, Answers, IsWithinLimit, IsMiss, KeepsOthers, with_file};
+ghost use Rattle.std.specs.Prelude.{◌≡◌, ◌⊎◌, ℕ, ◌≤◌, Option, OnOk, IfErr, IfSome, IsErrOf, IsErrAnd, option_map};
+ghost use Rattle.outside_io.specs.Files.{Files, FolderState, IsReadAnswer, KeepsFileLimit, IsMiss, KeepsOthers, with_file, OnlyReads, OnlyWrites};
 
 use crate::FileFault;
 use std::alloc::Global;
 
-/// The most bytes of one file that a read gives.
-pub const FILE_BYTES: u64 = 268435456;
+/// The most bytes of one file.
+pub const MAX_FILE_BYTES: u64 = 268435456;
 
 /// A folder of files, each under its name.
 pub trait Folder {
-    /// What it holds, where it tells that.
-    ghost files: { Self → Option Files };
+    /// What is known of it: its files, where they are known, and how often a read failed, a write failed, and a file
+    /// that was to be read wasn't there or was too long.
+    ghost state: { Self → FolderState };
 
-    /// How often a read has failed.
-    ghost read_faults: { Self → ℕ };
-
-    /// How often a write has failed.
-    ghost write_faults: { Self → ℕ };
-
-    /// How often a file that was to be read wasn't there, or was too long.
-    ghost misses: { Self → ℕ };
-
-    /// Gives the bytes of the named file. Whatever it answers, the folder holds what it held.
+    /// Returns the bytes of the named file. Whatever it returns, the folder holds what it held. `Absent`: there is no
+    /// such file. `TooLong`: it has more than 268435456 bytes.
     fn read(&mut self, alloc: Global, name: &str) -> Result<Vec<u8>, FileFault>
-        ensures same { files self.new ≡ files self.old }
-        ensures told { IfSome (files self.old) (λ held. Answers held name.now result) }
-        ensures within { IsWithinLimit result }
-        ensures failed { IsErrOf result FileFault.Failed → Rose (read_faults self.old) (read_faults self.new) }
-        ensures missed { IfErr result (λ e. IsMiss e → Rose (misses self.old) (misses self.new)) }
-        ensures read_faults { read_faults self.old ≤ read_faults self.new }
-        ensures write_faults { write_faults self.new ≡ write_faults self.old }
-        ensures misses { misses self.old ≤ misses self.new };
+        ensures known { IfSome (state self.old).files (λ files. IsReadAnswer files name.now result) }
+        ensures within { KeepsFileLimit result }
+        ensures reads { OnlyReads (IsErrOf result FileFault.Failed) (IsErrAnd result IsMiss)
+            (state self.old) (state self.new) };
 
-    /// Puts the bytes under the name, in the place of what was there, and leaves the other names alone. After a failure
-    /// that name may hold anything, and after want of memory the folder is as it was.
+    /// Puts the bytes under the name, in the place of what was there, and leaves the other names alone. `Failed`: that
+    /// name may hold anything. `NoMemory`: the folder holds what it held.
     fn write(&mut self, name: &str, bytes: &[u8]) -> Result<(), FileFault>
-        ensures written { OnOk result (files self.new ≡ option_map (λ held. with_file held name.now bytes.now) (files self.old)) }
-        ensures others { IsErrOf result FileFault.Failed → KeepsOthers name.now (files self.old) (files self.new) }
-        ensures nothing { IsErrOf result FileFault.NoMemory → files self.new ≡ files self.old }
+        ensures written { OnOk result ((state self.new).files
+            ≡ option_map (λ files. with_file files name.now bytes.now) (state self.old).files) }
+        ensures others { IsErrOf result FileFault.Failed →
+            KeepsOthers name.now (state self.old).files (state self.new).files }
+        ensures nothing { IsErrOf result FileFault.NoMemory → (state self.new).files ≡ (state self.old).files }
         ensures kinds { IfErr result (λ e. (e ≡ FileFault.Failed) ⊎ (e ≡ FileFault.NoMemory)) }
-        ensures failed { IsErrOf result FileFault.Failed → Rose (write_faults self.old) (write_faults self.new) }
-        ensures write_faults { write_faults self.old ≤ write_faults self.new }
-        ensures read_faults { read_faults self.new ≡ read_faults self.old }
-        ensures misses { misses self.old ≤ misses self.new };
+        ensures writes { OnlyWrites (IsErrOf result FileFault.Failed) (state self.old) (state self.new) };
 }

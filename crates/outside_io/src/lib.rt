@@ -15,7 +15,7 @@ mod source;
 mod system;
 
 pub use fault::{Failed, FileFault, PutFault};
-pub use folder::{FILE_BYTES, Folder};
+pub use folder::{Folder, MAX_FILE_BYTES};
 pub use memory::{MemorySink, MemorySource};
 pub use memory_folder::MemoryFolder;
 pub use sink::Sink;

@@ -1,7 +1,7 @@
 // A source and a sink in memory.
 ghost use Rattle.std.specs.Prelude.{◌≡◌, ℕ, ◌++◌, ◌≤◌, ◌<◌, ◌↔◌, List, [], take, drop, length, Option, Some, min, not, is_ok, IsOk, IfOk, IsErr, OnErr, OnOk, IfSome, IsErrOf, IsTrue};
 ghost use Rattle.std.specs.Io.KnownBytes.{Appends, Keeps, Consumes};
-ghost use Rattle.outside_io.specs.Count.{Rose};
+ghost use Rattle.outside_io.specs.Count.{HasCause};
 ghost use Rattle.outside_io.specs.Calls.{no_calls, fails_next, after_call};
 
 use crate::failing::FailingCalls;
@@ -61,12 +61,11 @@ impl Source for MemorySource {
         ensures within { IfOk result (λ n. n ≤ length into.old) }
         ensures taken { IfOk result (λ n. Consumes (Some self.old.left) (Some self.new.left) (take n into.new)) }
         ensures end { IfOk result (λ n. 0 < length into.old → (n ≡ 0) ↔ (self.old.left ≡ [])) }
-        ensures failed { OnErr result (Rose self.old.calls.failed self.new.calls.failed) }
-        ensures never_falls { self.old.calls.failed ≤ self.new.calls.failed }
+        ensures kept { OnErr result (Keeps (Some self.old.left) (Some self.new.left)) }
+        ensures faults { HasCause (IsErr result) self.old.calls.failed self.new.calls.failed }
 
-        // The calls that are to fail do, and no others. One that fails takes nothing.
+        // The calls that are to fail do, and no others.
         ensures fails { is_ok result ≡ not (fails_next self.old.calls) }
-        ensures kept { OnErr result (self.new.left ≡ self.old.left) }
         ensures counted { self.new.calls ≡ after_call self.old.calls }
     {
         if self.calls.next_fails() {
@@ -122,8 +121,7 @@ impl Sink for MemorySink {
         ensures all { OnOk result (Appends (Some self.old.got) (Some self.new.got) bytes.now) }
         ensures part { IsErrOf result PutFault.Failed → (n : ℕ) × Appends (Some self.old.got) (Some self.new.got) (take n bytes.now) }
         ensures nothing { IsErrOf result PutFault.NoMemory → Keeps (Some self.old.got) (Some self.new.got) }
-        ensures failed { IsErrOf result PutFault.Failed → Rose self.old.calls.failed self.new.calls.failed }
-        ensures never_falls { self.old.calls.failed ≤ self.new.calls.failed }
+        ensures faults { HasCause (IsErrOf result PutFault.Failed) self.old.calls.failed self.new.calls.failed }
 
         // The calls that are to fail do, and no others. One that fails adds nothing.
         ensures fails { IsErrOf result PutFault.Failed ↔ IsTrue (fails_next self.old.calls) }

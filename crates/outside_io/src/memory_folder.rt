@@ -1,13 +1,12 @@
 // A folder in memory.
-ghost use Rattle.std.specs.Prelude.{◌≡◌, ◌⊎◌, ℕ, ◌≤◌, ◌↔◌, Option, Some, None, OnOk, OnErr, IfErr, IfSome, IsErrOf, IsTrue, option_map};
+ghost use Rattle.std.specs.Prelude.{◌≡◌, ◌⊎◌, ℕ, ◌≤◌, ◌↔◌, Option, Some, None, OnOk, OnErr, IfErr, IfSome, IsErrOf, IsErrAnd, IsTrue, option_map};
 ghost use Rattle.std.specs.FinMap as finite;
-ghost use Rattle.outside_io.specs.Count.{Rose};
-ghost use Rattle.outside_io.specs.Files.{Files, Answers, IsWithinLimit, IsMiss, KeepsOthers, file_of, with_file};
+ghost use Rattle.outside_io.specs.Files.{IsReadAnswer, KeepsFileLimit, IsMiss, KeepsOthers, file_of, with_file, OnlyReads, OnlyWrites};
 ghost use Rattle.outside_io.specs.Calls.{no_calls, fails_next, after_call};
-ghost use Rattle.outside_io.specs.Memory.{named_files};
+ghost use Rattle.outside_io.specs.Memory.{named_files, state_of};
 
 use crate::failing::FailingCalls;
-use crate::{FILE_BYTES, FileFault, Folder};
+use crate::{FileFault, Folder, MAX_FILE_BYTES};
 use std::alloc::{AllocError, Global};
 use std::collections::BTreeMap;
 use std::marker::Model;
@@ -101,15 +100,15 @@ fn read_file(
     files: &BTreeMap<Vec<u8>, Vec<u8>>,
     name: &str,
 ) -> Result<Vec<u8>, FileFault>
-    ensures told { Answers (named_files files.now.entries) name.now result }
-    ensures within { IsWithinLimit result }
+    ensures known { IsReadAnswer (named_files files.now.entries) name.now result }
+    ensures within { KeepsFileLimit result }
     ensures failed { IsErrOf result FileFault.Failed → ⊥ }
 {
     let Some(bytes) = lend_file(files, name) else {
         return Err(FileFault::Absent);
     };
     let len = bytes.len() as u64;
-    if len > FILE_BYTES {
+    if len > MAX_FILE_BYTES {
         return Err(FileFault::TooLong { len });
     }
     match Vec::from_slice(alloc, bytes) {
@@ -119,29 +118,19 @@ fn read_file(
 }
 
 fn is_miss(answer: &Result<Vec<u8>, FileFault>) -> bool
-    ensures { IfErr answer.now (λ e. IsMiss e → IsTrue result) }
+    ensures { IsErrAnd answer.now IsMiss → IsTrue result }
 {
     matches!(answer, Err(FileFault::Absent | FileFault::TooLong { .. }))
 }
 
 impl Folder for MemoryFolder {
-    ghost files = { λ f. Some f.files };
-
-    ghost read_faults = { λ f. f.read_faults };
-
-    ghost write_faults = { λ f. f.write_faults };
-
-    ghost misses = { λ f. f.misses };
+    ghost state = { state_of };
 
     fn read(&mut self, alloc: Global, name: &str) -> Result<Vec<u8>, FileFault>
-        ensures same { self.new.files ≡ self.old.files }
-        ensures told { Answers self.old.files name.now result }
-        ensures within { IsWithinLimit result }
-        ensures failed { IsErrOf result FileFault.Failed → Rose self.old.read_faults self.new.read_faults }
-        ensures missed { IfErr result (λ e. IsMiss e → Rose self.old.misses self.new.misses) }
-        ensures read_faults { self.old.read_faults ≤ self.new.read_faults }
-        ensures write_faults { self.new.write_faults ≡ self.old.write_faults }
-        ensures misses { self.old.misses ≤ self.new.misses }
+        ensures known { IsReadAnswer self.old.files name.now result }
+        ensures within { KeepsFileLimit result }
+        ensures reads { OnlyReads (IsErrOf result FileFault.Failed) (IsErrAnd result IsMiss)
+            (state_of self.old) (state_of self.new) }
 
         // The calls that are to fail do, and no others.
         ensures fails { IsErrOf result FileFault.Failed ↔ IsTrue (fails_next self.old.calls) }
@@ -161,12 +150,10 @@ impl Folder for MemoryFolder {
     fn write(&mut self, name: &str, bytes: &[u8]) -> Result<(), FileFault>
         ensures written { OnOk result (self.new.files ≡ with_file self.old.files name.now bytes.now) }
         ensures kept { OnErr result (self.new.files ≡ self.old.files) }
-        ensures others { IsErrOf result FileFault.Failed → KeepsOthers name.now (Some self.old.files) (Some self.new.files) }
+        ensures others { IsErrOf result FileFault.Failed →
+            KeepsOthers name.now (Some self.old.files) (Some self.new.files) }
         ensures kinds { IfErr result (λ e. (e ≡ FileFault.Failed) ⊎ (e ≡ FileFault.NoMemory)) }
-        ensures failed { IsErrOf result FileFault.Failed → Rose self.old.write_faults self.new.write_faults }
-        ensures write_faults { self.old.write_faults ≤ self.new.write_faults }
-        ensures read_faults { self.new.read_faults ≡ self.old.read_faults }
-        ensures misses { self.old.misses ≤ self.new.misses }
+        ensures writes { OnlyWrites (IsErrOf result FileFault.Failed) (state_of self.old) (state_of self.new) }
 
         // The calls that are to fail do, and no others. One that fails writes nothing.
         ensures fails { IsErrOf result FileFault.Failed ↔ IsTrue (fails_next self.old.calls) }

@@ -1,24 +1,23 @@
 // Where the answers go.
 ghost use Rattle.std.specs.Prelude.{◌≡◌, ℕ, ◌≤◌, List, take, Option, OnOk, IsErrOf};
 ghost use Rattle.std.specs.Io.KnownBytes.{Appends, Keeps};
-ghost use Rattle.outside_io.specs.Count.{Rose};
+ghost use Rattle.outside_io.specs.Count.{HasCause};
 
 use crate::PutFault;
 
 /// A sink for bytes.
 pub trait Sink {
-    /// The bytes that it has got, where it tells them.
+    /// The bytes that it has got, where they are known.
     ghost got: { Self → Option (List ℕ) };
 
     /// How often it has failed.
     ghost faults: { Self → ℕ };
 
-    /// Adds the bytes at the end of what it has got. After a failure the first of them may have been added, and after
-    /// want of memory none.
+    /// Appends the bytes to what it has got. `Failed`: the first of them may have been appended. `NoMemory`: none.
     fn put(&mut self, bytes: &[u8]) -> Result<(), PutFault>
         ensures all { OnOk result (Appends (got self.old) (got self.new) bytes.now) }
-        ensures part { IsErrOf result PutFault.Failed → (n : ℕ) × Appends (got self.old) (got self.new) (take n bytes.now) }
+        ensures part { IsErrOf result PutFault.Failed →
+            (n : ℕ) × Appends (got self.old) (got self.new) (take n bytes.now) }
         ensures nothing { IsErrOf result PutFault.NoMemory → Keeps (got self.old) (got self.new) }
-        ensures failed { IsErrOf result PutFault.Failed → Rose (faults self.old) (faults self.new) }
-        ensures never_falls { faults self.old ≤ faults self.new };
+        ensures faults { HasCause (IsErrOf result PutFault.Failed) (faults self.old) (faults self.new) };
 }

@@ -1,9 +1,10 @@
 // The trusted edge: standard input, standard output and the files of a directory. These tell nothing of what they hold.
 ghost use Rattle.std.specs.Prelude.{◌≡◌, ◌⊎◌, ℕ, ◌≤◌, ◌<◌, length, vec_len, None, IfOk, IfErr, OnErr, IsErrOf};
-ghost use Rattle.outside_io.specs.Count.{Rose};
-ghost use Rattle.outside_io.specs.Files.{IsWithinLimit, IsMiss, TellsNoLength};
+ghost use Rattle.outside_io.specs.Count.{HasCause};
+ghost use Rattle.outside_io.specs.Limits.{max_file_bytes};
+ghost use Rattle.outside_io.specs.Files.{unknown_files, KeepsFileLimit, IsMiss, IsNotTooLong, OnlyReads};
 
-use crate::{FILE_BYTES, Failed, FileFault, Folder, PutFault, Sink, Source};
+use crate::{Failed, FileFault, Folder, MAX_FILE_BYTES, PutFault, Sink, Source};
 use std::alloc::Global;
 use std::fs::OpenFile;
 use std::io::{ErrorKind, Read, Write};
@@ -115,10 +116,8 @@ impl<'a, R: Files> DirFolder<'a, R> {
     // Counts what a read answers in place of the bytes.
     fn count_read(&mut self, fault: FileFault) -> FileFault
         ensures same { result ≡ fault }
-        ensures missed { IsMiss fault → Rose self.old.misses self.new.misses }
-        ensures failed { fault ≡ FileFault.Failed → Rose self.old.read_faults self.new.read_faults }
-        ensures misses { self.old.misses ≤ self.new.misses }
-        ensures read_faults { self.old.read_faults ≤ self.new.read_faults }
+        ensures misses { HasCause (IsMiss fault) self.old.misses self.new.misses }
+        ensures read_faults { HasCause (fault ≡ FileFault.Failed) self.old.read_faults self.new.read_faults }
         ensures write_faults { self.new.write_faults ≡ self.old.write_faults }
     {
         match fault {
@@ -133,7 +132,7 @@ impl<'a, R: Files> DirFolder<'a, R> {
 }
 
 fn fault_of(error: &io::Error) -> FileFault
-    ensures { TellsNoLength result }
+    ensures { IsNotTooLong result }
 {
     match error.kind() {
         ErrorKind::NotFound => FileFault::Absent,
@@ -145,26 +144,26 @@ fn fault_of(error: &io::Error) -> FileFault
 // The length of an opened file, and its bytes where these are no more than the limit. The length is looked at first, and
 // where more turn up than it told, one byte too many is enough to know.
 fn read_bounded<F: OpenFile + Read + Drop>(alloc: Global, file: F) -> io::Result<(u64, Vec<u8>)>
-    ensures { IfOk result (λ read. read.0 ≤ FILE_BYTES → length read.1.items ≤ FILE_BYTES) }
+    ensures { IfOk result (λ read. read.0 ≤ max_file_bytes → length read.1.items ≤ max_file_bytes) }
 {
     let told = file.metadata()?.len();
     let mut bytes = Vec::new(alloc);
-    if told > FILE_BYTES {
+    if told > MAX_FILE_BYTES {
         return Ok((told, bytes));
     }
     bytes.try_reserve(told as usize)?;
-    let mut limited = file.take(FILE_BYTES);
+    let mut limited = file.take(MAX_FILE_BYTES);
     limited.read_to_end(&mut bytes)?;
     let more = read_some(&mut limited.into_inner(), &mut [0u8; 1])?;
     Ok(((bytes.len() + more) as u64, bytes))
 }
 
 fn read_whole<F: OpenFile + Read + Drop>(alloc: Global, file: F) -> Result<Vec<u8>, FileFault>
-    ensures { IsWithinLimit result }
+    ensures { KeepsFileLimit result }
 {
     match read_bounded(alloc, file) {
         Ok((len, bytes)) => {
-            if len > FILE_BYTES {
+            if len > MAX_FILE_BYTES {
                 return Err(FileFault::TooLong { len });
             }
             Ok(bytes)
@@ -174,13 +173,7 @@ fn read_whole<F: OpenFile + Read + Drop>(alloc: Global, file: F) -> Result<Vec<u
 }
 
 impl<'a, R: Files> Folder for DirFolder<'a, R> {
-    ghost files = { λ _. None };
-
-    ghost read_faults = { λ f. f.read_faults };
-
-    ghost write_faults = { λ f. f.write_faults };
-
-    ghost misses = { λ f. f.misses };
+    ghost state = { λ f. unknown_files f.read_faults f.write_faults f.misses };
 
     fn read(&mut self, alloc: Global, name: &str) -> Result<Vec<u8>, FileFault> {
         let answer = match fs::open(self.files, name) {
