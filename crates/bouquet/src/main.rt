@@ -1,6 +1,10 @@
 //! `bouquet`: a script on standard input, the files of the working directory, answers on standard output.
-//! It gathers the words, makes the adapters and calls `serve`, whose status is the one that it ends with.
+//! It gathers the arguments, makes the adapters and calls `serve`, whose status is the one that it ends with. It never
+//! looks at a byte of a script, a file or an answer.
 #![tactic(auto)]
+ghost use Rattle.std.specs.Prelude.{◌≡◌};
+ghost use Rattle.std.specs.Process.{exit_status};
+ghost use Rattle.shell.specs.Serve.{exit_number};
 
 use outside_io::{DirFolder, StdSink, StdSource};
 use shell::{Status, serve};
@@ -9,7 +13,7 @@ use std::io::ErrorKind;
 use std::process::ExitCode;
 use std::{env, io};
 
-// Where the words themselves can't be had.
+// The status where the arguments themselves can't be had, as where one isn't UTF-8.
 const NO_WORDS: u8 = 6;
 
 fn words_of(rt: &HostRuntime, alloc: Global) -> io::Result<Vec<String>> {
@@ -20,17 +24,21 @@ fn words_of(rt: &HostRuntime, alloc: Global) -> io::Result<Vec<String>> {
     Ok(words)
 }
 
+fn exit_code(status: Status) -> ExitCode
+    ensures { exit_status result ≡ exit_number status }
+{
+    ExitCode::from(status.number())
+}
+
 fn main(rt: HostRuntime) -> ExitCode {
     let words = match words_of(&rt, rt.alloc()) {
         Ok(words) => words,
-        Err(error) if error.kind() == ErrorKind::OutOfMemory => return ExitCode::from(
-            Status::NoMemory as u8,
-        ),
+        Err(error) if error.kind() == ErrorKind::OutOfMemory => return exit_code(Status::NoMemory),
         Err(_) => return ExitCode::from(NO_WORDS),
     };
     let mut source = StdSource::new(rt.reader());
     let mut folder = DirFolder::new(&rt);
     let mut sink = StdSink::new(io::writer(&rt));
     let status = serve(rt.alloc(), &words, &mut source, &mut folder, &mut sink);
-    ExitCode::from(status as u8)
+    exit_code(status)
 }

@@ -1,5 +1,5 @@
 -- Lists that ascend: which elements they have, and how often, determines them.
-use Rattle.std.proofs.Common.{All, ◌≡◌, ℕ, zero, suc, ◌≤◌, ◌<◌, Bool, true, false, cond, List, [], ◌∷◌, length, slice_index_or, sum_by, refl, sym, ap, ◌∙◌, arith}
+use Rattle.std.proofs.Common.{All, ◌≡◌, ℕ, zero, suc, ◌+◌, ◌≤◌, ◌<◌, Bool, true, false, cond, List, [], ◌∷◌, length, slice_index_or, sum_by, refl, sym, ap, ◌∙◌, arith}
 use Rattle.std.proofs.lemmas.List.Elements.{All-cons, All-head, All-tail}
 use Rattle.std.proofs.lemmas.List.Sums.{sum_by-cons}
 use Rattle.std.proofs.lemmas.List.Sorted.{ranks_by, sorted_far}
@@ -77,3 +77,13 @@ module _ {K : Type 0} (R : K → K → Ordering) where
     -- what a sort leaves ascends
     pub Ascends-from_sort : (xs : List K) → IsSorted R xs → Ascends xs
     Ascends-from_sort xs up = from_far xs (sorted_far (λ x y. is_lt (R x y)) (ranks_by total (λ x. x)) xs up)
+
+    -- no element of an ascending list is less than the one before it
+    pub IsSorted-from_ascends : (xs : List K) → Ascends xs → IsSorted R xs
+    IsSorted-from_ascends [] up k d low inside = absurd (omega arith)
+    IsSorted-from_ascends (x ∷ xs) up zero d low inside =
+        let y = slice_index_or xs 0 d in
+        turned (R y x) ∙ sym (ap is_gt (total.antisymm x y)) ∙ up.0 0 d (omega arith)
+    IsSorted-from_ascends (x ∷ xs) up (suc k) d low inside =
+        let next : suc k + 1 ≡ suc (k + 1) = omega arith in
+        rw next (IsSorted-from_ascends xs up.1 k d (omega arith) (omega arith))

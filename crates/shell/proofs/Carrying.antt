@@ -1,15 +1,22 @@
 -- A script's text, as far as its statements were carried out.
-use Rattle.std.proofs.Common.{◌≡◌, ℕ, ◌+◌, ◌<◌, ◌≤◌, min, true, false, List, [], ◌++◌, length, take, drop, get_or, Option, Some, None, refl, sym, ap, ◌∙◌, subst, arith, append_assoc, add-one}
-use Rattle.std.specs.Prelude.{IfSome}
+use Rattle.std.proofs.Common.{◌≡◌, ◌⊎◌, inl, inr, ℕ, ◌+◌, ◌*◌, ◌<◌, ◌≤◌, min, true, false, List, [], ◌∷◌, ◌++◌, length, map, take, drop, get_or, Option, Some, None, refl, sym, ap, ◌∙◌, subst, arith, append_assoc, add-one}
+use Rattle.std.specs.Prelude.{IfSome, All}
 use Rattle.std.specs.Io.KnownBytes.{Appends}
 use Rattle.std.proofs.Math.Seq.{drop-cons, take-append-add}
-use Rattle.std.proofs.lemmas.List.{append-nil, take_min, take_all, drop_all, take-append-le}
-use Rattle.outside_io.specs.Files.{Files}
+use Rattle.std.proofs.lemmas.List.{append-nil, take_min, take_all, drop_all, take-append-le, map-append, take_more, take-append-drop}
+use Rattle.std.proofs.lemmas.List.Elements.{All-nil, All-cons, All-append, All-weaker}
+use Rattle.work_ledger.specs.Account.{Account}
+use Rattle.outside_io.specs.Files.{FolderState}
 use Rattle.shell.specs.declared.status.Status.{Status}
 use Rattle.shell.specs.declared.status.Status.TheVariants as status
+use Rattle.shell.specs.declared.refusal.Refusal.{Refusal}
 use Rattle.shell.specs.declared.statement.Statement.{Statement}
-use Rattle.shell.specs.Script.{State, Outcome, Prints, Refuses, Answer, outcome, and_then, script_text}
-use Rattle.shell.specs.Serve.{Carries, EndsAt, text_of}
+use Rattle.shell.specs.Refusal.{line_of}
+use Rattle.shell.specs.Script.{SessionState, Outcome, Prints, Refuses, Answer, Step, outcome, and_then, script_answer}
+use Rattle.shell.specs.Serve.{Carries, IsGivenFor}
+use Rattle.shell.specs.Due.{CarriesAll, PaysFor}
+use Rattle.shell.proofs.Beginning.{whole_begins}
+use Rattle.shell.proofs.Given.{AreGiven, statements_of_steps, given_in, any_steps}
 
 pub appends_none : (old : Option (List ℕ)) → Appends old old []
 appends_none None = tt
@@ -21,99 +28,190 @@ appends_on (Some x) None new a b first next = absurd first
 appends_on (Some x) (Some y) None a b first next = absurd next
 appends_on (Some x) (Some y) (Some z) a b first next = next ∙ ap (λ (l : List ℕ). l ++ b) first ∙ append_assoc x a b
 
--- an answer behind a text
-abbrev behind : List ℕ → Answer → Answer
-behind text answer = record { text = text ++ answer.text; refused = answer.refused }
+-- an answer after a text and its work
+abbrev after : List ℕ → ℕ → Answer → Answer
+after text work answer = record { text = text ++ answer.text; work = work + answer.work; refused = answer.refused }
 
--- the text so far is there, and with what the statements from i on print it is the whole
-pub record IsCarried (files : Files) (all : List Statement) (i : ℕ) (state : State) (old now : Option (List ℕ)) : Type 0 where
+after_after : (a b : List ℕ) (m n : ℕ) (answer : Answer) → after a m (after b n answer) ≡ after (a ++ b) (m + n) answer
+after_after a b m n answer =
+    let text : a ++ (b ++ answer.text) ≡ (a ++ b) ++ answer.text = sym (append_assoc a b answer.text) in
+    let work : m + (n + answer.work) ≡ m + n + answer.work = omega arith in
+    λ i. record { text = text i; work = work i; refused = answer.refused }
+
+after_nothing : (answer : Answer) → answer ≡ after [] 0 answer
+after_nothing answer =
+    let work : answer.work ≡ 0 + answer.work = omega arith in
+    λ i. record { text = answer.text; work = work i; refused = answer.refused }
+
+-- the text so far is there and paid, and with what the statements from i on print it is the whole
+pub record IsCarried (all : List Statement) (i : ℕ) (before now : FolderState) (state : SessionState) (had got : Option (List ℕ)) (old paid : Account) : Type 0 where
+  pub steps : List Step
+  pub are : statements_of_steps steps ≡ take i all
+  pub given : AreGiven before now steps
   pub printed : List ℕ
-  pub put : Appends old now printed
-  pub whole : script_text files None all ≡ behind printed (script_text files state (drop i all))
+  pub work : ℕ
+  pub put : Appends had got printed
+  pub spent : paid.spent ≡ old.spent + work
+  pub whole : (rest : List Step) → script_answer None (steps ++ rest) ≡ after printed work (script_answer state rest)
 
-pub carried_none : (files : Files) (all : List Statement) (old : Option (List ℕ)) → IsCarried files all 0 None old old
-carried_none files all old = record { printed = []; put = appends_none old; whole = refl }
+pub carried_none : (all : List Statement) (before : FolderState) (had : Option (List ℕ)) (old : Account) → IsCarried all 0 before before None had had old old
+carried_none all before had old = record {
+  steps = [];
+  are = refl;
+  given = All-nil (λ (step : Step). IsGivenFor before before step.statement step.file);
+  printed = [];
+  work = 0;
+  put = appends_none had;
+  spent = omega arith;
+  whole = λ rest. after_nothing (script_answer None rest);
+}
 
--- what is to come begins with the statement at i
-from_here : (files : Files) (all : List Statement) (i : ℕ) (state : State) (statement : Statement) → i < length all → get_or all i statement ≡ statement
-    → script_text files state (drop i all) ≡ and_then (outcome files state statement) (λ next. script_text files next (drop (i + 1) all))
-from_here files all i state statement below is = rw (add-one, drop-cons all i statement below, is) refl
+given_on : (before mid now : FolderState) (steps : List Step) → mid.misses ≤ now.misses → AreGiven before mid steps → AreGiven before now steps
+given_on before mid now steps last given =
+    All-weaker (λ (step : Step). IsGivenFor before mid step.statement step.file) (λ (step : Step). IsGivenFor before now step.statement step.file)
+    (λ (step : Step) here. given_in before before mid now step.statement step.file refl (omega arith) last here) steps given
 
-pub carried_on : (files : Files) (all : List Statement) (i : ℕ) (state next : State) (statement : Statement) (old mid new : Option (List ℕ)) (text : List ℕ) → i < length all → get_or all i statement ≡ statement
-    → IsCarried files all i state old mid → outcome files state statement ≡ Prints text next → Appends mid new text → IsCarried files all (i + 1) next old new
-carried_on files all i state next statement old mid new text below is carried prints put =
-    let rest = script_text files next (drop (i + 1) all) in
-    let here : script_text files state (drop i all) ≡ behind text rest = from_here files all i state statement below is ∙ ap (λ o. and_then o (λ s. script_text files s (drop (i + 1) all))) prints in
-    record {
-      printed = carried.printed ++ text;
-      put = appends_on old mid new carried.printed text carried.put put;
-      whole = carried.whole ∙ ap (behind carried.printed) here ∙ ap (λ (l : List ℕ). record { text = l; refused = rest.refused }) (sym (append_assoc carried.printed text rest.text));
-    }
+-- one step more
+more_given : (before mid now : FolderState) (steps : List Step) (step : Step) (rest : List Step) → mid.files ≡ before.files → before.misses ≤ mid.misses → mid.misses ≤ now.misses
+    → AreGiven before mid steps → IsGivenFor mid now step.statement step.file → AreGiven before now rest → AreGiven before now (steps ++ step ∷ rest)
+more_given before mid now steps step rest same first last given here others =
+    let P : Step → Type 0 = λ (s : Step). IsGivenFor before now s.statement s.file in
+    All-append P steps (step ∷ rest) (given_on before mid now steps last given)
+    (All-cons P step rest (given_in before mid now now step.statement step.file same first (omega arith) here) others)
 
--- after the last statement the whole text is there
-pub carried_all : (files : Files) (all : List Statement) (i : ℕ) (state : State) (old new : Option (List ℕ)) → length all ≤ i → IsCarried files all i state old new → Carries (script_text files None all) status.Done old new
-carried_all files all i state old new past carried =
-    let none : drop i all ≡ [] = drop_all i all past in
-    let is : script_text files None all ≡ record { text = carried.printed; refused = false } =
-    carried.whole ∙ ap (λ (l : List Statement). behind carried.printed (script_text files state l)) none ∙ ap (λ (l : List ℕ). record { text = l; refused = false }) (append-nil carried.printed) in
-    let whole : Appends old new (script_text files None all).text = rw is carried.put in
-    let here : length (script_text files None all).text ≤ length (script_text files None all).text = omega arith in
-    record {
-      done = λ _. (ap (λ (a : Answer). a.refused) is, whole);
-      refused = λ ended. cc ended;
-      beginning = (length (script_text files None all).text, rw (take_all (length (script_text files None all).text) (script_text files None all).text here) whole);
-    }
+-- the statement at i comes after those before it
+next_statement : (all : List Statement) (i : ℕ) (statement : Statement) → i < length all → get_or all i statement ≡ statement → take (i + 1) all ≡ take i all ++ statement ∷ []
+next_statement all i statement below is = take_more all i statement below ∙ ap (λ s. take i all ++ s ∷ []) is
+
+are_on : (all : List Statement) (i : ℕ) (steps : List Step) (step : Step) → i < length all → get_or all i step.statement ≡ step.statement → statements_of_steps steps ≡ take i all
+    → statements_of_steps (steps ++ step ∷ []) ≡ take (i + 1) all
+are_on all i steps step below is are =
+    map-append (λ (s : Step). s.statement) steps (step ∷ []) ∙ ap (λ (l : List Statement). l ++ step.statement ∷ []) are ∙ sym (next_statement all i step.statement below is)
+
+-- the text of a statement's outcome
+abbrev pub text_of : Outcome → List ℕ
+text_of (Prints text work state) = text
+text_of (Refuses why) = line_of why
+
+-- a run that ends at a statement: refused where that is due, with the whole line, and else for another cause
+pub record EndsAt (due : Outcome) (ended : Status) (had got : Option (List ℕ)) (old new : Account) : Type 0 where
+  pub refused : ended ≡ status.Refused → ((why : Refusal) × (due ≡ Refuses why)) × Appends had got (text_of due)
+  pub unpaid : ended ≡ status.Refused → new.spent ≡ old.spent
+  pub not_done : ended ≡ status.Done → ⊥
+  pub beginning : (n : ℕ) × Appends had got (take n (text_of due))
+
+refused_whole : (due : Outcome) (go : SessionState → Answer) → ((why : Refusal) × (due ≡ Refuses why)) → and_then due go ≡ record { text = text_of due; work = 0; refused = true }
+refused_whole (Prints text work state) go refusal = cc refusal.1
+refused_whole (Refuses why) go refusal = refl
 
 cut : (n : ℕ) (front text rest : List ℕ) → take (length front + min n (length text)) (front ++ (text ++ rest)) ≡ front ++ take n text
 cut n front text rest =
     let within : min n (length text) ≤ length text = omega arith in
     take-append-add front (text ++ rest) (min n (length text)) ∙ ap (λ (l : List ℕ). front ++ l) (take-append-le (min n (length text)) text rest within ∙ take_min n text)
 
-begins : (due : Outcome) (go : State → Answer) → (more : List ℕ) × ((and_then due go).text ≡ text_of due ++ more)
-begins (Prints text state) go = ((go state).text, refl)
-begins (Refuses line) go = ([], sym (append-nil line))
+begins : (due : Outcome) (go : SessionState → Answer) → (more : List ℕ) × ((and_then due go).text ≡ text_of due ++ more)
+begins (Prints text work state) go = ((go state).text, refl)
+begins (Refuses why) go = ([], sym (append-nil (line_of why)))
 
--- a run that ends at a statement
-pub carried_to : (files : Files) (all : List Statement) (i : ℕ) (state : State) (statement : Statement) (ended : Status) (old mid new : Option (List ℕ)) → i < length all → get_or all i statement ≡ statement
-    → IsCarried files all i state old mid → EndsAt (outcome files state statement) ended mid new → Carries (script_text files None all) ended old new
-carried_to files all i state statement ended old mid new below here carried ends =
-    let due = outcome files state statement in
-    let go : State → Answer = λ next. script_text files next (drop (i + 1) all) in
-    let is : script_text files None all ≡ behind carried.printed (and_then due go) = carried.whole ∙ ap (behind carried.printed) (from_here files all i state statement below here) in
-    let more = begins due go in
-    let text : (script_text files None all).text ≡ carried.printed ++ (text_of due ++ more.0) = ap (λ (a : Answer). a.text) is ∙ ap (λ (l : List ℕ). carried.printed ++ l) more.1 in
+nothing_after : (text : List ℕ) (work : ℕ) → after text work (record { text = []; work = 0; refused = false }) ≡ record { text = text; work = work; refused = false }
+nothing_after text work =
+    let same : text ++ [] ≡ text = append-nil text in
+    let none : work + 0 ≡ work = omega arith in
+    λ i. record { text = same i; work = none i; refused = false }
+
+module _ (all : List Statement) (i : ℕ) (before mid now : FolderState) (state next : SessionState) (statement : Statement) (file : Option (List ℕ)) (had got : Option (List ℕ)) (old paid : Account)
+    (below : i < length all) (is : get_or all i statement ≡ statement) (same : mid.files ≡ before.files) (first : before.misses ≤ mid.misses) (last : mid.misses ≤ now.misses)
+    (carried : IsCarried all i before mid state had got old paid) (given : IsGivenFor mid now statement file) where
+  abbrev here : Step
+  here = record { statement = statement; file = file }
+
+  -- what is to come after the steps so far begins with this one
+  from_here : (rest : List Step) → script_answer None (carried.steps ++ here ∷ rest) ≡ after carried.printed carried.work (and_then (outcome state statement file) (λ s. script_answer s rest))
+  from_here rest = carried.whole (here ∷ rest)
+
+  -- a statement that printed its text
+  pub carried_on : (new : Option (List ℕ)) (due : Account) (text : List ℕ) (work : ℕ) → outcome state statement file ≡ Prints text work next → Appends got new text → due.spent ≡ paid.spent + work
+      → IsCarried all (i + 1) before now next had new old due
+  carried_on new due text work prints put spent = record {
+    steps = carried.steps ++ here ∷ [];
+    are = are_on all i carried.steps here below is carried.are;
+    given = more_given before mid now carried.steps here [] same first last carried.given given (All-nil (λ (step : Step). IsGivenFor before now step.statement step.file));
+    printed = carried.printed ++ text;
+    work = carried.work + work;
+    put = appends_on had got new carried.printed text carried.put put;
+    spent = omega (arith, spent, carried.spent);
+    whole = λ rest.
+        ap (script_answer None) (append_assoc carried.steps (here ∷ []) rest) ∙ from_here rest
+        ∙ ap (λ o. after carried.printed carried.work (and_then o (λ s. script_answer s rest))) prints
+        ∙ after_after carried.printed text carried.work work (script_answer next rest);
+  }
+
+  -- the statements after this one, as steps, and the whole answer
+  abbrev others : (steps : List Step) × (statements_of_steps steps ≡ drop (i + 1) all) × AreGiven before now steps
+  others = any_steps before now (drop (i + 1) all)
+
+  abbrev all_steps : List Step
+  all_steps = carried.steps ++ here ∷ others.0
+
+  all_are : statements_of_steps all_steps ≡ all
+  all_are =
+      map-append (λ (s : Step). s.statement) carried.steps (here ∷ others.0)
+      ∙ ap (λ (l : List Statement). l ++ statement ∷ statements_of_steps others.0) carried.are
+      ∙ ap (λ (l : List Statement). take i all ++ statement ∷ l) others.1
+      ∙ sym (append_assoc (take i all) (statement ∷ []) (drop (i + 1) all))
+      ∙ ap (λ (l : List Statement). l ++ drop (i + 1) all) (sym (next_statement all i statement below is))
+      ∙ take-append-drop (i + 1) all
+
+  -- a run that ends at this statement
+  pub carried_to : (new : Option (List ℕ)) (due : Account) (ended : Status) → EndsAt (outcome state statement file) ended got new paid due → CarriesAll all before now ended had new old due
+  carried_to new due ended ends =
+      let what = outcome state statement file in
+      let go : SessionState → Answer = λ s. script_answer s others.0 in
+      let whole : script_answer None all_steps ≡ after carried.printed carried.work (and_then what go) = from_here others.0 in
+      let more = begins what go in
+      let text : (script_answer None all_steps).text ≡ carried.printed ++ (text_of what ++ more.0) = ap (λ (a : Answer). a.text) whole ∙ ap (λ (l : List ℕ). carried.printed ++ l) more.1 in
+      record {
+        steps = all_steps;
+        are = all_are;
+        given = more_given before mid now carried.steps here others.0 same first last carried.given given others.2;
+        carries = record {
+          done = λ e. absurd (ends.not_done e);
+          refused = λ e.
+              let refusal = refused_whole what go (ends.refused e).0 in
+              let due_whole : script_answer None all_steps ≡ record { text = carried.printed ++ text_of what; work = carried.work + 0; refused = true } = whole ∙ ap (after carried.printed carried.work) refusal in
+              (ap (λ (a : Answer). a.refused) due_whole, rw due_whole (appends_on had got new carried.printed (text_of what) carried.put (ends.refused e).1));
+          beginning = (
+            length carried.printed + min ends.beginning.0 (length (text_of what)),
+            rw (text, cut ends.beginning.0 carried.printed (text_of what) more.0) (appends_on had got new carried.printed (take ends.beginning.0 (text_of what)) carried.put ends.beginning.1),
+          );
+        };
+        pays = record {
+          done = λ e. absurd (ends.not_done e);
+          refused = λ e.
+              let refusal = refused_whole what go (ends.refused e).0 in
+              let work : (script_answer None all_steps).work ≡ carried.work + 0 = ap (λ (a : Answer). a.work) (whole ∙ ap (after carried.printed carried.work) refusal) in
+              omega (arith, work, carried.spent, ends.unpaid e);
+        };
+      }
+
+-- after the last statement the whole text is there
+pub carried_all : (all : List Statement) (i : ℕ) (before now : FolderState) (state : SessionState) (had got : Option (List ℕ)) (old paid : Account) → length all ≤ i
+    → IsCarried all i before now state had got old paid → CarriesAll all before now status.Done had got old paid
+carried_all all i before now state had got old paid past carried =
+    let is : script_answer None carried.steps ≡ record { text = carried.printed; work = carried.work; refused = false } =
+    ap (script_answer None) (sym (append-nil carried.steps)) ∙ carried.whole [] ∙ nothing_after carried.printed carried.work in
+    let whole : Appends had got (script_answer None carried.steps).text = rw is carried.put in
     record {
-      done = λ e. absurd (ends.not_done e);
-      refused = λ e.
-          let refusal = ends.refused e in
-          let whole : script_text files None all ≡ record { text = carried.printed ++ text_of due; refused = true } = is ∙ ap (λ (o : Outcome). behind carried.printed (and_then o go)) refusal.0 in
-          (ap (λ (a : Answer). a.refused) whole, rw whole (appends_on old mid new carried.printed (text_of due) carried.put refusal.1));
-      beginning = (
-        length carried.printed + min ends.beginning.0 (length (text_of due)),
-        rw (text, cut ends.beginning.0 carried.printed (text_of due) more.0) (appends_on old mid new carried.printed (take ends.beginning.0 (text_of due)) carried.put ends.beginning.1),
-      );
+      steps = carried.steps;
+      are = carried.are ∙ take_all i all past;
+      given = carried.given;
+      carries = record {
+        done = λ _. (ap (λ (a : Answer). a.refused) is, whole);
+        refused = λ ended. cc ended;
+        beginning = whole_begins had got (script_answer None carried.steps).text whole;
+      };
+      pays = record {
+        done = λ _. let work : (script_answer None carried.steps).work ≡ carried.work = ap (λ (a : Answer). a.work) is in omega (arith, work, carried.spent);
+        refused = λ ended. cc ended;
+      };
     }
-
-module _ (all : List Statement) (i : ℕ) (state : State) (statement : Statement) (old mid new : Option (List ℕ)) (below : i < length all) (here : get_or all i statement ≡ statement) where
-  -- the same where it may be that the folder tells nothing, and it tells now what it told
-  pub told_on : (told now : Option Files) (next : State) → now ≡ told → IfSome told (λ files. IsCarried files all i state old mid)
-      → IfSome now (λ files. (text : List ℕ) × (outcome files state statement ≡ Prints text next) × Appends mid new text) → IfSome told (λ files. IsCarried files all (i + 1) next old new)
-  told_on None now next same carried prints = tt
-  told_on (Some files) None next same carried prints = cc same
-  told_on (Some files) (Some other) next same carried prints =
-      let is : other ≡ files = cc same in
-      let done = subst (λ (f : Files). (text : List ℕ) × (outcome f state statement ≡ Prints text next) × Appends mid new text) is prints in
-      carried_on files all i state next statement old mid new done.0 below here carried done.1 done.2
-
-  pub told_to : (told now : Option Files) (ended : Status) → now ≡ told → IfSome told (λ files. IsCarried files all i state old mid) → IfSome now (λ files. EndsAt (outcome files state statement) ended mid new)
-      → IfSome told (λ files. Carries (script_text files None all) ended old new)
-  told_to None now ended same carried ends = tt
-  told_to (Some files) None ended same carried ends = cc same
-  told_to (Some files) (Some other) ended same carried ends =
-      let is : other ≡ files = cc same in
-      carried_to files all i state statement ended old mid new below here carried (subst (λ (f : Files). EndsAt (outcome f state statement) ended mid new) is ends)
-
-pub told_all : (told : Option Files) (all : List Statement) (i : ℕ) (state : State) (old new : Option (List ℕ)) → length all ≤ i → IfSome told (λ files. IsCarried files all i state old new)
-    → IfSome told (λ files. Carries (script_text files None all) status.Done old new)
-told_all None all i state old new past carried = tt
-told_all (Some files) all i state old new past carried = carried_all files all i state old new past carried

@@ -6,9 +6,9 @@ use Rattle.std.proofs.lemmas.Bool.{and_parts, and_from, or_parts, or_from, leb-t
 use Rattle.std.proofs.lemmas.Slice.Eq.{bytes_eq-Decides}
 use Rattle.shell.specs.Words.{upper, reserved, is_letter, is_word, is_word_byte, is_file_byte, is_name, is_file_name}
 use Rattle.shell.specs.FirstForm.{Spelling, IsFirstForm}
-use Rattle.shell.specs.Serve.{Reads}
+use Rattle.shell.specs.Serve.{IsScript}
 use Rattle.shell.specs.ScriptReader.{spelling_of, are_different, is_well_formed, statements_of}
-use Rattle.shell.specs.declared.script.TheConstants.{SCRIPT_BYTES}
+use Rattle.shell.specs.Limits.{max_script_bytes}
 use Rattle.shell.specs.declared.statement.Statement.{Statement}
 use Rattle.shell.proofs.Case.{word_bytes-upper}
 use Rattle.shell.proofs.ScriptLines.{AreWords, HasWords, spelling_of-spelled, IsSpelled-from_spelling_of}
@@ -102,7 +102,7 @@ is_well_formed_from_FitsPlaces s fits =
     rw (table, loaded, selected, file, names, different) refl
 
 -- words that can stand in their places make a script of the form
-pub IsFirstForm-from_words : (script : List ℕ) (s : Spelling) (statements : List Statement) → length script ≤ SCRIPT_BYTES → spelling_of script ≡ Some s → IsTrue (is_well_formed s) → statements ≡ statements_of s → IsFirstForm script statements
+pub IsFirstForm-from_words : (script : List ℕ) (s : Spelling) (statements : List Statement) → length script ≤ max_script_bytes → spelling_of script ≡ Some s → IsTrue (is_well_formed s) → statements ≡ statements_of s → IsFirstForm script statements
 IsFirstForm-from_words script s statements short at_words test are =
     let read = IsSpelled-from_spelling_of script s at_words in
     let fits = FitsPlaces-from_is_well_formed s test in
@@ -138,39 +138,39 @@ words_from_form script statements form =
     (ap spelling_of form.text ∙ spelling_of-spelled s words, is_well_formed_from_FitsPlaces s fits)
 
 -- so a script without them isn't of the form
-pub none_without_words : (script : List ℕ) → spelling_of script ≡ None → Reads script None
+pub none_without_words : (script : List ℕ) → spelling_of script ≡ None → IsScript script None
 none_without_words script none = λ statements form. let (at_words, test) = words_from_form script statements form in cc
 
-pub none_misplaced : (script : List ℕ) (s : Spelling) → spelling_of script ≡ Some s → is_well_formed s ≡ false → Reads script None
+pub none_misplaced : (script : List ℕ) (s : Spelling) → spelling_of script ≡ Some s → is_well_formed s ≡ false → IsScript script None
 none_misplaced script s at_words test = λ statements form.
     let (at_form, fits) = words_from_form script statements form in
     let same : form.spelling ≡ s = cc in
     false≢true (sym test ∙ ap is_well_formed (sym same) ∙ fits)
 
-none_too_long : (script : List ℕ) → SCRIPT_BYTES < length script → Reads script None
+none_too_long : (script : List ℕ) → max_script_bytes < length script → IsScript script None
 none_too_long script long = λ statements form. omega (arith, form.short)
 
 abbrev pub IsDecided : List ℕ → Type 0
-IsDecided script = (read : Option (List Statement)) × Reads script read
+IsDecided script = (read : Option (List Statement)) × IsScript script read
 
 -- each script is of the form or isn't
 pub decided : (script : List ℕ) → IsDecided script
-decided script = at_length (nat_le (length script) SCRIPT_BYTES) refl
+decided script = at_length (nat_le (length script) max_script_bytes) refl
   where
-    at_test : (s : Spelling) → length script ≤ SCRIPT_BYTES → spelling_of script ≡ Some s → (test : Bool) → is_well_formed s ≡ test → IsDecided script
+    at_test : (s : Spelling) → length script ≤ max_script_bytes → spelling_of script ≡ Some s → (test : Bool) → is_well_formed s ≡ test → IsDecided script
     at_test s short words true test = (Some (statements_of s), IsFirstForm-from_words script s (statements_of s) short words test refl)
     at_test s short words false test = (None, none_misplaced script s words test)
 
-    at_words : length script ≤ SCRIPT_BYTES → (o : Option Spelling) → spelling_of script ≡ o → IsDecided script
+    at_words : length script ≤ max_script_bytes → (o : Option Spelling) → spelling_of script ≡ o → IsDecided script
     at_words short None words = (None, none_without_words script words)
     at_words short (Some s) words = at_test s short words (is_well_formed s) refl
 
-    at_length : (short : Bool) → nat_le (length script) SCRIPT_BYTES ≡ short → IsDecided script
-    at_length true short = at_words (leb-true (length script) SCRIPT_BYTES short) (spelling_of script) refl
-    at_length false long = (None, none_too_long script (leb-false (length script) SCRIPT_BYTES long))
+    at_length : (short : Bool) → nat_le (length script) max_script_bytes ≡ short → IsDecided script
+    at_length true short = at_words (leb-true (length script) max_script_bytes short) (spelling_of script) refl
+    at_length false long = (None, none_too_long script (leb-false (length script) max_script_bytes long))
 
 -- the form can be read in one way only
-pub one_reading : (script : List ℕ) (one other : Option (List Statement)) → Reads script one → Reads script other → one ≡ other
+pub one_reading : (script : List ℕ) (one other : Option (List Statement)) → IsScript script one → IsScript script other → one ≡ other
 one_reading script None None first second = refl
 one_reading script None (Some statements) first second = absurd (first statements second)
 one_reading script (Some statements) None first second = absurd (second statements first)

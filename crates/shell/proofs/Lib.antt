@@ -1,12 +1,12 @@
-pub mod AppendedRows
 pub mod Ascending
-pub mod AtTable
 pub mod Beginning
 pub mod Carrying
 pub mod Case
 pub mod Digits
+pub mod Ends
 pub mod Entries
 pub mod FirstFormReads
+pub mod Given
 pub mod Headers
 pub mod Integers
 pub mod LoadedRows

@@ -1,23 +1,23 @@
 -- Rows that are put in order ascend, and are the same rows.
-use Rattle.std.proofs.Common.{All, ◌≡◌, ℕ, ◌+◌, true, false, cond, List, [], ◌∷◌, sum_by, refl, sym, ap, ◌∙◌, arith}
+use Rattle.std.proofs.Common.{All, ◌≡◌, ℕ, zero, suc, ◌+◌, ◌<◌, length, slice_index_or, true, false, cond, List, [], ◌∷◌, sum_by, refl, sym, ap, ◌∙◌, arith}
 use Rattle.std.proofs.lemmas.List.Elements.{All-nil, All-cons, All-head, All-tail, All-weaker}
 use Rattle.std.proofs.lemmas.List.Sums.{sum_by-cons}
-use Rattle.std.proofs.lemmas.List.Sorted.{sum_by-IsPermutation}
+use Rattle.std.proofs.lemmas.List.Sorted.{sum_by-IsPermutation, IsPermutation-refl, IsPermutation-cons, IsPermutation-swap, IsPermutation-trans}
 use Rattle.std.specs.List.Sorted.{IsPermutation, IsSorted}
 use Rattle.std.specs.Cmp.{IsTotalOrder, int_cmp_total, upto}
 use Rattle.std.specs.Cmp.Lexicographic.{lists_total}
 use Rattle.std.specs.FinMap.{slice_cmp-IsAntisymmetric, int_cmp-IsAntisymmetric}
-use Rattle.std.specs.Ordering.{is_gt, ordering_reverse}
+use Rattle.std.specs.Ordering.{is_lt, is_gt, ordering_reverse}
 use Rattle.std.specs.declared.cmp.Ordering.{Ordering}
 use Rattle.std.specs.declared.cmp.Ordering.TheVariants.{Less, Equal, Greater}
 use Rattle.heap_pages.specs.Rows.{Row}
 use Rattle.shell.specs.Order.{row_cmp, put_in_order, in_order}
-use Rattle.shell.proofs.Ascending.{IsUpto, Ascends, Ascends-from_sort, ascending_determined}
+use Rattle.shell.proofs.Ascending.{IsUpto, Ascends, Ascends-from_sort, IsSorted-from_ascends, ascending_determined}
 
 rows_total : IsTotalOrder row_cmp
 rows_total = lists_total int_cmp_total
 
--- a row that is put into its place stands behind the first one or before it
+-- a row that is put into its place stands after the first one or before it
 put_cases : (P : List Row → Type 0) (row first : Row) (rest : List Row) →
     (is_gt (row_cmp row first) ≡ true → P (first ∷ put_in_order row rest)) → (is_gt (row_cmp row first) ≡ false → P (row ∷ first ∷ rest)) → P (put_in_order row (first ∷ rest))
 put_cases P row first rest after before =
@@ -70,3 +70,22 @@ in_order-from_sort rows sorted moved up =
     ascending_determined row_cmp rows_total (slice_cmp-IsAntisymmetric int_cmp-IsAntisymmetric) sorted (in_order rows)
     (Ascends-from_sort row_cmp rows_total sorted up) (Ascends-in_order rows)
     (λ f. sum_by-in_order f rows ∙ sym (sum_by-IsPermutation f rows sorted moved))
+
+IsPermutation-put_in_order : (row : Row) (rows : List Row) → IsPermutation (row ∷ rows) (put_in_order row rows)
+IsPermutation-put_in_order row [] = IsPermutation-refl (row ∷ [])
+IsPermutation-put_in_order row (first ∷ rest) =
+    put_cases (IsPermutation (row ∷ first ∷ rest)) row first rest
+    (λ _.
+    let swapped = IsPermutation-swap (row ∷ first ∷ rest) (first ∷ row ∷ rest) 0 1 (omega arith) (omega arith) refl in
+    IsPermutation-trans (row ∷ first ∷ rest) (first ∷ row ∷ rest) (first ∷ put_in_order row rest) swapped (IsPermutation-cons first (row ∷ rest) (put_in_order row rest) (IsPermutation-put_in_order row rest)))
+    (λ _. IsPermutation-refl (row ∷ first ∷ rest))
+
+-- the rows in order are the rows
+pub IsPermutation-in_order : (rows : List Row) → IsPermutation rows (in_order rows)
+IsPermutation-in_order [] = IsPermutation-refl []
+IsPermutation-in_order (row ∷ rows) =
+    IsPermutation-trans (row ∷ rows) (row ∷ in_order rows) (put_in_order row (in_order rows)) (IsPermutation-cons row rows (in_order rows) (IsPermutation-in_order rows)) (IsPermutation-put_in_order row (in_order rows))
+
+-- and they ascend
+pub IsSorted-in_order : (rows : List Row) → IsSorted row_cmp (in_order rows)
+IsSorted-in_order rows = IsSorted-from_ascends row_cmp rows_total (in_order rows) (Ascends-in_order rows)

@@ -1,112 +1,196 @@
 -- What is said of a whole run of the program.
-use Rattle.std.proofs.Common.{◌≡◌, ◌⊎◌, inl, inr, ℕ, ◌<◌, ◌≤◌, List, [], length, take, drop, Option, Some, None, refl, sym, ap, ◌∙◌, subst, arith}
-use Rattle.std.specs.Prelude.{IfSome}
+use Rattle.std.proofs.Common.{◌≡◌, ◌⊎◌, inl, inr, ℕ, ◌+◌, ◌<◌, ◌≤◌, List, [], ◌∷◌, length, map, take, drop, Option, Some, None, refl, sym, ap, ◌∙◌, subst, arith}
+use Rattle.std.specs.Prelude.{IfSome, IsSome, All, option_map}
+use Rattle.std.specs.Io.KnownBytes.{Appends}
 use Rattle.std.proofs.lemmas.Bool.{cases_lt}
 use Rattle.std.proofs.lemmas.List.{take_all, drop_all, length-take}
-use Rattle.outside_io.specs.Files.{Files}
-use Rattle.shell.specs.declared.script.TheConstants.{SCRIPT_BYTES}
-use Rattle.shell.specs.declared.source.TheConstants.{MOST_BYTES}
+use Rattle.std.proofs.lemmas.List.Elements.{All-head, All-tail}
+use Rattle.work_ledger.specs.Account.{Account}
+use Rattle.outside_io.specs.Files.{FolderState}
+use Rattle.shell.specs.Limits.{max_script_bytes}
 use Rattle.shell.specs.declared.status.Status.{Status}
 use Rattle.shell.specs.declared.status.Status.TheVariants as status
+use Rattle.shell.specs.declared.refusal.Refusal.TheVariants as refusal
 use Rattle.shell.specs.declared.statement.Statement.{Statement}
-use Rattle.shell.specs.Script.{Answer, answer_of}
-use Rattle.shell.specs.Serve.{Reads, IsAnswer, Serves, IfTold, IsDecided}
+use Rattle.shell.specs.declared.statement.Statement.TheVariants.{CreateTable, Load, Select}
+use Rattle.shell.specs.Refusal.{line_of}
+use Rattle.shell.specs.Script.{Answer, Step, answer_of, script_answer}
+use Rattle.shell.specs.Serve.{IsScript, IsGivenFor, IsAnswer, Carries, Serves, IsDecided}
+use Rattle.shell.specs.Due.{CarriesAll}
 use Rattle.shell.specs.Source.{TakesAtMost}
 use Rattle.shell.proofs.Carrying.{appends_none}
+use Rattle.shell.proofs.Ends.{EndsElsewhere, not_done, not_refused}
 use Rattle.shell.proofs.FirstFormReads.{decided, one_reading}
+use Rattle.shell.proofs.Given.{AreGiven, statements_of_steps, any_steps, one_file}
 
--- nothing was put, for a cause that isn't the script's
-abbrev pub EndsElsewhere : Status → Type 0
-EndsElsewhere ended = (ended ≡ status.ReadFault) ⊎ (ended ≡ status.NoMemory)
+-- so many bytes show that a script is too long
+abbrev pub enough : ℕ
+enough = max_script_bytes + 1
 
-not_done : (ended : Status) → EndsElsewhere ended → ended ≡ status.Done → ⊥
-not_done ended (inl fault) is = cc (fault, is)
-not_done ended (inr memory) is = cc (memory, is)
+-- an answer is due to each script
+answer_for : (script : List ℕ) (before after : FolderState) (read : Option (List Statement)) → IsScript script read → (answer : Answer) × IsAnswer script before after answer
+answer_for script before after None reads = (answer_of None, record { steps = None; reads = reads; given = tt; is = refl })
+answer_for script before after (Some statements) reads =
+    let steps = any_steps before after statements in
+    (answer_of (Some steps.0), record { steps = Some steps.0; reads = subst (λ (l : List Statement). IsScript script (Some l)) (sym steps.1) reads; given = steps.2; is = refl })
 
-not_refused : (ended : Status) → EndsElsewhere ended → ended ≡ status.Refused → ⊥
-not_refused ended (inl fault) is = cc (fault, is)
-not_refused ended (inr memory) is = cc (memory, is)
-
-pub serves_nothing : (script : List ℕ) (files : Files) (ended : Status) (old : Option (List ℕ)) → EndsElsewhere ended → Serves script files ended old old
-serves_nothing script files ended old elsewhere =
-    let read = decided script in (
-      answer_of files read.0,
-      record { statements = read.0; reads = read.1; is = refl },
-      record {
+pub serves_nothing : (script : List ℕ) (before after : FolderState) (ended : Status) (had : Option (List ℕ)) → EndsElsewhere ended → Serves script before after ended had had
+serves_nothing script before after ended had elsewhere =
+    let read = decided script in
+    let due = answer_for script before after read.0 read.1 in
+    record {
+      answer = due.0;
+      due = due.1;
+      carries = record {
         done = λ is. absurd (not_done ended elsewhere is);
         refused = λ is. absurd (not_refused ended elsewhere is);
-        beginning = (0, appends_none old);
-      },
-    )
+        beginning = (0, appends_none had);
+      };
+    }
 
-pub told_nothing : (source : Option (List ℕ)) (told : Option Files) (ended : Status) (old : Option (List ℕ)) → EndsElsewhere ended → IfTold source told (λ script files. Serves script files ended old old)
-told_nothing None told ended old elsewhere = tt
-told_nothing (Some script) None ended old elsewhere = tt
-told_nothing (Some script) (Some files) ended old elsewhere = serves_nothing script files ended old elsewhere
+pub known_nothing : (source : Option (List ℕ)) (before after : FolderState) (ended : Status) (had : Option (List ℕ)) → EndsElsewhere ended → IfSome source (λ script. Serves script before after ended had had)
+known_nothing None before after ended had elsewhere = tt
+known_nothing (Some script) before after ended had elsewhere = serves_nothing script before after ended had elsewhere
 
--- as many bytes as tell that a script is too long read as the whole does
-reads_whole : (left : List ℕ) (read : Option (List Statement)) → Reads (take MOST_BYTES left) read → Reads left read
-reads_whole left read reads = elim (cases_lt MOST_BYTES (length left)) [
+-- statements that were carried out are those of the script
+pub serves_statements : (script : List ℕ) (statements : List Statement) (before after : FolderState) (ended : Status) (had got : Option (List ℕ)) (old new : Account) → IsScript script (Some statements)
+    → CarriesAll statements before after ended had got old new → Serves script before after ended had got
+serves_statements script statements before after ended had got old new reads carried = record {
+  answer = answer_of (Some carried.steps);
+  due = record { steps = Some carried.steps; reads = subst (λ (l : List Statement). IsScript script (Some l)) (sym carried.are) reads; given = carried.given; is = refl };
+  carries = carried.carries;
+}
+
+-- the line of a script that isn't well-formed
+pub serves_other : (script : List ℕ) (before after : FolderState) (ended : Status) (had got : Option (List ℕ)) → IsScript script None
+    → (ended ≡ status.Refused → Appends had got (line_of refusal.LaterScript)) → ((n : ℕ) × Appends had got (take n (line_of refusal.LaterScript)))
+    → (ended ≡ status.Refused) ⊎ ((ended ≡ status.WriteFault) ⊎ (ended ≡ status.NoMemory)) → Serves script before after ended had got
+serves_other script before after ended had got reads whole part kinds = record {
+  answer = answer_of None;
+  due = record { steps = None; reads = reads; given = tt; is = refl };
+  carries = record {
+    done = λ is. absurd (not_this kinds is);
+    refused = λ is. (refl, whole is);
+    beginning = part;
+  };
+}
+  where
+    not_this : (ended ≡ status.Refused) ⊎ ((ended ≡ status.WriteFault) ⊎ (ended ≡ status.NoMemory)) → ended ≡ status.Done → ⊥
+    not_this (inl refused) e = cc (refused, e)
+    not_this (inr (inl fault)) e = cc (fault, e)
+    not_this (inr (inr memory)) e = cc (memory, e)
+
+-- as many bytes as show that a script is too long read as the whole does
+reads_whole : (left : List ℕ) (read : Option (List Statement)) → IsScript (take enough left) read → IsScript left read
+reads_whole left read reads = elim (cases_lt enough (length left)) [
   | inl longer ↦ too_long left read longer reads
-  | inr short ↦ let whole : take MOST_BYTES left ≡ left = take_all MOST_BYTES left short in subst (λ (l : List ℕ). Reads l read) whole reads
+  | inr short ↦ let whole : take enough left ≡ left = take_all enough left short in subst (λ (l : List ℕ). IsScript l read) whole reads
 ]
   where
-    too_long : (left : List ℕ) (read : Option (List Statement)) → MOST_BYTES < length left → Reads (take MOST_BYTES left) read → Reads left read
+    too_long : (left : List ℕ) (read : Option (List Statement)) → enough < length left → IsScript (take enough left) read → IsScript left read
     too_long left None longer reads = λ statements form. absurd (omega (arith, form.short, longer))
-    too_long left (Some statements) longer reads = absurd (omega (arith, reads.short, longer, length-take MOST_BYTES left))
+    too_long left (Some statements) longer reads = absurd (omega (arith, reads.short, longer, length-take enough left))
 
-answers_whole : (left : List ℕ) (files : Files) (answer : Answer) → IsAnswer (take MOST_BYTES left) files answer → IsAnswer left files answer
-answers_whole left files answer is = record { statements = is.statements; reads = reads_whole left is.statements is.reads; is = is.is }
+no_script : (left : List ℕ) → IsScript left None → IsScript (take enough left) None
+no_script left none = elim (cases_lt enough (length left)) [
+  | inl longer ↦ λ statements form. absurd (omega (arith, form.short, longer, length-take enough left))
+  | inr short ↦ let whole : take enough left ≡ left = take_all enough left short in subst (λ (l : List ℕ). IsScript l None) (sym whole) none
+]
 
 -- a run over what was read is a run over the whole
-pub told_whole : (source : Option (List ℕ)) (told : Option Files) (bytes : List ℕ) (ended : Status) (old new : Option (List ℕ)) → IfSome source (λ left. bytes ≡ take MOST_BYTES left) → IfSome told (λ files. Serves bytes files ended old new)
-    → IfTold source told (λ script files. Serves script files ended old new)
-told_whole None told bytes ended old new read serves = tt
-told_whole (Some left) None bytes ended old new read serves = tt
-told_whole (Some left) (Some files) bytes ended old new read serves =
-    let on = subst (λ (l : List ℕ). Serves l files ended old new) read serves in
-    (on.0, answers_whole left files on.0 on.1, on.2)
+pub known_whole : (source : Option (List ℕ)) (before after : FolderState) (bytes : List ℕ) (ended : Status) (had got : Option (List ℕ)) → IfSome source (λ left. bytes ≡ take enough left)
+    → Serves bytes before after ended had got → IfSome source (λ script. Serves script before after ended had got)
+known_whole None before after bytes ended had got read serves = tt
+known_whole (Some left) before after bytes ended had got read serves =
+    let on = subst (λ (l : List ℕ). Serves l before after ended had got) read serves in
+    record {
+      answer = on.answer;
+      due = record { steps = on.due.steps; reads = reads_whole left (option_map statements_of_steps on.due.steps) on.due.reads; given = on.due.given; is = on.due.is };
+      carries = on.carries;
+    }
 
--- a script of the form was the whole
-pub emptied : (left bytes : List ℕ) → bytes ≡ take MOST_BYTES left → length bytes ≤ SCRIPT_BYTES → drop MOST_BYTES left ≡ []
+-- a folder isn't read for a script that isn't well-formed
+pub known_unread : (source : Option (List ℕ)) (before after : FolderState) (bytes : List ℕ) → IfSome source (λ left. bytes ≡ take enough left) → (IsScript bytes None → after ≡ before)
+    → IfSome source (λ script. IsScript script None → after ≡ before)
+known_unread None before after bytes read unread = tt
+known_unread (Some left) before after bytes read unread = λ none. unread (subst (λ (l : List ℕ). IsScript l None) (sym read) (no_script left none))
+
+pub known_same : (source : Option (List ℕ)) (before after : FolderState) → after ≡ before → IfSome source (λ script. IsScript script None → after ≡ before)
+known_same None before after same = tt
+known_same (Some left) before after same = λ none. same
+
+-- a well-formed script was the whole
+emptied : (left bytes : List ℕ) → bytes ≡ take enough left → length bytes ≤ max_script_bytes → drop enough left ≡ []
 emptied left bytes read short =
-    let cut : length bytes ≡ length (take MOST_BYTES left) = ap length read in
-    drop_all MOST_BYTES left (omega (arith, cut, short, length-take MOST_BYTES left))
+    let cut : length bytes ≡ length (take enough left) = ap length read in
+    drop_all enough left (omega (arith, cut, short, length-take enough left))
 
--- a source that was read whole has nothing left where the script was of the form
-pub told_emptied : (source now : Option (List ℕ)) (bytes : List ℕ) → IfSome source (λ left. (bytes ≡ take MOST_BYTES left) × (now ≡ Some (drop MOST_BYTES left))) → length bytes ≤ SCRIPT_BYTES
+-- a source that was read whole has nothing left where the script was well-formed
+pub known_emptied : (source now : Option (List ℕ)) (bytes : List ℕ) → IfSome source (λ left. (bytes ≡ take enough left) × (now ≡ Some (drop enough left))) → length bytes ≤ max_script_bytes
     → IfSome source (λ _. now ≡ Some [])
-told_emptied None now bytes read short = tt
-told_emptied (Some left) now bytes read short = read.1 ∙ ap Some (emptied left bytes read.0 short)
+known_emptied None now bytes read short = tt
+known_emptied (Some left) now bytes read short = read.1 ∙ ap Some (emptied left bytes read.0 short)
 
-pub told_bounded : (source now : Option (List ℕ)) (bytes : List ℕ) → IfSome source (λ left. (bytes ≡ take MOST_BYTES left) × (now ≡ Some (drop MOST_BYTES left))) → IfSome source (TakesAtMost MOST_BYTES now)
-told_bounded None now bytes read = tt
-told_bounded (Some left) now bytes read = (MOST_BYTES, omega arith, read.1)
+pub known_bounded : (source now : Option (List ℕ)) (bytes : List ℕ) → IfSome source (λ left. (bytes ≡ take enough left) × (now ≡ Some (drop enough left))) → IfSome source (TakesAtMost enough now)
+known_bounded None now bytes read = tt
+known_bounded (Some left) now bytes read = (enough, omega arith, read.1)
 
-pub told_read : (source now : Option (List ℕ)) (bytes : List ℕ) → IfSome source (λ left. (bytes ≡ take MOST_BYTES left) × (now ≡ Some (drop MOST_BYTES left))) → IfSome source (λ left. bytes ≡ take MOST_BYTES left)
-told_read None now bytes read = tt
-told_read (Some left) now bytes read = read.0
+pub known_read : (source now : Option (List ℕ)) (bytes : List ℕ) → IfSome source (λ left. (bytes ≡ take enough left) × (now ≡ Some (drop enough left))) → IfSome source (λ left. bytes ≡ take enough left)
+known_read None now bytes read = tt
+known_read (Some left) now bytes read = read.0
 
-pub carries_answer : (script : List ℕ) (told : Option Files) (ended : Status) (old new : Option (List ℕ)) → EndsElsewhere ended → old ≡ new → IfSome told (λ files. Serves script files ended old new)
-carries_answer script None ended old new elsewhere same = tt
-carries_answer script (Some files) ended old new elsewhere same = subst (λ (n : Option (List ℕ)). Serves script files ended old n) same (serves_nothing script files ended old elsewhere)
+pub takes_nothing : (source now : Option (List ℕ)) → now ≡ source → IfSome source (TakesAtMost enough now)
+takes_nothing None now same = tt
+takes_nothing (Some left) now same = (0, omega arith, same)
 
-decided_by : (script : List ℕ) (files : Files) (ended : Status) (old new : Option (List ℕ)) → (ended ≡ status.BadWords → ⊥) → (ended ≡ status.ReadFault → ⊥) → (ended ≡ status.WriteFault → ⊥)
-    → Serves script files ended old new → IsDecided script files ended
-decided_by script files status.Done old new words reads writes serves = (serves.0, serves.1, inl (rw (serves.2.done refl).0 refl))
-decided_by script files status.Refused old new words reads writes serves = (serves.0, serves.1, inl (rw (serves.2.refused refl).0 refl))
-decided_by script files status.BadWords old new words reads writes serves = absurd (words refl)
-decided_by script files status.ReadFault old new words reads writes serves = absurd (reads refl)
-decided_by script files status.WriteFault old new words reads writes serves = absurd (writes refl)
-decided_by script files status.NoMemory old new words reads writes serves = (serves.0, serves.1, inr refl)
+decided_by : (script : List ℕ) (before after : FolderState) (ended : Status) (had got : Option (List ℕ)) → (ended ≡ status.BadWords → ⊥) → (ended ≡ status.ReadFault → ⊥) → (ended ≡ status.WriteFault → ⊥)
+    → Serves script before after ended had got → IsDecided script before after ended
+decided_by script before after status.Done had got words reads writes serves = record { answer = serves.answer; due = serves.due; ends = inl (rw (serves.carries.done refl).0 refl) }
+decided_by script before after status.Refused had got words reads writes serves = record { answer = serves.answer; due = serves.due; ends = inl (rw (serves.carries.refused refl).0 refl) }
+decided_by script before after status.BadWords had got words reads writes serves = absurd (words refl)
+decided_by script before after status.ReadFault had got words reads writes serves = absurd (reads refl)
+decided_by script before after status.WriteFault had got words reads writes serves = absurd (writes refl)
+decided_by script before after status.NoMemory had got words reads writes serves = record { answer = serves.answer; due = serves.due; ends = inr refl }
 
 -- a run that met no fault ends as the script does
-pub told_decided : (source : Option (List ℕ)) (told : Option Files) (ended : Status) (old new : Option (List ℕ)) → (ended ≡ status.BadWords → ⊥) → (ended ≡ status.ReadFault → ⊥) → (ended ≡ status.WriteFault → ⊥)
-    → IfTold source told (λ script files. Serves script files ended old new) → IfTold source told (λ script files. IsDecided script files ended)
-told_decided None told ended old new words reads writes serves = tt
-told_decided (Some script) None ended old new words reads writes serves = tt
-told_decided (Some script) (Some files) ended old new words reads writes serves = decided_by script files ended old new words reads writes serves
+pub known_decided : (source : Option (List ℕ)) (before after : FolderState) (ended : Status) (had got : Option (List ℕ)) → (ended ≡ status.BadWords → ⊥) → (ended ≡ status.ReadFault → ⊥) → (ended ≡ status.WriteFault → ⊥)
+    → IfSome source (λ script. Serves script before after ended had got) → IfSome source (λ script. IsDecided script before after ended)
+known_decided None before after ended had got words reads writes serves = tt
+known_decided (Some script) before after ended had got words reads writes serves = decided_by script before after ended had got words reads writes serves
+
+one_file_for : (old new other : FolderState) (statement : Statement) (a b : Option (List ℕ)) → IsSome old.files → IsGivenFor old new statement a → IsGivenFor old other statement b → a ≡ b
+one_file_for old new other (CreateTable name columns) a b known first second = first ∙ sym second
+one_file_for old new other (Load file_name name) a b known first second = one_file old.files old.misses new.misses other.misses file_name a b known first second
+one_file_for old new other (Select name) a b known first second = first ∙ sym second
+
+one_step : (old new other : FolderState) (a b : Step) → IsSome old.files → a.statement ≡ b.statement → IsGivenFor old new a.statement a.file → IsGivenFor old other b.statement b.file → a ≡ b
+one_step old new other a b known same first second =
+    let here : IsGivenFor old other a.statement b.file = subst (λ (s : Statement). IsGivenFor old other s b.file) (sym same) second in
+    let file : a.file ≡ b.file = one_file_for old new other a.statement a.file b.file known first here in
+    λ i. record { statement = same i; file = file i }
+
+-- over a folder of known contents the statements determine the steps
+same_steps : (old new other : FolderState) (xs ys : List Step) → IsSome old.files → statements_of_steps xs ≡ statements_of_steps ys → AreGiven old new xs → AreGiven old other ys → xs ≡ ys
+same_steps old new other [] [] known same first second = refl
+same_steps old new other [] (y ∷ ys) known same first second = cc same
+same_steps old new other (x ∷ xs) [] known same first second = cc same
+same_steps old new other (x ∷ xs) (y ∷ ys) known same first second =
+    let P : Step → Type 0 = λ (s : Step). IsGivenFor old new s.statement s.file in
+    let Q : Step → Type 0 = λ (s : Step). IsGivenFor old other s.statement s.file in
+    let head : x.statement ≡ y.statement = cc same in
+    let tail : statements_of_steps xs ≡ statements_of_steps ys = cc same in
+    let here : x ≡ y = one_step old new other x y known head (All-head P x xs first) (All-head Q y ys second) in
+    let rest : xs ≡ ys = same_steps old new other xs ys known tail (All-tail P x xs first) (All-tail Q y ys second) in
+    λ i. here i ∷ rest i
+
+same_reading : (old new other : FolderState) (a b : Option (List Step)) → IsSome old.files → option_map statements_of_steps a ≡ option_map statements_of_steps b → IfSome a (AreGiven old new) → IfSome b (AreGiven old other) → a ≡ b
+same_reading old new other None None known same first second = refl
+same_reading old new other None (Some ys) known same first second = cc same
+same_reading old new other (Some xs) None known same first second = cc same
+same_reading old new other (Some xs) (Some ys) known same first second = ap Some (same_steps old new other xs ys known (cc same) first second)
 
 -- two answers that are due are one
-pub one_answer : (script : List ℕ) (files : Files) (one other : Answer) → IsAnswer script files one → IsAnswer script files other → one ≡ other
-one_answer script files one other first second = first.is ∙ ap (answer_of files) (one_reading script first.statements second.statements first.reads second.reads) ∙ sym second.is
+pub one_answer : (script : List ℕ) (old new other : FolderState) (one two : Answer) → IsSome old.files → IsAnswer script old new one → IsAnswer script old other two → one ≡ two
+one_answer script old new other one two known first second =
+    let same = one_reading script (option_map statements_of_steps first.steps) (option_map statements_of_steps second.steps) first.reads second.reads in
+    first.is ∙ ap answer_of (same_reading old new other first.steps second.steps known same first.given second.given) ∙ sym second.is

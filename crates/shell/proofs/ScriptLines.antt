@@ -4,7 +4,7 @@ use Rattle.std.specs.Prelude.{IsTrue, if◌then◌else◌}
 use Rattle.std.specs.List.{list_all}
 use Rattle.std.proofs.lemmas.Bool.{and_parts, eqb-true}
 use Rattle.std.proofs.lemmas.List.{nil_from_length}
-use Rattle.heap_pages.specs.declared.heap.TheConstants.{MAX_COLUMNS}
+use Rattle.heap_pages.specs.Limits.{max_columns}
 use Rattle.shell.specs.Words.{is_word_byte, is_file_byte}
 use Rattle.shell.specs.FirstForm.{Spelling, column_list, spelled}
 use Rattle.shell.specs.ScriptReader.{◌>>=◌, after, run_before, at_comma, columns_from, opening_of, Ending, ending_of, spelling_of}
@@ -136,7 +136,7 @@ pub record HasWords (s : Spelling) : Type 0 where
   pub created : IsTrue (list_all is_word_byte s.created)
   pub columns : AreWords s.columns
   pub some : 1 ≤ length s.columns
-  pub few : length s.columns ≤ MAX_COLUMNS
+  pub few : length s.columns ≤ max_columns
   pub file : IsTrue (list_all is_file_byte s.file)
   pub loaded : IsTrue (list_all is_word_byte s.loaded)
   pub selected : IsTrue (list_all is_word_byte s.selected)
@@ -153,16 +153,16 @@ spelling_of-spelled s words =
     let behind = s.file ++ (codes "' INTO " ++ (s.loaded ++ (codes ";\nSELECT * FROM " ++ (s.selected ++ codes ";\n")))) in
     rw (
       opening_of-append s.created (column_list s.columns ++ lines_behind e) words.created,
-      columns_from-column_list s.columns MAX_COLUMNS [] (lines_behind e) words.columns words.some words.few (no_comma behind),
+      columns_from-column_list s.columns max_columns [] (lines_behind e) words.columns words.some words.few (no_comma behind),
       ending_of-lines_behind e ends,
     ) refl
 
 pub record IsSpelled (script : List ℕ) (s : Spelling) : Type 0 where
   pub text : script ≡ spelled s
   pub some : 1 ≤ length s.columns
-  pub few : length s.columns ≤ MAX_COLUMNS
+  pub few : length s.columns ≤ max_columns
 
-spelled_from_parts : (script : List ℕ) (opening : List ℕ × List ℕ) (columns : List (List ℕ) × List ℕ) (e : Ending) → script ≡ codes "CREATE TABLE " ++ (opening.0 ++ (codes " (" ++ opening.1)) → HasColumns MAX_COLUMNS [] opening.1 columns → columns.1 ≡ lines_behind e
+spelled_from_parts : (script : List ℕ) (opening : List ℕ × List ℕ) (columns : List (List ℕ) × List ℕ) (e : Ending) → script ≡ codes "CREATE TABLE " ++ (opening.0 ++ (codes " (" ++ opening.1)) → HasColumns max_columns [] opening.1 columns → columns.1 ≡ lines_behind e
     → IsSpelled script (record { created = opening.0; columns = columns.0; file = e.file; loaded = e.loaded; selected = e.selected })
 spelled_from_parts script opening columns e in_script read in_columns =
     let same = read.all in
@@ -173,9 +173,9 @@ unfolding spelling_of
 IsSpelled-from_spelling_of script s is =
     let ended : List ℕ → List (List ℕ) → Ending → Option Spelling = λ created columns e. Some (record { created = created; columns = columns; file = e.file; loaded = e.loaded; selected = e.selected }) in
     let behind_columns : List ℕ → List (List ℕ) × List ℕ → Option Spelling = λ created columns. ending_of columns.1 >>= ended created columns.0 in
-    let behind_opening : List ℕ × List ℕ → Option Spelling = λ opening. columns_from MAX_COLUMNS [] opening.1 >>= behind_columns opening.0 in
+    let behind_opening : List ℕ × List ℕ → Option Spelling = λ opening. columns_from max_columns [] opening.1 >>= behind_columns opening.0 in
     let (opening, at_opening, r1) = steps_from_some behind_opening (opening_of script) s is in
-    let (columns, at_columns, r2) = steps_from_some (behind_columns opening.0) (columns_from MAX_COLUMNS [] opening.1) s r1 in
+    let (columns, at_columns, r2) = steps_from_some (behind_columns opening.0) (columns_from max_columns [] opening.1) s r1 in
     let (e, at_ending, r3) = steps_from_some (ended opening.0 columns.0) (ending_of columns.1) s r2 in
     let found : record { created = opening.0; columns = columns.0; file = e.file; loaded = e.loaded; selected = e.selected } ≡ s = cc in
-    subst (IsSpelled script) found (spelled_from_parts script opening columns e (text_from_opening_of script opening at_opening) (HasColumns-from_columns_from MAX_COLUMNS [] opening.1 columns at_columns) (text_from_ending_of columns.1 e at_ending))
+    subst (IsSpelled script) found (spelled_from_parts script opening columns e (text_from_opening_of script opening at_opening) (HasColumns-from_columns_from max_columns [] opening.1 columns at_columns) (text_from_ending_of columns.1 e at_ending))

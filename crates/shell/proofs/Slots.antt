@@ -3,11 +3,11 @@ use Rattle.std.proofs.Common.{◌≡◌, ℕ, ◌+◌, [], ◌∷◌, ◌++◌, 
 use Rattle.std.proofs.lemmas.List.{take_more}
 use Rattle.std.proofs.lemmas.Option.{slice_get_within, get_or_from_slice_get}
 use Rattle.std.specs.Prelude.{slice_get}
-use Rattle.heap_pages.specs.Rows.{Row, Table, row_number}
+use Rattle.heap_pages.specs.Rows.{Row, HeapState, row_number}
 use Rattle.shell.specs.Scan.{rows_before}
 
 -- the row in a slot stands behind those before it
-pub next_slot : (table : Table) (page slot : ℕ) (row : Row) → slice_get table.rows (row_number table.columns page slot) ≡ Some row →
+pub next_slot : (table : HeapState) (page slot : ℕ) (row : Row) → slice_get table.rows (row_number table.columns page slot) ≡ Some row →
     rows_before table page slot ++ row ∷ [] ≡ rows_before table page (slot + 1)
 next_slot table page slot row there =
     let place = row_number table.columns page slot in

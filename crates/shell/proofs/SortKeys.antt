@@ -7,7 +7,7 @@ use Rattle.std.specs.Ordering.{MatchOrdering, int_cmp, ordering_then, ordering_r
 use Rattle.std.specs.declared.cmp.Ordering.{Ordering}
 use Rattle.std.specs.declared.cmp.Ordering.TheVariants.{Less, Equal, Greater}
 use Rattle.heap_pages.specs.Rows.{Row}
-use Rattle.shell.specs.Load.{null_word}
+use Rattle.shell.specs.Word.{null_word}
 use Rattle.shell.specs.Order.{row_cmp}
 use Rattle.shell.specs.SortKey.{word_at, key_of, IsSortKey}
 

@@ -1,17 +1,27 @@
 -- What a reader of known bytes has yet to read, and the rows that entries make one by one.
-use Rattle.std.specs.Prelude.{◌≡◌, ℕ, ◌+◌, nat_le, List, [], ◌++◌, length, Option, Some, None, IsSome, if◌then◌else◌}
+use Rattle.std.specs.Prelude.{◌≡◌, ℕ, ◌+◌, ◌*◌, ◌≤◌, nat_le, List, [], ◌++◌, length, Option, Some, None, IsSome, if◌then◌else◌}
 use Rattle.csv.specs.Reading.{records_from, source_of, reader_config, reader_trim, reader_state, Ready, default_config}
 use Rattle.csv.specs.declared.parser.State.{State}
 use Rattle.csv.specs.declared.reader.Reader.{Reader}
 use Rattle.csv.specs.declared.reader.Trim.TheVariants as trim
-use Rattle.heap_pages.specs.declared.heap.TheConstants.{MAX_ROWS}
+use Rattle.heap_pages.specs.Limits.{max_rows}
 use Rattle.heap_pages.specs.Rows.{Row}
-use Rattle.shell.specs.Load.{all_of, row_of}
+use Rattle.shell.specs.Load.{all_of, entry_row}
 
 -- the records of a text, if it is known, from a state
 abbrev pub records_after : State → Option (List ℕ) → List (List (List ℕ))
 records_after state None = []
 records_after state (Some text) = records_from default_config (length text + 1) state text
+
+-- the rows of a file, and their width
+pub record FileRows : Type 0 where
+  pub columns : ℕ
+  pub rows : List Row
+
+-- so many words are these rows of these columns, and the rows are not too many
+pub record AreCut (columns rows words : ℕ) : Type 0 where
+  pub filled : words ≡ rows * columns
+  pub few : rows ≤ max_rows
 
 -- the entries that a reader has yet to give
 unfoldable pub entries_left : {R : Type 0} → (R → Option (List ℕ)) → Reader R → List (List (List ℕ))
@@ -31,4 +41,4 @@ list_and_all before (Some others) = Some (before ++ others)
 
 -- the rows of the entries below a header, where they aren't too many
 unfoldable pub rows_within : ℕ → List (List (List ℕ)) → Option (List Row)
-rows_within columns entries = if nat_le (length entries) MAX_ROWS then all_of (row_of columns) entries else None
+rows_within columns entries = if nat_le (length entries) max_rows then all_of (entry_row columns) entries else None

@@ -1,9 +1,9 @@
 -- The form of a script: three lines that make one table, load it and print it.
 use Rattle.std.specs.Prelude.{◌≡◌, ℕ, ◌≤◌, List, [], ◌∷◌, ◌++◌, map, length, codes, IsTrue, bytes_eq}
 use Rattle.std.specs.List.{list_all, IsDistinct}
-use Rattle.heap_pages.specs.declared.heap.TheConstants.{MAX_COLUMNS}
+use Rattle.heap_pages.specs.Limits.{max_columns}
 use Rattle.shell.specs.Words.{upper, is_name, is_file_name}
-use Rattle.shell.specs.declared.script.TheConstants.{SCRIPT_BYTES}
+use Rattle.shell.specs.Limits.{max_script_bytes}
 use Rattle.shell.specs.declared.statement.Statement.{Statement}
 use Rattle.shell.specs.declared.statement.Statement.TheVariants.{CreateTable, Load, Select}
 
@@ -31,13 +31,13 @@ spelled s =
 pub record IsFirstForm (script : List ℕ) (statements : List Statement) : Type 0 where
   pub spelling : Spelling
   pub text : script ≡ spelled spelling
-  pub short : length script ≤ SCRIPT_BYTES
+  pub short : length script ≤ max_script_bytes
   pub table : IsTrue (is_name spelling.created)
   pub same_loaded : upper spelling.loaded ≡ upper spelling.created
   pub same_selected : upper spelling.selected ≡ upper spelling.created
   pub names : IsTrue (list_all is_name spelling.columns)
   pub some_columns : 1 ≤ length spelling.columns
-  pub few_columns : length spelling.columns ≤ MAX_COLUMNS
+  pub few_columns : length spelling.columns ≤ max_columns
   pub different : IsDistinct bytes_eq (map upper spelling.columns)
   pub file : IsTrue (is_file_name spelling.file)
   pub are : statements ≡ CreateTable (upper spelling.created) (map upper spelling.columns) ∷ Load spelling.file (upper spelling.created) ∷ Select (upper spelling.created) ∷ []

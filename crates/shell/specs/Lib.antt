@@ -1,10 +1,13 @@
 pub mod Digits
+pub mod Due
 pub mod Entries
 pub mod FirstForm
+pub mod Limits
 pub mod Load
 pub mod Order
 pub mod SortKey
 pub mod Printed
+pub mod Refusal
 pub mod Scan
 pub mod Script
 pub mod ScriptReader
@@ -12,4 +15,5 @@ pub mod Serve
 pub mod Source
 pub mod Stop
 pub mod TextWriter
+pub mod Word
 pub mod Words

@@ -1,7 +1,7 @@
 -- A reader of scripts on lists: what the form's lines have in their places.
 use Rattle.std.specs.Prelude.{◌&&◌, ◌==◌, not, ℕ, zero, suc, Bool, true, List, [], ◌∷◌, ◌++◌, map, length, take, drop, codes, Option, Some, None, option_and_then, if◌then◌else◌, bytes_eq}
 use Rattle.std.specs.List.{list_all, list_any, prefix_len}
-use Rattle.heap_pages.specs.declared.heap.TheConstants.{MAX_COLUMNS}
+use Rattle.heap_pages.specs.Limits.{max_columns}
 use Rattle.shell.specs.Words.{upper, is_word_byte, is_file_byte, is_name, is_file_name}
 use Rattle.shell.specs.FirstForm.{Spelling}
 use Rattle.shell.specs.declared.statement.Statement.{Statement}
@@ -57,7 +57,7 @@ ending_of bytes = do
 unfoldable pub spelling_of : List ℕ → Option Spelling
 spelling_of script = do
   opening ← opening_of script
-  columns ← columns_from MAX_COLUMNS [] opening.1
+  columns ← columns_from max_columns [] opening.1
   ending ← ending_of columns.1
   Some (record { created = opening.0; columns = columns.0; file = ending.file; loaded = ending.loaded; selected = ending.selected })
 

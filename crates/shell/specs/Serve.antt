@@ -1,55 +1,69 @@
--- What a run of the program answers, and what its sink got.
-use Rattle.std.specs.Prelude.{◌≡◌, ◌⊎◌, ℕ, true, false, List, take, Option, Some, None, IfSome, if◌then◌else◌}
+-- What is due to a script, and what a run of the program did of it.
+use Rattle.std.specs.Prelude.{◌≡◌, ◌⊎◌, ℕ, ◌≤◌, true, false, All, List, take, length, map, Option, Some, None, IfSome, IsSomeAnd, MatchOption, option_map, if◌then◌else◌}
 use Rattle.std.specs.Io.KnownBytes.{Appends}
-use Rattle.outside_io.specs.Files.{Files}
+use Rattle.outside_io.specs.Count.{Rose}
+use Rattle.outside_io.specs.Files.{FolderState, file_of}
+use Rattle.outside_io.specs.Limits.{max_file_bytes}
 use Rattle.shell.specs.FirstForm.{IsFirstForm}
-use Rattle.shell.specs.Script.{Answer, Outcome, Prints, Refuses, answer_of}
+use Rattle.shell.specs.Script.{Answer, Step, answer_of}
 use Rattle.shell.specs.declared.status.Status.{Status}
 use Rattle.shell.specs.declared.status.Status.TheVariants as status
 use Rattle.shell.specs.declared.statement.Statement.{Statement}
+use Rattle.shell.specs.declared.statement.Statement.TheVariants.{CreateTable, Load, Select}
 
--- the statements of a script, or that it isn't of the form
-abbrev pub Reads : List ℕ → Option (List Statement) → Type 0
-Reads script None = (statements : List Statement) → ¬ IsFirstForm script statements
-Reads script (Some statements) = IsFirstForm script statements
+-- the number with which the program ends
+abbrev pub exit_number : Status → ℕ
+exit_number status.Done = 0
+exit_number status.Refused = 1
+exit_number status.BadWords = 2
+exit_number status.ReadFault = 3
+exit_number status.WriteFault = 4
+exit_number status.NoMemory = 5
 
--- the answer that is due to a script
-pub record IsAnswer (script : List ℕ) (files : Files) (answer : Answer) : Type 0 where
-  pub statements : Option (List Statement)
-  pub reads : Reads script statements
-  pub is : answer ≡ answer_of files statements
+-- the statements of a script, or that it isn't well-formed
+abbrev pub IsScript : List ℕ → Option (List Statement) → Type 0
+IsScript script None = (statements : List Statement) → ¬ IsFirstForm script statements
+IsScript script (Some statements) = IsFirstForm script statements
 
--- a sink that held `old` got the whole text exactly where the run ended as the text does, and else its beginning
+-- the file that a folder gives under a name: what it holds there; where its contents are unknown, a file that a read can give, or a miss was counted
+abbrev pub IsGiven : FolderState → FolderState → List ℕ → Option (List ℕ) → Type 0
+IsGiven old new name file =
+    MatchOption old.files (IsSomeAnd file (λ bytes. length bytes ≤ max_file_bytes) ⊎ Rose old.misses new.misses) (λ files. file ≡ file_of files name)
+
+-- the file that a folder gives for a statement: only LOAD asks for one
+abbrev pub IsGivenFor : FolderState → FolderState → Statement → Option (List ℕ) → Type 0
+IsGivenFor old new (CreateTable name columns) file = file ≡ None
+IsGivenFor old new (Load file_name name) file = IsGiven old new file_name file
+IsGivenFor old new (Select name) file = file ≡ None
+
+-- the answer that is due to a script over a folder, of which this is known before and after the run
+pub record IsAnswer (script : List ℕ) (old new : FolderState) (answer : Answer) : Type 0 where
+  pub steps : Option (List Step)
+  pub reads : IsScript script (option_map (λ list. map (λ step. step.statement) list) steps)
+  pub given : IfSome steps (All (λ step. IsGivenFor old new step.statement step.file))
+  pub is : answer ≡ answer_of steps
+
+-- a sink that held `old` got the whole text where the run ended as the text does, and at least a beginning of it in any case
+-- (after a fault the whole text may have gone out too)
 pub record Carries (answer : Answer) (ended : Status) (old new : Option (List ℕ)) : Type 0 where
   pub done : ended ≡ status.Done → (answer.refused ≡ false) × Appends old new answer.text
   pub refused : ended ≡ status.Refused → (answer.refused ≡ true) × Appends old new answer.text
   pub beginning : (n : ℕ) × Appends old new (take n answer.text)
 
 -- the run carried out the script's statements, up to and with the first refusal, or a part of them
-abbrev pub Serves : List ℕ → Files → Status → Option (List ℕ) → Option (List ℕ) → Type 0
-Serves script files ended old new = (answer : Answer) × IsAnswer script files answer × Carries answer ended old new
+pub record Serves (script : List ℕ) (old new : FolderState) (ended : Status) (before after : Option (List ℕ)) : Type 0 where
+  pub answer : Answer
+  pub due : IsAnswer script old new answer
+  pub carries : Carries answer ended before after
 
--- the run ended as the script's text does, or for want of memory
-abbrev pub IsDecided : List ℕ → Files → Status → Type 0
-IsDecided script files ended = (answer : Answer) × IsAnswer script files answer × ((ended ≡ (if answer.refused then status.Refused else status.Done)) ⊎ (ended ≡ status.NoMemory))
+-- the run ended as the script's text does, or out of memory
+pub record IsDecided (script : List ℕ) (old new : FolderState) (ended : Status) : Type 0 where
+  pub answer : Answer
+  pub due : IsAnswer script old new answer
+  pub ends : (ended ≡ (if answer.refused then status.Refused else status.Done)) ⊎ (ended ≡ status.NoMemory)
 
--- the text of a statement's outcome
-abbrev pub text_of : Outcome → List ℕ
-text_of (Prints text state) = text
-text_of (Refuses line) = line
-
--- a run that ends at a statement: refused where that is due, with the whole line, and else for another cause
-pub record EndsAt (due : Outcome) (ended : Status) (old new : Option (List ℕ)) : Type 0 where
-  pub refused : ended ≡ status.Refused → (due ≡ Refuses (text_of due)) × Appends old new (text_of due)
-  pub not_done : ended ≡ status.Done → ⊥
-  pub beginning : (n : ℕ) × Appends old new (take n (text_of due))
-
--- a run whose words were refused: the sink got the whole usage line exactly where the run ended so, and else its beginning
+-- a run whose arguments were refused: the sink got the whole usage line where the run ended so, and at least a beginning of it in any case
 pub record RefusesWords (line : List ℕ) (ended : Status) (old new : Option (List ℕ)) : Type 0 where
   pub kinds : (ended ≡ status.BadWords) ⊎ ((ended ≡ status.WriteFault) ⊎ (ended ≡ status.NoMemory))
   pub whole : ended ≡ status.BadWords → Appends old new line
   pub beginning : (n : ℕ) × Appends old new (take n line)
-
--- a fact of what a source had left and what a folder held, where both tell it
-abbrev pub IfTold : Option (List ℕ) → Option Files → (List ℕ → Files → Type 0) → Type 0
-IfTold source folder fact = IfSome source (λ script. IfSome folder (λ files. fact script files))

@@ -1,7 +1,7 @@
 -- The first two words of a row as one number.
 use Rattle.std.specs.Prelude.{◌≡◌, ◌≤ℤ◌, ◌<ℤ◌, ◌+ℤ◌, ◌*ℤ◌, pos, ℕ, ℤ, slice_get, unwrap_or}
 use Rattle.heap_pages.specs.Rows.{Row}
-use Rattle.shell.specs.Load.{null_word}
+use Rattle.shell.specs.Word.{null_word}
 
 -- the word in this place, and the least one where the row has none
 abbrev pub word_at : ℕ → Row → ℤ

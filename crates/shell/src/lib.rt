@@ -9,6 +9,9 @@ mod load;
 mod order;
 mod print;
 mod program;
+mod query;
+mod refusal;
+mod row;
 mod scan;
 mod script;
 mod session;
@@ -17,7 +20,9 @@ mod statement;
 mod status;
 mod stop;
 mod table;
+mod word;
 
+pub use order::in_order_ascends;
 pub use program::{one_answer_is_due, serve};
 pub use status::Status;
 

@@ -1,14 +1,14 @@
-// The lines that aren't rows.
-ghost use Rattle.std.specs.Prelude.{◌≡◌, ◌++◌, IfOk, OnOk, codes, decimal};
-ghost use Rattle.shell.specs.Printed.{report_line, load_line, error_line};
+// The printed lines that are neither rows nor refusals.
+ghost use Rattle.std.specs.Prelude.{◌≡◌, ◌++◌, IfOk, OnOk, decimal};
+ghost use Rattle.shell.specs.Printed.{report_line, load_line};
 
 use itoa::Buffer;
 use std::alloc::{AllocError, Global};
 
-/// What is printed where the command line isn't of the form.
+/// What is printed where the arguments of the command line aren't well-formed.
 pub(crate) static USAGE: &str = "usage: bouquet [--max-work N] [--demo N]\n";
 
-/// The line that a load prints.
+/// The line that a load of so many rows prints.
 pub(crate) fn load_text(alloc: Global, rows: u64) -> Result<Vec<u8>, AllocError>
     ensures { IfOk result (λ text. text.items ≡ load_line rows) }
 {
@@ -27,28 +27,6 @@ pub(crate) fn push_report(text: &mut Vec<u8>, rows: u64, work: u128) -> Result<(
     text.extend_from_slice(b" work=")?;
     push_number(text, work)?;
     text.extend_from_slice(b" runs=1 contour=1 plan=S0\n")
-}
-
-/// The line of a refusal of this kind, which names what it is about.
-pub(crate) fn refusal(alloc: Global, kind: &str, name: &[u8]) -> Result<Vec<u8>, AllocError>
-    ensures { IfOk result (λ line. line.items ≡ error_line (kind.now ++ name.now)) }
-{
-    let mut line = Vec::from_slice(alloc, b"error ")?;
-    line.extend_from_slice(kind.as_bytes())?;
-    line.extend_from_slice(name)?;
-    line.push(b'\n')?;
-    Ok(line)
-}
-
-/// The line of a refusal of so many rows.
-pub(crate) fn row_limit(alloc: Global, rows: u64) -> Result<Vec<u8>, AllocError>
-    ensures { IfOk result (λ line. line.items ≡ error_line (codes "E12 limit rows " ++ decimal rows)) }
-{
-    refusal(
-        alloc,
-        "E12 limit rows ",
-        Buffer::new().format(rows).as_bytes(),
-    )
 }
 
 fn push_number(text: &mut Vec<u8>, number: u128) -> Result<(), AllocError>

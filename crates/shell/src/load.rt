@@ -1,35 +1,32 @@
-// Reads the rows of a file: CSV with a header, as RFC 4180 has it and the csv crate reads it.
+// Reads the rows of a file: CSV with a header (RFC 4180), as the csv crate reads it. It never gives a part of a file.
 ghost use Rattle.std.specs.Prelude.{◌≡◌, ◌≢◌, ◌↔◌, OnErr, ◌+◌, ◌*◌, ◌<◌, ◌≤◌, [], ◌∷◌, ◌++◌, map, length, All, Some, None, IfSome, IfOk, OnOk, IfErr, IsErrOf, if◌then◌else◌, bytes_eq};
 ghost use Rattle.std.specs.Option.{option_and_then};
 ghost use Rattle.std.specs.Str.Parse.{without_leading_sign, starts_with_minus};
 ghost use Rattle.csv.specs.Reading.{records, strip_bom, default_config};
 ghost use Rattle.csv.specs.Records.{fields_of, field_at};
-ghost use Rattle.heap_pages.specs.Rows.{cut_rows};
+ghost use Rattle.heap_pages.specs.Limits.{max_rows};
+ghost use Rattle.heap_pages.specs.Refused.{KeepsRowLimit};
 ghost use Rattle.shell.specs.Words.{upper};
-ghost use Rattle.shell.specs.Load.{integer_of, word_of, all_of, row_of, same_texts, rows_of, load_of};
+ghost use Rattle.shell.specs.Word.{max_integer};
+ghost use Rattle.shell.specs.Load.{integer_of, field_word, all_of, entry_row, same_texts, entry_rows, load_of};
 ghost use Rattle.shell.specs.Entries.{entries_left, GivesEntries, list_and_all, rows_within};
 ghost use Rattle.shell.specs.Digits.{magnitude_of};
 
 use crate::statement::Name;
+use crate::word::{MAX_INTEGER, NULL_WORD};
 use csv::{ByteRecord, Reader, ReaderBuilder};
 use heap_pages::{Heap, HeapFault, MAX_ROWS};
-use outside_io::FILE_BYTES;
+use outside_io::MAX_FILE_BYTES;
 use std::alloc::{AllocError, Global};
 use std::io::Read;
 use std::marker::Model;
 
-/// The word that stands for NULL, which is no INTEGER.
-pub(crate) const NULL_WORD: i64 = i64::MIN;
-
-// The greatest INTEGER; the least is its negation.
-const MOST_INTEGER: u64 = 9223372036854775807;
-
 /// Why a file gives no rows.
 #[derive(Clone, Copy, Debug, PartialEq, Eq)]
 pub(crate) enum LoadFault {
-    /// The file isn't of the form.
+    /// The file isn't well-formed.
     OtherForm,
-    /// Memory was wanted.
+    /// Out of memory.
     NoMemory,
 }
 
@@ -44,7 +41,7 @@ impl From<AllocError> for LoadFault {
     }
 }
 
-// The reader's contract leaves a fault of its source open, and a slice has none: what is left is want of memory.
+// The reader's contract leaves a fault of its source open, and a slice has none: what is left is that memory ran out.
 impl From<csv::Error> for LoadFault {
     ghost use Rattle.std.specs.Prelude.{◌≡◌};
     ghost use Rattle.shell.specs.declared.load.LoadFault.TheVariants.{NoMemory};
@@ -56,7 +53,7 @@ impl From<csv::Error> for LoadFault {
     }
 }
 
-/// The rows of a file, seen as a list of rows of one width.
+/// The rows of a file, which are of one width.
 #[derive(Drop)]
 pub(crate) struct LoadedRows {
     columns: usize,
@@ -65,35 +62,34 @@ pub(crate) struct LoadedRows {
 }
 
 impl Model for LoadedRows {
-    ghost use Rattle.std.specs.Prelude.{◌≡◌, ◌*◌, ◌≤◌, List, vec_len};
-    ghost use Rattle.heap_pages.specs.Rows.{Row, cut_rows};
-    ghost use Rattle.heap_pages.specs.declared.heap.TheConstants.{MAX_ROWS};
+    ghost use Rattle.heap_pages.specs.Rows.{cut_rows};
+    ghost use Rattle.shell.specs.Entries.{FileRows, AreCut};
+    ghost use Rattle.std.specs.Prelude.{vec_len};
 
-    ghost Value = { List Row };
+    ghost Value = { FileRows };
 
-    ghost view = { λ l. cut_rows l.columns l.rows l.words.items };
+    ghost view = { λ l. record { columns = l.columns; rows = cut_rows l.columns l.rows l.words.items } };
 
-    ghost invariant = { λ l. (vec_len l.words ≡ l.rows * l.columns) × (l.rows ≤ MAX_ROWS) };
+    ghost invariant = { λ l. AreCut l.columns l.rows (vec_len l.words) };
 }
 
-#[tactic(auto, using(crate::proofs::AppendedRows::of_loaded))]
+#[tactic(auto, using(crate::proofs::LoadedRows::of_loaded))]
 impl LoadedRows {
     /// How many rows there are.
     pub(crate) fn len(&self) -> u64
-        ensures count { result ≡ length self.now }
-        ensures few { result ≤ MAX_ROWS }
+        ensures count { result ≡ length self.now.rows }
+        ensures few { result ≤ max_rows }
     {
         self.rows
     }
 
     /// Appends the rows to a heap. A refusal leaves the heap as it was.
     pub(crate) fn append_to(self, heap: &mut Heap) -> Result<(), HeapFault>
-        requires width { All (λ row. length row ≡ heap.old.columns) self }
-        ensures rows { OnOk result (heap.new.rows ≡ heap.old.rows ++ self) }
+        requires width { self.columns ≡ heap.old.columns }
+        ensures rows { OnOk result (heap.new.rows ≡ heap.old.rows ++ self.rows) }
         ensures columns { heap.new.columns ≡ heap.old.columns }
         ensures unchanged { OnErr result (heap.new ≡ heap.old) }
-        ensures limit { IfErr result (λ fault. fault ≢ HeapFault.NoMemory → fault ≡ HeapFault.RowLimit (length heap.old.rows + length self)) }
-        ensures exactly { (MAX_ROWS < length heap.old.rows + length self) ↔ IsErrOf result (HeapFault.RowLimit (length heap.old.rows + length self)) }
+        ensures limit { KeepsRowLimit (length heap.old.rows + length self.rows) result }
     {
         heap.append_rows(self.words, self.rows)
     }
@@ -103,25 +99,25 @@ impl LoadedRows {
 #[tactic(auto, using(crate::proofs::Digits::of_digits))]
 fn magnitude_of(digits: &[u8]) -> Option<u64>
     ensures number { result ≡ magnitude_of digits.now }
-    ensures limit { IfSome result (λ number. number ≤ MOST_INTEGER) }
+    ensures limit { IfSome result (λ number. number ≤ max_integer) }
 {
     if digits.is_empty() {
         return None;
     }
     let mut value = 0u64;
     for digit in digits {
-        if !digit.is_ascii_digit() || value > MOST_INTEGER / 10 {
+        if !digit.is_ascii_digit() || value > MAX_INTEGER / 10 {
             return None;
         }
         value = value * 10 + u64::from(*digit - b'0');
     }
-    if value > MOST_INTEGER {
+    if value > MAX_INTEGER {
         return None;
     }
     Some(value)
 }
 
-// The digits behind a sign, which may be left out.
+// The digits after a sign, which may be left out.
 fn digits_of(field: &[u8]) -> &[u8]
     ensures { result.now ≡ without_leading_sign field.now }
 {
@@ -149,8 +145,8 @@ fn integer_of(field: &[u8]) -> Option<i64>
     }
 }
 
-fn word_of(field: &[u8]) -> Option<i64>
-    ensures { result ≡ word_of field.now }
+fn field_word(field: &[u8]) -> Option<i64>
+    ensures { result ≡ field_word field.now }
 {
     if field.is_empty() {
         return Some(NULL_WORD);
@@ -195,16 +191,18 @@ fn is_header(entry: &ByteRecord, columns: &[Name]) -> bool
 
 // The word of a field of an entry.
 fn word_at(entry: &ByteRecord, i: usize) -> Option<i64>
-    ensures { result ≡ option_and_then word_of (field_at (fields_of entry.now) i) }
+    ensures { result ≡ option_and_then field_word (field_at (fields_of entry.now) i) }
 {
-    word_of(entry.get(i)?)
+    field_word(entry.get(i)?)
 }
 
 // Appends the words of an entry. After a fault the first of them may be there.
 #[tactic(auto, using(crate::proofs::LoadedRows::of_rows))]
 fn push_row(entry: &ByteRecord, columns: usize, words: &mut Vec<i64>) -> Result<(), LoadFault>
-    ensures row { OnOk result (list_and_all words.old.items (row_of columns (fields_of entry.now)) ≡ Some words.new.items) }
-    ensures other_form { IsErrOf result LoadFault.OtherForm → row_of columns (fields_of entry.now) ≡ None }
+    ensures row { OnOk result (list_and_all words.old.items
+        (entry_row columns (fields_of entry.now)) ≡ Some words.new.items) }
+    ensures other_form { IsErrOf result LoadFault.OtherForm →
+        entry_row columns (fields_of entry.now) ≡ None }
 {
     if entry.len() != columns {
         return Err(LoadFault::OtherForm);
@@ -222,7 +220,8 @@ fn push_row(entry: &ByteRecord, columns: usize, words: &mut Vec<i64>) -> Result<
 fn next_entry<R: Read>(reader: &mut Reader<R>, entry: &mut ByteRecord) -> Result<bool, LoadFault>
     requires { GivesEntries R.remaining reader.old }
     ensures goes_on { OnOk result (GivesEntries R.remaining reader.new) }
-    ensures entry { IfOk result (λ found. entries_left R.remaining reader.old ≡ (if found then fields_of entry.new ∷ entries_left R.remaining reader.new else [])) }
+    ensures entry { IfOk result (λ found. entries_left R.remaining reader.old
+        ≡ (if found then fields_of entry.new ∷ entries_left R.remaining reader.new else [])) }
     ensures fault { IfErr result (λ fault. fault ≡ LoadFault.NoMemory) }
 {
     Ok(reader.read_byte_record(entry)?)
@@ -237,8 +236,10 @@ fn take_header<R: Read>(
 ) -> Result<(), LoadFault>
     requires { GivesEntries R.remaining reader.old }
     ensures goes_on { OnOk result (GivesEntries R.remaining reader.new) }
-    ensures header { OnOk result (rows_of columns.now (entries_left R.remaining reader.old) ≡ rows_within (length columns.now) (entries_left R.remaining reader.new)) }
-    ensures other_form { IsErrOf result LoadFault.OtherForm → rows_of columns.now (entries_left R.remaining reader.old) ≡ None }
+    ensures header { OnOk result (entry_rows columns.now (entries_left R.remaining reader.old)
+        ≡ rows_within (length columns.now) (entries_left R.remaining reader.new)) }
+    ensures other_form { IsErrOf result LoadFault.OtherForm →
+        entry_rows columns.now (entries_left R.remaining reader.old) ≡ None }
 {
     if next_entry(reader, entry)? && is_header(entry, columns) {
         Ok(())
@@ -256,9 +257,11 @@ fn take_rows<R: Read>(
     columns: usize,
 ) -> Result<LoadedRows, LoadFault>
     requires { GivesEntries R.remaining reader.old }
-    ensures rows { IfOk result (λ rows. rows_within columns (entries_left R.remaining reader.old) ≡ Some rows) }
-    ensures width { IfOk result (λ rows. All (λ row. length row ≡ columns) rows) }
-    ensures other_form { IsErrOf result LoadFault.OtherForm → rows_within columns (entries_left R.remaining reader.old) ≡ None }
+    ensures rows { IfOk result (λ loaded.
+        rows_within columns (entries_left R.remaining reader.old) ≡ Some loaded.rows) }
+    ensures width { IfOk result (λ loaded. loaded.columns ≡ columns) }
+    ensures other_form { IsErrOf result LoadFault.OtherForm →
+        rows_within columns (entries_left R.remaining reader.old) ≡ None }
 {
     let mut words = Vec::new(alloc);
     for rows in 0..MAX_ROWS + 1 {
@@ -278,7 +281,8 @@ fn take_rows<R: Read>(
 #[tactic(auto, unfolding(crate::specs::Entries::entries_left))]
 fn reader_of<'a>(alloc: Global, bytes: &'a [u8]) -> Reader<&'a [u8]>
     ensures fresh { GivesEntries ⟦<&'a [u8] as Read>⟧.remaining result }
-    ensures entries { entries_left ⟦<&'a [u8] as Read>⟧.remaining result ≡ records default_config (strip_bom bytes.now) }
+    ensures entries { entries_left ⟦<&'a [u8] as Read>⟧.remaining result
+        ≡ records default_config (strip_bom bytes.now) }
 {
     ReaderBuilder::new()
         .has_headers(false)
@@ -292,11 +296,12 @@ pub(crate) fn read_rows(
     columns: &[Name],
     bytes: &[u8],
 ) -> Result<LoadedRows, LoadFault>
-    ensures rows { IfOk result (λ rows. load_of columns.now bytes.now ≡ Some rows) }
-    ensures width { IfOk result (λ rows. All (λ row. length row ≡ length columns.now) rows) }
-    ensures other_form { IsErrOf result LoadFault.OtherForm → load_of columns.now bytes.now ≡ None }
+    ensures rows { IfOk result (λ loaded. load_of columns.now bytes.now ≡ Some loaded.rows) }
+    ensures width { IfOk result (λ loaded. loaded.columns ≡ length columns.now) }
+    ensures other_form { IsErrOf result LoadFault.OtherForm →
+        load_of columns.now bytes.now ≡ None }
 {
-    if bytes.len() as u64 > FILE_BYTES {
+    if bytes.len() as u64 > MAX_FILE_BYTES {
         return Err(LoadFault::OtherForm);
     }
     let mut reader = reader_of(alloc, bytes);

@@ -1,12 +1,17 @@
-// Rows as they are sorted for printing.
-ghost use Rattle.std.specs.Prelude.{◌≡◌};
+// Rows in ascending order, as they are printed: NULL first, then numbers by value, the leftmost column first. A row is lent
+// by its table and never copied.
+ghost use Rattle.std.specs.Prelude.{◌≡◌, List, IsPermutation, IsSorted, IfOk};
 ghost use Rattle.std.proofs.Common.{rules};
 ghost use Rattle.std.specs.Cmp.{partial_order_from_own_ties, eq_by_cmp_equiv, int_cmp_total};
 ghost use Rattle.std.specs.Cmp.Rules.{comparing};
 ghost use Rattle.std.specs.Ordering.{as_partial_cmp, eq_by_cmp};
+ghost use Rattle.heap_pages.specs.Rows.{Row};
 ghost use Rattle.shell.specs.Order.{row_cmp, in_order};
 ghost use Rattle.shell.specs.SortKey.{word_at, key_of};
 
+use crate::row::LentRow;
+use crate::word::NULL_WORD;
+use std::alloc::{AllocError, Global};
 use std::cmp::Ordering;
 use std::marker::Model;
 
@@ -34,7 +39,7 @@ impl<'a> Model for SortedRow<'a> {
 fn word_at(row: &[i64], place: usize) -> i64
     ensures { result ≡ word_at place row.now }
 {
-    row.get(place).copied().unwrap_or(i64::MIN)
+    row.get(place).copied().unwrap_or(NULL_WORD)
 }
 
 // Two words as one number, which is ordered as they are.
@@ -45,7 +50,7 @@ fn key_of(first: i64, second: i64) -> i128
 }
 
 impl<'a> SortedRow<'a> {
-    pub(crate) fn new(row: &'a [i64]) -> SortedRow<'a>
+    fn new(row: &'a [i64]) -> SortedRow<'a>
         ensures { result ≡ row.now }
     {
         let (first, second) = (word_at(row, 0), word_at(row, 1));
@@ -104,9 +109,31 @@ impl Ord for SortedRow<'_> {
     }
 }
 
-/// Puts rows in ascending order.
-pub(crate) fn sort_rows(rows: &mut Vec<SortedRow<'_>>)
-    ensures { rows.new.items ≡ in_order rows.old.items }
+// Rows with their keys.
+fn with_keys<'a>(alloc: Global, rows: &[LentRow<'a>]) -> Result<Vec<SortedRow<'a>>, AllocError>
+    ensures { IfOk result (λ keyed. keyed.items ≡ rows.now) }
 {
-    rows.sort_unstable();
+    let mut keyed = Vec::with_capacity(alloc, rows.len())?;
+    for row in rows {
+        keyed.push(SortedRow::new(row.words()))?;
+    }
+    Ok(keyed)
 }
+
+/// The rows in ascending order, each as often as it stands there.
+pub(crate) fn in_order<'a>(
+    alloc: Global,
+    rows: &[LentRow<'a>],
+) -> Result<Vec<SortedRow<'a>>, AllocError>
+    ensures { IfOk result (λ sorted. sorted.items ≡ in_order rows.now) }
+{
+    let mut sorted = with_keys(alloc, rows)?;
+    sorted.sort_unstable();
+    Ok(sorted)
+}
+
+/// Rows in order are the same rows, each as often, and they ascend.
+pub fn in_order_ascends()
+    ensures permutation { (rows : List Row) → IsPermutation rows (in_order rows) }
+    ensures sorted { (rows : List Row) → IsSorted row_cmp (in_order rows) }
+{}

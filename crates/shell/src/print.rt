@@ -1,13 +1,13 @@
-// Prints rows as CSV, as RFC 4180 has it and the csv crate writes it. Each error of the csv crate is want of memory,
-// since nothing else can fail where a vector is written to and each row is as wide as the header.
+// Prints rows as CSV (RFC 4180), as the csv crate writes it. Each error of the csv crate is want of memory, since nothing
+// else can fail where a vector is written to and each row is as wide as the header.
 ghost use Rattle.std.specs.Prelude.{◌≡◌, [], ◌∷◌, ◌++◌, IfOk, OnOk, flat_map};
 ghost use Rattle.csv.specs.Writing.{row_text, default_writer};
 ghost use Rattle.shell.specs.Printed.{record_of, field_of, words_of};
 ghost use Rattle.shell.specs.TextWriter.{WritesFields, EndsRecord, WritesText};
 
-use crate::load::NULL_WORD;
 use crate::order::SortedRow;
 use crate::statement::Name;
+use crate::word::NULL_WORD;
 use csv::Writer;
 use itoa::Buffer;
 use std::alloc::{AllocError, Global};
@@ -62,7 +62,7 @@ fn write_row(writer: &mut TextWriter, row: &[i64]) -> Result<(), AllocError>
     end_record(writer)
 }
 
-// The words of rows, one row behind the other.
+// The words of rows, one row after the other.
 fn gather(rows: &[SortedRow<'_>], words: &mut Vec<i64>) -> Result<(), AllocError>
     ensures { OnOk result (words.new.items ≡ words_of rows.now) }
 {
@@ -116,7 +116,8 @@ pub(crate) fn print_rows(
     columns: &[Name],
     rows: &[SortedRow<'_>],
 ) -> Result<Vec<u8>, AllocError>
-    ensures { IfOk result (λ text. text.items ≡ row_text default_writer columns.now ++ flat_map record_of rows.now) }
+    ensures { IfOk result (λ text. text.items
+        ≡ row_text default_writer columns.now ++ flat_map record_of rows.now) }
 {
     let mut writer = Writer::from_writer(Vec::new(alloc));
     write_header(&mut writer, columns)?;

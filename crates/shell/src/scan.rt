@@ -1,11 +1,12 @@
-// A scan of a whole table, which pays for all that it does.
+// A scan of a whole table: its rows in the table's order. It pays for the opening, each page, each row looked at and each
+// row given, and never reads a row unpaid.
 ghost use Rattle.std.specs.Prelude.{◌≡◌, ◌+◌, ◌^◌, ◌<◌, ◌≤◌, length, IfOk, OnOk};
-ghost use Rattle.work_ledger.specs.declared.charge.TheConstants.{PAGE, ROW, EMIT};
+ghost use Rattle.work_ledger.specs.Charges.{page_charge, row_charge, emit_charge};
 ghost use Rattle.heap_pages.specs.Rows.{pages_of, rows_on_page};
 ghost use Rattle.shell.specs.Printed.{scan_work};
 ghost use Rattle.shell.specs.Scan.{rows_before, page_work};
 
-use crate::order::SortedRow;
+use crate::row::LentRow;
 use heap_pages::{Heap, PageView};
 use std::alloc::{AllocError, Global};
 use work_ledger::{Ledger, charge};
@@ -15,10 +16,12 @@ pub(crate) fn scan<'h>(
     alloc: Global,
     heap: &'h Heap,
     ledger: &mut Ledger,
-) -> Result<Vec<SortedRow<'h>>, AllocError>
-    requires { ledger.old.spent + scan_work heap.now.columns (length heap.now.rows) ≤ ledger.old.limit }
+) -> Result<Vec<LentRow<'h>>, AllocError>
+    requires { ledger.old.spent + scan_work heap.now.columns (length heap.now.rows)
+        ≤ ledger.old.limit }
     ensures rows { IfOk result (λ rows. rows.items ≡ heap.now.rows) }
-    ensures work { OnOk result (ledger.new.spent ≡ ledger.old.spent + scan_work heap.now.columns (length heap.now.rows)) }
+    ensures work { OnOk result (ledger.new.spent
+        ≡ ledger.old.spent + scan_work heap.now.columns (length heap.now.rows)) }
     ensures limit { ledger.new.limit ≡ ledger.old.limit }
 {
     let mut rows = Vec::with_capacity(alloc, heap.rows() as usize)?;
@@ -29,12 +32,12 @@ pub(crate) fn scan<'h>(
     Ok(rows)
 }
 
-// Puts the rows of page `no` behind those of the pages before it.
+// Puts the rows of page `no` after those of the pages before it.
 fn scan_page<'h>(
     heap: &'h Heap,
     no: u64,
     ledger: &mut Ledger,
-    rows: &mut Vec<SortedRow<'h>>,
+    rows: &mut Vec<LentRow<'h>>,
 ) -> Result<(), AllocError>
     requires there { no < pages_of heap.now.columns (length heap.now.rows) }
     requires granted { ledger.old.spent + page_work heap.now no ≤ ledger.old.limit }
@@ -53,9 +56,9 @@ fn scan_page<'h>(
 // Opens a page where its charge fits.
 fn open_page(heap: &Heap, no: u64, ledger: &mut Ledger) -> PageView
     requires there { no < pages_of heap.now.columns (length heap.now.rows) }
-    requires granted { ledger.old.spent + PAGE ≤ ledger.old.limit }
+    requires granted { ledger.old.spent + page_charge ≤ ledger.old.limit }
     ensures number { result.number ≡ no }
-    ensures work { ledger.new.spent ≡ ledger.old.spent + PAGE }
+    ensures work { ledger.new.spent ≡ ledger.old.spent + page_charge }
     ensures limit { ledger.new.limit ≡ ledger.old.limit }
 {
     let Ok(view) = heap.page(no, ledger) else {
@@ -64,27 +67,28 @@ fn open_page(heap: &Heap, no: u64, ledger: &mut Ledger) -> PageView
     view
 }
 
-// Puts the row in this slot behind those before it, where its charges fit.
+// Puts the row in this slot after those before it, where its charges fit.
 #[tactic(auto, using(crate::proofs::Slots::next_slot))]
 fn scan_row<'h>(
     heap: &'h Heap,
     view: &PageView,
     slot: usize,
     ledger: &mut Ledger,
-    rows: &mut Vec<SortedRow<'h>>,
+    rows: &mut Vec<LentRow<'h>>,
 ) -> Result<(), AllocError>
-    requires there { slot < rows_on_page heap.now.columns (length heap.now.rows) view.now.number }
-    requires granted { ledger.old.spent + (ROW + EMIT) ≤ ledger.old.limit }
+    requires there { slot
+        < rows_on_page heap.now.columns (length heap.now.rows) view.now.number }
+    requires granted { ledger.old.spent + (row_charge + emit_charge) ≤ ledger.old.limit }
     requires before { rows.old.items ≡ rows_before heap.now view.now.number slot }
     ensures after { OnOk result (rows.new.items ≡ rows_before heap.now view.now.number (slot + 1)) }
-    ensures work { ledger.new.spent ≡ ledger.old.spent + (ROW + EMIT) }
+    ensures work { ledger.new.spent ≡ ledger.old.spent + (row_charge + emit_charge) }
     ensures limit { ledger.new.limit ≡ ledger.old.limit }
 {
     let Ok(row) = heap.row_of(view, slot, ledger) else {
         unreachable!()
     };
     pay(ledger, charge::EMIT);
-    rows.push(SortedRow::new(row))?;
+    rows.push(LentRow::new(row))?;
     Ok(())
 }
 

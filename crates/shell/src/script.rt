@@ -1,7 +1,9 @@
-// Reads a script of three lines: a table is made, loaded and printed.
+// Reads a script of three lines: a table is made, loaded and printed. It relies on nothing but the bytes, and never
+// carries anything out.
 ghost use Rattle.std.specs.Prelude.{◌≡◌, [], map, IfOk, IsTrue, option_map, bytes_eq};
 ghost use Rattle.std.specs.List.{list_any, list_all, prefix_len};
-ghost use Rattle.shell.specs.Serve.{Reads};
+ghost use Rattle.heap_pages.specs.Limits.{max_columns};
+ghost use Rattle.shell.specs.Serve.{IsScript};
 ghost use Rattle.shell.specs.Words.{upper, is_word_byte, is_file_byte, is_word, is_name, is_file_name, reserved};
 ghost use Rattle.shell.specs.ScriptReader.{after, run_before, columns_from, opening_of, ending_of, spelling_of, are_different, is_well_formed, statements_of};
 
@@ -11,10 +13,10 @@ use std::alloc::{AllocError, Global};
 use std::marker::Model;
 
 /// The most bytes of a script.
-pub(crate) const SCRIPT_BYTES: usize = 16777216;
+pub(crate) const MAX_SCRIPT_BYTES: usize = 16777216;
 
 // The most bytes of a name, and of a file's name.
-const NAME_BYTES: usize = 128;
+const MAX_NAME_BYTES: usize = 128;
 
 // The words that can't be names.
 static RESERVED: [&[u8]; 20] = [
@@ -22,7 +24,7 @@ static RESERVED: [&[u8]; 20] = [
     b"NOT", b"NULL", b"ON", b"OR", b"SELECT", b"TABLE", b"TO", b"USING", b"VARCHAR", b"WHERE",
 ];
 
-// The words behind the columns.
+// The words after the columns.
 #[derive(Drop)]
 struct Ending<'a> {
     file: &'a [u8],
@@ -112,13 +114,13 @@ fn is_word(bytes: &[u8]) -> bool
 fn is_name(word: &[u8]) -> bool
     ensures { result ≡ is_name word.now }
 {
-    is_word(word) && word.len() <= NAME_BYTES && !is_reserved(word)
+    is_word(word) && word.len() <= MAX_NAME_BYTES && !is_reserved(word)
 }
 
 fn is_file_name(name: &[u8]) -> bool
     ensures { result ≡ is_file_name name.now }
 {
-    !name.is_empty() && name.len() <= NAME_BYTES && are_file_bytes(name)
+    !name.is_empty() && name.len() <= MAX_NAME_BYTES && are_file_bytes(name)
 }
 
 fn are_names(words: &[&[u8]]) -> bool
@@ -148,7 +150,7 @@ fn file_len(bytes: &[u8]) -> usize
     bytes.iter().take_while(|byte| is_file_byte(**byte)).count()
 }
 
-// The longest run of a word's bytes, and what follows the text behind it, where it stands there.
+// The longest run of a word's bytes, and what follows the text after it, where it stands there.
 #[tactic(auto, using(crate::proofs::ScriptSteps::script_steps), unfolding(crate::specs::ScriptReader::run_before))]
 fn word_before<'a>(text: &[u8], bytes: &'a [u8]) -> Option<(&'a [u8], &'a [u8])>
     ensures { option_map (λ front. (front.0.now, front.1.now)) result ≡ run_before is_word_byte text.now bytes.now }
@@ -165,24 +167,24 @@ fn file_before<'a>(text: &[u8], bytes: &'a [u8]) -> Option<(&'a [u8], &'a [u8])>
     Some((name, after(text, rest)?))
 }
 
-// The columns, as long as a comma stands behind one, and what follows the last one.
+// The columns, as long as a comma stands after one, and what follows the last one.
 #[tactic(auto, using(crate::proofs::ScriptSteps::column_steps))]
 fn columns_of<'a>(
     alloc: Global,
     bytes: &'a [u8],
 ) -> Result<Option<(Vec<&'a [u8]>, &'a [u8])>, AllocError>
-    ensures { IfOk result (λ read. option_map (λ r. (map (λ c. c.now) r.0.items, r.1.now)) read ≡ columns_from MAX_COLUMNS [] bytes.now) }
+    ensures { IfOk result (λ read. option_map (λ r. (map (λ c. c.now) r.0.items, r.1.now)) read ≡ columns_from max_columns [] bytes.now) }
 {
     let mut columns = Vec::new(alloc);
     let mut rest = bytes;
     for _ in 0..MAX_COLUMNS {
-        let Some((column, behind)) = word_before(b" INTEGER", rest) else {
+        let Some((column, after_column)) = word_before(b" INTEGER", rest) else {
             return Ok(None);
         };
         columns.push(column)?;
-        match after(b", ", behind) {
+        match after(b", ", after_column) {
             Some(next) => rest = next,
-            None => return Ok(Some((columns, behind))),
+            None => return Ok(Some((columns, after_column))),
         }
     }
     Ok(None)
@@ -234,7 +236,7 @@ fn spelling_of<'a>(alloc: Global, script: &'a [u8]) -> Result<Option<Places<'a>>
     }))
 }
 
-// Whether no word is one of those behind it, in any case.
+// Whether no word is one of those after it, in any case.
 fn are_different(words: &[&[u8]]) -> bool
     ensures { result ≡ are_different (map upper (map (λ word. word.now) words.now)) }
 {
@@ -304,14 +306,15 @@ fn statements_of(alloc: Global, spelling: &Places<'_>) -> Result<Vec<Statement>,
     Ok(statements)
 }
 
-/// The statements of a script, or None where it isn't of the form.
+/// The statements of a script, or None where it isn't well-formed.
 pub(crate) fn read_script(
     alloc: Global,
     script: &[u8],
 ) -> Result<Option<Vec<Statement>>, AllocError>
-    ensures { IfOk result (λ read. Reads script.now (option_map (λ statements. statements.items) read)) }
+    ensures { IfOk result (λ read.
+        IsScript script.now (option_map (λ statements. statements.items) read)) }
 {
-    if script.len() > SCRIPT_BYTES {
+    if script.len() > MAX_SCRIPT_BYTES {
         return Ok(None);
     }
     match spelling_of(alloc, script)? {

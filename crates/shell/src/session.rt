@@ -1,18 +1,20 @@
-// What the statements so far have made, and what one statement more does.
-ghost use Rattle.std.specs.Prelude.{◌≡◌, ◌≤◌, [], length, OnOk, Some, None, IfOk, IfErr, OnErr, IfSome, IsErrOf};
-ghost use Rattle.outside_io.specs.Count.{Rose};
-ghost use Rattle.outside_io.specs.Files.{file_of};
-ghost use Rattle.heap_pages.specs.declared.heap.TheConstants.{MAX_COLUMNS};
-ghost use Rattle.shell.specs.Printed.{answer_text};
-ghost use Rattle.shell.specs.Script.{NamedTable, Prints, HasColumns, outcome, load_file, at_table};
-ghost use Rattle.shell.specs.Stop.{StopsAt, Answers};
+// What the statements so far have made, and what one statement more does. A statement that stops changes nothing.
+ghost use Rattle.std.specs.Prelude.{◌≡◌, ◌+◌, ◌^◌, ◌≤◌, [], length, OnOk, Some, None, IfOk, IfErr, OnErr, IsErrOf};
+ghost use Rattle.outside_io.specs.Files.{OnlyReads};
+ghost use Rattle.heap_pages.specs.Limits.{max_columns};
+ghost use Rattle.shell.specs.Limits.{max_work};
+ghost use Rattle.shell.specs.Script.{HasColumns, Refuses, at_table, select_all};
+ghost use Rattle.shell.specs.Stop.{StopsAt};
+ghost use Rattle.shell.specs.Due.{ReadsFile, ReturnsDue, LoadsFile, IsCarriedOut};
 
+use crate::refusal::Refusal;
 use crate::statement::{FileName, Name, Names, Statement};
-use crate::stop::{Stop, refused};
+use crate::stop::Stop;
 use crate::table::Table;
 use outside_io::{FileFault, Folder};
 use std::alloc::Global;
 use std::marker::Model;
+use work_ledger::Ledger;
 
 /// The table that the statements so far have made.
 #[derive(Drop)]
@@ -21,36 +23,48 @@ pub(crate) struct Session {
 }
 
 impl Model for Session {
-    ghost use Rattle.shell.specs.Script.{State};
+    ghost use Rattle.shell.specs.Script.{SessionState};
 
-    ghost Value = { State };
+    ghost Value = { SessionState };
 
     ghost view = { λ s. s.table };
 }
 
-// The bytes of a file.
-fn read_file<F: Folder>(alloc: Global, name: &FileName, folder: &mut F) -> Result<Vec<u8>, Stop>
-    ensures bytes { IfOk result (λ bytes. IfSome (F.files folder.old) (λ files. file_of files name.now ≡ Some bytes.items)) }
-    ensures stopped { IfErr result (λ stop. IfSome (F.files folder.old) (λ files. (table : NamedTable) → StopsAt (load_file table name.now (file_of files name.now)) stop)) }
-    ensures same { F.files folder.new ≡ F.files folder.old }
-    ensures failed { IsErrOf result Stop.ReadFault → Rose (F.read_faults folder.old) (F.read_faults folder.new) }
-    ensures never_falls { F.read_faults folder.old ≤ F.read_faults folder.new }
+// The folder has no file of this name.
+fn absent_file(alloc: Global, name: &FileName) -> Stop
+    ensures refusal { StopsAt (Refuses (Refusal.AbsentFile name.now)) result }
+    ensures no_fault { result ≡ Stop.ReadFault → ⊥ }
 {
-    match folder.read(alloc, name.as_str()) {
-        Ok(bytes) => Ok(bytes),
-        Err(FileFault::Absent) => Err(refused(alloc, "E09 absent ", name.as_str().as_bytes())),
-        Err(FileFault::TooLong { .. }) => Err(refused(alloc, "E00 later file", b"")),
-        Err(FileFault::Failed) => Err(Stop::ReadFault),
-        Err(FileFault::NoMemory) => Err(Stop::NoMemory),
+    match name.copy(alloc) {
+        Ok(name) => Stop::Refused(Refusal::AbsentFile(name)),
+        Err(_) => Stop::NoMemory,
     }
 }
 
-// The table isn't there.
+// There is no table of this name.
 fn no_table(alloc: Global, name: &Name) -> Stop
-    ensures line { StopsAt (at_table None name.now (λ table. Prints [] None)) result }
+    ensures refusal { StopsAt (Refuses (Refusal.NoTable name.now)) result }
     ensures no_fault { result ≡ Stop.ReadFault → ⊥ }
 {
-    refused(alloc, "E03 table ", name.bytes())
+    match name.copy(alloc) {
+        Ok(name) => Stop::Refused(Refusal::NoTable(name)),
+        Err(_) => Stop::NoMemory,
+    }
+}
+
+// The bytes of a file.
+fn read_file<F: Folder>(alloc: Global, name: &FileName, folder: &mut F) -> Result<Vec<u8>, Stop>
+    ensures file { ReadsFile name.now (F.state folder.old) (F.state folder.new) result }
+    ensures folder { OnlyReads (IsErrOf result Stop.ReadFault) ⊥
+        (F.state folder.old) (F.state folder.new) }
+{
+    match folder.read(alloc, name.as_str()) {
+        Ok(bytes) => Ok(bytes),
+        Err(FileFault::Absent) => Err(absent_file(alloc, name)),
+        Err(FileFault::TooLong { .. }) => Err(Stop::Refused(Refusal::LaterFile)),
+        Err(FileFault::Failed) => Err(Stop::ReadFault),
+        Err(FileFault::NoMemory) => Err(Stop::NoMemory),
+    }
 }
 
 impl Session {
@@ -64,8 +78,9 @@ impl Session {
     // Makes a table, which prints nothing.
     fn create(&mut self, alloc: Global, name: &Name, columns: &Names) -> Result<Vec<u8>, Stop>
         requires some { 1 ≤ length columns.now }
-        requires few { length columns.now ≤ MAX_COLUMNS }
-        ensures made { OnOk result (self.new ≡ Some (record { name = name.now; columns = columns.now; rows = [] })) }
+        requires few { length columns.now ≤ max_columns }
+        ensures made { OnOk result (self.new
+            ≡ Some (record { name = name.now; columns = columns.now; rows = [] })) }
         ensures text { IfOk result (λ text. text.items ≡ []) }
         ensures only_memory { IfErr result (λ stop. stop ≡ Stop.NoMemory) }
         ensures unchanged { OnErr result (self.new ≡ self.old) }
@@ -82,11 +97,11 @@ impl Session {
         name: &Name,
         folder: &mut F,
     ) -> Result<Vec<u8>, Stop>
-        ensures due { IfSome (F.files folder.old) (λ files. Answers (at_table self.old name.now (λ table. load_file table file.now (file_of files file.now))) result self.new) }
+        ensures due { LoadsFile file.now name.now (F.state folder.old) (F.state folder.new)
+            self.old self.new result }
         ensures unchanged { OnErr result (self.new ≡ self.old) }
-        ensures same { F.files folder.new ≡ F.files folder.old }
-        ensures failed { IsErrOf result Stop.ReadFault → Rose (F.read_faults folder.old) (F.read_faults folder.new) }
-        ensures never_falls { F.read_faults folder.old ≤ F.read_faults folder.new }
+        ensures folder { OnlyReads (IsErrOf result Stop.ReadFault) ⊥
+            (F.state folder.old) (F.state folder.new) }
     {
         let Some(table) = &mut self.table else {
             return Err(no_table(alloc, name));
@@ -102,8 +117,11 @@ impl Session {
     }
 
     // Answers a query of the table of this name.
-    fn select(&self, alloc: Global, name: &Name) -> Result<Vec<u8>, Stop>
-        ensures due { Answers (at_table self.now name.now (λ table. Prints (answer_text table.columns table.rows) self.now)) result self.now }
+    fn select(&self, alloc: Global, name: &Name, ledger: &mut Ledger) -> Result<Vec<u8>, Stop>
+        requires room { ledger.old.spent + max_work ≤ 2 ^ 126 }
+        ensures due { ReturnsDue (at_table self.now name.now (λ table. select_all table self.now))
+            result self.now ledger.old ledger.new }
+        ensures within { OnOk result (ledger.new.spent ≤ ledger.old.spent + max_work) }
         ensures no_fault { IsErrOf result Stop.ReadFault → ⊥ }
     {
         let Some(table) = &self.table else {
@@ -112,30 +130,33 @@ impl Session {
         if !table.is_named(name) {
             return Err(no_table(alloc, name));
         }
-        match table.answer(alloc) {
+        match table.answer(alloc, ledger) {
             Ok(text) => Ok(text),
             Err(_) => Err(Stop::NoMemory),
         }
     }
 
-    /// Carries a statement out and answers what it prints. One that is stopped changes nothing.
+    /// Carries a statement out and returns what it prints. One that stops changes nothing.
     pub(crate) fn carry_out<F: Folder>(
         &mut self,
         alloc: Global,
         statement: &Statement,
         folder: &mut F,
+        ledger: &mut Ledger,
     ) -> Result<Vec<u8>, Stop>
-        requires { HasColumns statement.now }
-        ensures due { IfSome (F.files folder.old) (λ files. Answers (outcome files self.old statement.now) result self.new) }
+        requires columns { HasColumns statement.now }
+        requires room { ledger.old.spent + max_work ≤ 2 ^ 126 }
+        ensures due { IsCarriedOut statement.now (F.state folder.old) (F.state folder.new)
+            self.old self.new ledger.old ledger.new result }
         ensures unchanged { OnErr result (self.new ≡ self.old) }
-        ensures same { F.files folder.new ≡ F.files folder.old }
-        ensures failed { IsErrOf result Stop.ReadFault → Rose (F.read_faults folder.old) (F.read_faults folder.new) }
-        ensures never_falls { F.read_faults folder.old ≤ F.read_faults folder.new }
+        ensures within { OnOk result (ledger.new.spent ≤ ledger.old.spent + max_work) }
+        ensures folder { OnlyReads (IsErrOf result Stop.ReadFault) ⊥
+            (F.state folder.old) (F.state folder.new) }
     {
         match statement {
             Statement::CreateTable(name, columns) => self.create(alloc, name, columns),
             Statement::Load(file, name) => self.load(alloc, file, name, folder),
-            Statement::Select(name) => self.select(alloc, name),
+            Statement::Select(name) => self.select(alloc, name, ledger),
         }
     }
 }

@@ -1,10 +1,11 @@
-// Reads a source to its end.
-ghost use Rattle.std.specs.Prelude.{◌≡◌, ◌≢◌, ℕ, ◌+◌, ◌<◌, ◌≤◌, [], ◌++◌, length, take, drop, Some, OnOk, IfOk, IfErr, IfSome, IsErrOf, vec_len};
+// Reads a source to its end, or as far as shows that it is too long for a script. After a failed take the source isn't
+// asked again.
+ghost use Rattle.std.specs.Prelude.{◌≡◌, ◌+◌, ◌<◌, ◌≤◌, [], length, take, drop, Some, OnOk, IfOk, OnErr, IfSome, IsErrOf, vec_len};
 ghost use Rattle.shell.specs.Source.{TakesAtMost, Took};
-ghost use Rattle.std.specs.Io.KnownBytes.{Consumes};
-ghost use Rattle.outside_io.specs.Count.{Rose};
+ghost use Rattle.shell.specs.Limits.{max_script_bytes};
+ghost use Rattle.outside_io.specs.Count.{HasCause};
 
-use crate::script::SCRIPT_BYTES;
+use crate::script::MAX_SCRIPT_BYTES;
 use outside_io::{Failed, Source};
 use std::alloc::{AllocError, Global};
 
@@ -12,14 +13,14 @@ use std::alloc::{AllocError, Global};
 const BLOCK_BYTES: usize = 131072;
 
 // As many bytes as show that a script is too long.
-const MOST_BYTES: usize = SCRIPT_BYTES + 1;
+const MOST_BYTES: usize = MAX_SCRIPT_BYTES + 1;
 
 /// Why a source wasn't read.
 #[derive(Clone, Copy, Debug, PartialEq, Eq)]
 pub(crate) enum SourceFault {
     /// The source failed.
     Failed,
-    /// Memory was wanted.
+    /// Out of memory.
     NoMemory,
 }
 
@@ -50,11 +51,14 @@ fn take_block<S: Source>(
     requires { room ≤ length block.old }
     ensures within { IfOk result (λ n. n ≤ room) }
     ensures appended { IfOk result (λ n. length bytes.new.items ≡ length bytes.old.items + n) }
-    ensures taken { OnOk result (Took bytes.old.items bytes.new.items (S.left source.old) (S.left source.new)) }
-    ensures end { IfOk result (λ n. n ≡ 0 → 0 < room → IfSome (S.left source.old) (λ left. left ≡ [])) }
-    ensures bounded { IfErr result (λ fault. fault ≢ SourceFault.Failed → IfSome (S.left source.old) (TakesAtMost room (S.left source.new))) }
-    ensures failed { IsErrOf result SourceFault.Failed → Rose (S.faults source.old) (S.faults source.new) }
-    ensures never_falls { S.faults source.old ≤ S.faults source.new }
+    ensures taken { OnOk result
+        (Took bytes.old.items bytes.new.items (S.left source.old) (S.left source.new)) }
+    ensures end { IfOk result (λ n. n ≡ 0 → 0 < room →
+        IfSome (S.left source.old) (λ left. left ≡ [])) }
+    ensures bounded { OnErr result
+        (IfSome (S.left source.old) (TakesAtMost room (S.left source.new))) }
+    ensures faults { HasCause (IsErrOf result SourceFault.Failed)
+        (S.faults source.old) (S.faults source.new) }
 {
     let taken = match source.take(&mut block[..room]) {
         Ok(taken) => taken,
@@ -66,10 +70,13 @@ fn take_block<S: Source>(
 
 /// All that the source has left, or the first 16777217 bytes of it, which are one too many for a script.
 pub(crate) fn read_source<S: Source>(alloc: Global, source: &mut S) -> Result<Vec<u8>, SourceFault>
-    ensures whole { IfOk result (λ bytes. IfSome (S.left source.old) (λ left. (bytes.items ≡ take MOST_BYTES left) × (S.left source.new ≡ Some (drop MOST_BYTES left)))) }
-    ensures bounded { IfErr result (λ fault. fault ≢ SourceFault.Failed → IfSome (S.left source.old) (TakesAtMost MOST_BYTES (S.left source.new))) }
-    ensures failed { IsErrOf result SourceFault.Failed → Rose (S.faults source.old) (S.faults source.new) }
-    ensures never_falls { S.faults source.old ≤ S.faults source.new }
+    ensures whole { IfOk result (λ bytes. IfSome (S.left source.old) (λ left.
+        (bytes.items ≡ take (max_script_bytes + 1) left)
+        × (S.left source.new ≡ Some (drop (max_script_bytes + 1) left)))) }
+    ensures bounded { OnErr result
+        (IfSome (S.left source.old) (TakesAtMost (max_script_bytes + 1) (S.left source.new))) }
+    ensures faults { HasCause (IsErrOf result SourceFault.Failed)
+        (S.faults source.old) (S.faults source.new) }
 {
     let mut block = zeros(alloc, BLOCK_BYTES)?;
     let mut bytes = Vec::new(alloc);

@@ -1,4 +1,4 @@
-// What a script asks for.
+// What a script asks for: the statements, and the names in them.
 ghost use Rattle.std.specs.Prelude.{◌≡◌, IfOk, string_bytes};
 
 use std::alloc::{AllocError, Global};
@@ -111,6 +111,14 @@ impl FileName {
         ensures { result.now ≡ self.now }
     {
         self.text.as_str()
+    }
+
+    pub(crate) fn copy(&self, alloc: Global) -> Result<FileName, AllocError>
+        ensures { IfOk result (λ copy. copy ≡ self.now) }
+    {
+        Ok(FileName {
+            text: String::from_str(alloc, self.text.as_str())?,
+        })
     }
 }
 

@@ -1,16 +1,36 @@
+// How a run ends.
+ghost use Rattle.std.specs.Prelude.{◌≡◌};
+ghost use Rattle.shell.specs.Serve.{exit_number};
+
 /// How a run ended.
 #[derive(Clone, Copy, Debug, PartialEq, Eq)]
 pub enum Status {
-    /// All statements were carried out. The program ends with 0.
-    Done = 0,
-    /// A statement, or the script, was refused, and its error line is the last one. The program ends with 1.
-    Refused = 1,
-    /// The command line isn't of the form. The program ends with 2.
-    BadWords = 2,
-    /// The source failed, or the folder at a read. The program ends with 3.
-    ReadFault = 3,
-    /// The sink failed. The program ends with 4.
-    WriteFault = 4,
-    /// Memory was wanted. The program ends with 5.
-    NoMemory = 5,
+    /// All statements were carried out.
+    Done,
+    /// The script or a statement was refused, and its error line is the last one.
+    Refused,
+    /// The arguments of the command line aren't well-formed.
+    BadWords,
+    /// The source failed, or the folder at a read.
+    ReadFault,
+    /// The sink failed.
+    WriteFault,
+    /// Out of memory.
+    NoMemory,
+}
+
+impl Status {
+    /// The number with which the program ends, from 0 to 5.
+    pub fn number(self) -> u8
+        ensures { result ≡ exit_number self }
+    {
+        match self {
+            Status::Done => 0,
+            Status::Refused => 1,
+            Status::BadWords => 2,
+            Status::ReadFault => 3,
+            Status::WriteFault => 4,
+            Status::NoMemory => 5,
+        }
+    }
 }

@@ -1,25 +1,22 @@
-// A table under its name.
-ghost use Rattle.std.specs.Prelude.{◌≡◌, ◌≤◌, length, [], IfOk, IfErr, OnErr, IsErrOf, Some, bytes_eq};
-ghost use Rattle.heap_pages.specs.declared.heap.TheConstants.{MAX_COLUMNS};
+// A table under its name: its rows lie in a heap, and are loaded all at once or not at all.
+ghost use Rattle.std.specs.Prelude.{◌≡◌, ◌+◌, ◌^◌, ◌≤◌, length, [], IfOk, OnOk, IfErr, OnErr, IsErrOf, Some, bytes_eq};
+ghost use Rattle.heap_pages.specs.Limits.{max_columns};
+ghost use Rattle.shell.specs.Limits.{max_work};
 ghost use Rattle.shell.specs.Load.{load_of};
-ghost use Rattle.shell.specs.Printed.{answer_text};
+ghost use Rattle.shell.specs.Printed.{answer_text, scan_work};
 ghost use Rattle.shell.specs.Script.{Prints, append_rows};
 ghost use Rattle.shell.specs.Stop.{StopsAt};
 
 use crate::lines;
 use crate::load::{LoadFault, read_rows};
-use crate::order::sort_rows;
-use crate::print::print_rows;
-use crate::scan::scan;
+use crate::query::answer;
+use crate::refusal::Refusal;
 use crate::statement::{Name, Names};
-use crate::stop::{Stop, refused, too_many_rows};
+use crate::stop::Stop;
 use heap_pages::{Heap, HeapFault};
 use std::alloc::{AllocError, Global};
 use std::marker::Model;
 use work_ledger::Ledger;
-
-// What one query may cost, in units of work.
-const MAX_WORK: u128 = 4611686018427387904;
 
 /// A table: its name, the names of its columns, and its rows.
 #[derive(Drop)]
@@ -44,8 +41,9 @@ impl Table {
     /// A table without rows.
     pub(crate) fn new(alloc: Global, name: &Name, columns: &Names) -> Result<Table, AllocError>
         requires some { 1 ≤ length columns.now }
-        requires few { length columns.now ≤ MAX_COLUMNS }
-        ensures { IfOk result (λ table. table ≡ record { name = name.now; columns = columns.now; rows = [] }) }
+        requires few { length columns.now ≤ max_columns }
+        ensures { IfOk result (λ table.
+            table ≡ record { name = name.now; columns = columns.now; rows = [] }) }
     {
         Ok(Table {
             name: name.copy(alloc)?,
@@ -61,38 +59,39 @@ impl Table {
         self.name.bytes() == name.bytes()
     }
 
-    /// Appends the rows of a file's bytes, and answers what that prints.
+    /// Appends the rows of a file's bytes, and returns what that prints. A stop leaves the table as it was.
     pub(crate) fn load(&mut self, alloc: Global, bytes: &[u8]) -> Result<Vec<u8>, Stop>
-        ensures loaded { IfOk result (λ text. append_rows self.old (load_of self.old.columns bytes.now) ≡ Prints text.items (Some self.new)) }
-        ensures stopped { IfErr result (StopsAt (append_rows self.old (load_of self.old.columns bytes.now))) }
+        ensures loaded { IfOk result (λ text.
+            append_rows self.old (load_of self.old.columns bytes.now)
+            ≡ Prints text.items 0 (Some self.new)) }
+        ensures stopped { IfErr result
+            (StopsAt (append_rows self.old (load_of self.old.columns bytes.now))) }
         ensures unchanged { OnErr result (self.new ≡ self.old) }
         ensures no_fault { IsErrOf result Stop.ReadFault → ⊥ }
     {
         let rows = match read_rows(alloc, self.columns.as_slice(), bytes) {
             Ok(rows) => rows,
-            Err(LoadFault::OtherForm) => return Err(refused(alloc, "E00 later file", b"")),
+            Err(LoadFault::OtherForm) => return Err(Stop::Refused(Refusal::LaterFile)),
             Err(LoadFault::NoMemory) => return Err(Stop::NoMemory),
         };
         let text = lines::load_text(alloc, rows.len())?;
         match rows.append_to(&mut self.heap) {
             Ok(()) => Ok(text),
-            Err(HeapFault::RowLimit { value }) => Err(too_many_rows(alloc, value)),
+            Err(HeapFault::RowLimit { value }) => Err(Stop::Refused(Refusal::RowLimit(value))),
             Err(HeapFault::NoMemory) => Err(Stop::NoMemory),
         }
     }
 
-    /// What a query of the whole table prints. Its rows are read and paid by a scan.
-    #[tactic(auto, using(crate::proofs::ScanFits::scan_fits))]
-    pub(crate) fn answer(&self, alloc: Global) -> Result<Vec<u8>, AllocError>
-        ensures { IfOk result (λ text. text.items ≡ answer_text self.now.columns self.now.rows) }
+    /// What a query of the whole table prints. The work that it prints is what it spent.
+    pub(crate) fn answer(&self, alloc: Global, ledger: &mut Ledger) -> Result<Vec<u8>, AllocError>
+        requires room { ledger.old.spent + max_work ≤ 2 ^ 126 }
+        ensures text { IfOk result (λ text.
+            text.items ≡ answer_text self.now.columns self.now.rows
+            (scan_work (length self.now.columns) (length self.now.rows))) }
+        ensures paid { OnOk result (ledger.new.spent
+            ≡ ledger.old.spent + scan_work (length self.now.columns) (length self.now.rows)) }
+        ensures within { OnOk result (ledger.new.spent ≤ ledger.old.spent + max_work) }
     {
-        let count = self.heap.rows();
-        let mut ledger = Ledger::new();
-        ledger.grant(MAX_WORK);
-        let mut rows = scan(alloc, &self.heap, &mut ledger)?;
-        sort_rows(&mut rows);
-        let mut text = print_rows(alloc, self.columns.as_slice(), &rows)?;
-        lines::push_report(&mut text, count, ledger.spent())?;
-        Ok(text)
+        answer(alloc, self.columns.as_slice(), &self.heap, ledger)
     }
 }

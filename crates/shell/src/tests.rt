@@ -1,5 +1,6 @@
-// What no clause says: that runs succeed where memory is ample, and the printed texts of worked scripts.
-ghost use Rattle.std.specs.Prelude.{◌≡◌, ◌≢◌, ℕ, None, Some, []};
+// What no clause says: that runs succeed where memory is ample, the printed texts of worked scripts, how often a source is
+// asked, and that a statement's text goes out in one put.
+ghost use Rattle.std.specs.Prelude.{◌≡◌, ◌≢◌, None, Some, []};
 
 use super::*;
 use outside_io::{
@@ -11,28 +12,48 @@ use std::test::Fail;
 const SCRIPT: &[u8] =
     b"CREATE TABLE T (A INTEGER, B INTEGER);\nLOAD 't.csv' INTO T;\nSELECT * FROM T;\n";
 
+const ONE_COLUMN: &[u8] = b"CREATE TABLE T (A INTEGER);\nLOAD 't.csv' INTO T;\nSELECT * FROM T;\n";
+
 const ROWS: &[u8] = b"A,B\n2,\n,5\n1,1\n";
 
 const TEXT: &[u8] =
     b"-- load rows=3\nA,B\n,5\n1,1\n2,\n-- rows=3 work=15 runs=1 contour=1 plan=S0\n";
 
-// A run with these words, over a folder with one file, `t.csv`, with the calls of each kind that are to fail.
+const USAGE: &[u8] = b"usage: bouquet [--max-work N] [--demo N]\n";
+
+const LATER_FILE: &[u8] = b"error E00 later file\n";
+
+const LATER_SCRIPT: &[u8] = b"error E00 later script\n";
+
+// The calls of each kind that are to fail, by their numbers from 1.
+#[derive(Clone, Copy)]
+struct Faults<'a> {
+    takes: &'a [u64],
+    reads: &'a [u64],
+    puts: &'a [u64],
+}
+
+const NO_FAULTS: Faults = Faults {
+    takes: &[],
+    reads: &[],
+    puts: &[],
+};
+
+// A run with these arguments, over a folder with one file, `t.csv`.
 fn run(
     alloc: Global,
     words: &[String],
     script: &[u8],
     file: &[u8],
-    takes: &[u64],
-    reads: &[u64],
-    puts: &[u64],
+    faults: Faults,
 ) -> Result<(Status, Vec<u8>), AllocError> {
     let mut source = MemorySource::new(
         Vec::from_slice(alloc, script)?,
-        Vec::from_slice(alloc, takes)?,
+        Vec::from_slice(alloc, faults.takes)?,
     );
-    let mut folder = MemoryFolder::new(alloc, Vec::from_slice(alloc, reads)?);
+    let mut folder = MemoryFolder::new(alloc, Vec::from_slice(alloc, faults.reads)?);
     folder.add("t.csv", file)?;
-    let mut sink = MemorySink::new(alloc, Vec::from_slice(alloc, puts)?);
+    let mut sink = MemorySink::new(alloc, Vec::from_slice(alloc, faults.puts)?);
     let status = serve(alloc, words, &mut source, &mut folder, &mut sink);
     Ok((status, Vec::from_slice(alloc, sink.bytes())?))
 }
@@ -52,19 +73,18 @@ fn lines_between(
     Ok(text)
 }
 
+#[derive(Clone, Copy)]
+struct Case<'a> {
+    name: &'a str,
+    script: &'a [u8],
+    file: &'a [u8],
+    status: Status,
+    text: &'a [u8],
+}
+
 #[test]
 fn scripts_print_their_texts(rt: HostRuntime) -> Result<(), Fail> {
     let alloc = rt.alloc();
-    let none: &[String] = &[];
-    let help = vec![in alloc; String::from_str(alloc, "--help")?]?;
-    let one_column: &[u8] =
-        b"CREATE TABLE T (A INTEGER);\nLOAD 't.csv' INTO T;\nSELECT * FROM T;\n";
-    let any_case: &[u8] =
-        b"CREATE TABLE t (a INTEGER, b INTEGER);\nLOAD 't.csv' INTO T;\nSELECT * FROM t;\n";
-    let absent: &[u8] =
-        b"CREATE TABLE T (A INTEGER, B INTEGER);\nLOAD 'g.csv' INTO T;\nSELECT * FROM T;\n";
-    let other_script: &[u8] = b"error E00 later script\n";
-    let other_file: &[u8] = b"error E00 later file\n";
     let one_page = lines_between(alloc, b"A,B\n", 512, b"")?;
     let one_page_text = lines_between(
         alloc,
@@ -79,97 +99,175 @@ fn scripts_print_their_texts(rt: HostRuntime) -> Result<(), Fail> {
         513,
         b"-- rows=513 work=1043 runs=1 contour=1 plan=S0\n",
     )?;
-    let rows: [(&[String], &[u8], &[u8], Status, &[u8]); 13] = [
-        (none, SCRIPT, ROWS, Status::Done, TEXT),
-        (
-            none,
-            any_case,
-            b"\xef\xbb\xbfa,\"B\"\r\n2,\r\n\r\n,+5\r\n1,01",
-            Status::Done,
-            TEXT,
-        ),
-        (
-            none,
-            one_column,
-            b"A\n",
-            Status::Done,
-            b"-- load rows=0\nA\n-- rows=0 work=1 runs=1 contour=1 plan=S0\n",
-        ),
-        (
-            none,
-            one_column,
-            b"A\n\"\"\n7\n-7\n7\n",
-            Status::Done,
-            b"-- load rows=4\nA\n\"\"\n-7\n7\n7\n-- rows=4 work=17 runs=1 contour=1 plan=S0\n",
-        ),
-        (
-            none,
-            one_column,
-            b"A\n9223372036854775807\n-9223372036854775807\n",
-            Status::Done,
-            b"-- load rows=2\nA\n-9223372036854775807\n9223372036854775807\n-- rows=2 work=13 runs=1 contour=1 plan=S0\n",
-        ),
-        (none, SCRIPT, &one_page, Status::Done, &one_page_text),
-        (none, SCRIPT, &two_pages, Status::Done, &two_pages_text),
-        (
-            none,
-            one_column,
-            b"A\n-9223372036854775808\n",
-            Status::Refused,
-            other_file,
-        ),
-        (none, SCRIPT, b"A,B\nx,1\n", Status::Refused, other_file),
-        (none, SCRIPT, b"A,B\n1,2,3\n", Status::Refused, other_file),
-        (none, b"SELECT 1;", ROWS, Status::Refused, other_script),
-        (
-            none,
-            absent,
-            ROWS,
-            Status::Refused,
-            b"error E09 absent g.csv\n",
-        ),
-        (
-            &help,
-            SCRIPT,
-            ROWS,
-            Status::BadWords,
-            b"usage: bouquet [--max-work N] [--demo N]\n",
-        ),
+    let cases = [
+        Case {
+            name: "rows in order",
+            script: SCRIPT,
+            file: ROWS,
+            status: Status::Done,
+            text: TEXT,
+        },
+        Case {
+            name: "any case, a byte order mark, quotes, CR LF, a blank line, signs and zeros",
+            script: b"CREATE TABLE t (a INTEGER, b INTEGER);\nLOAD 't.csv' INTO T;\nSELECT * FROM t;\n",
+            file: b"\xef\xbb\xbfa,\"B\"\r\n2,\r\n\r\n,+5\r\n1,01",
+            status: Status::Done,
+            text: TEXT,
+        },
+        Case {
+            name: "no row",
+            script: ONE_COLUMN,
+            file: b"A\n",
+            status: Status::Done,
+            text: b"-- load rows=0\nA\n-- rows=0 work=1 runs=1 contour=1 plan=S0\n",
+        },
+        Case {
+            name: "NULL alone, and equal rows",
+            script: ONE_COLUMN,
+            file: b"A\n\"\"\n7\n-7\n7\n",
+            status: Status::Done,
+            text: b"-- load rows=4\nA\n\"\"\n-7\n7\n7\n-- rows=4 work=17 runs=1 contour=1 plan=S0\n",
+        },
+        Case {
+            name: "the greatest and the least INTEGER",
+            script: ONE_COLUMN,
+            file: b"A\n9223372036854775807\n-9223372036854775807\n",
+            status: Status::Done,
+            text: b"-- load rows=2\nA\n-9223372036854775807\n9223372036854775807\n-- rows=2 work=13 runs=1 contour=1 plan=S0\n",
+        },
+        Case {
+            name: "one page",
+            script: SCRIPT,
+            file: &one_page,
+            status: Status::Done,
+            text: &one_page_text,
+        },
+        Case {
+            name: "two pages",
+            script: SCRIPT,
+            file: &two_pages,
+            status: Status::Done,
+            text: &two_pages_text,
+        },
+        Case {
+            name: "one below the least INTEGER",
+            script: ONE_COLUMN,
+            file: b"A\n-9223372036854775808\n",
+            status: Status::Refused,
+            text: LATER_FILE,
+        },
+        Case {
+            name: "no INTEGER",
+            script: SCRIPT,
+            file: b"A,B\nx,1\n",
+            status: Status::Refused,
+            text: LATER_FILE,
+        },
+        Case {
+            name: "a field too many",
+            script: SCRIPT,
+            file: b"A,B\n1,2,3\n",
+            status: Status::Refused,
+            text: LATER_FILE,
+        },
+        Case {
+            name: "another script",
+            script: b"SELECT 1;",
+            file: ROWS,
+            status: Status::Refused,
+            text: LATER_SCRIPT,
+        },
+        Case {
+            name: "an absent file",
+            script: b"CREATE TABLE T (A INTEGER, B INTEGER);\nLOAD 'g.csv' INTO T;\nSELECT * FROM T;\n",
+            file: ROWS,
+            status: Status::Refused,
+            text: b"error E09 absent g.csv\n",
+        },
     ];
-    for (words, script, file, status, text) in &rows {
-        let answer = run(alloc, words, script, file, &[], &[], &[])?;
-        assert_eq!(rt; answer.0, *status);
-        assert_eq!(rt; answer.1.as_slice(), *text);
+    for case in &cases {
+        let answer = run(alloc, &[], case.script, case.file, NO_FAULTS)?;
+        assert_eq!(rt; answer.0, case.status, "{}", case.name);
+        assert_eq!(rt; answer.1.as_slice(), case.text, "{}", case.name);
     }
+    let help = vec![in alloc; String::from_str(alloc, "--help")?]?;
+    let answer = run(alloc, &help, SCRIPT, ROWS, NO_FAULTS)?;
+    assert_eq!(rt; answer.0, Status::BadWords);
+    assert_eq!(rt; answer.1.as_slice(), USAGE);
     Ok(())
+}
+
+#[derive(Clone, Copy)]
+struct FaultCase<'a> {
+    name: &'a str,
+    faults: Faults<'a>,
+    status: Status,
+    text: &'a [u8],
 }
 
 #[test]
 fn a_fault_ends_the_run(rt: HostRuntime) -> Result<(), Fail> {
     let alloc = rt.alloc();
-    let none: &[String] = &[];
-    let help = vec![in alloc; String::from_str(alloc, "--help")?]?;
-    let nothing: &[u8] = b"";
-    let rows: [(&[String], &[u64], &[u64], &[u64], Status, &[u8]); 6] = [
-        (none, &[1], &[], &[], Status::ReadFault, nothing),
-        (none, &[2], &[], &[], Status::ReadFault, nothing),
-        (none, &[], &[1], &[], Status::ReadFault, nothing),
-        (none, &[], &[], &[1], Status::WriteFault, nothing),
-        (
-            none,
-            &[],
-            &[],
-            &[2],
-            Status::WriteFault,
-            b"-- load rows=3\n",
-        ),
-        (&help, &[], &[], &[1], Status::WriteFault, nothing),
+    let cases = [
+        FaultCase {
+            name: "the first take",
+            faults: Faults {
+                takes: &[1],
+                ..NO_FAULTS
+            },
+            status: Status::ReadFault,
+            text: b"",
+        },
+        FaultCase {
+            name: "the take that would give the end",
+            faults: Faults {
+                takes: &[2],
+                ..NO_FAULTS
+            },
+            status: Status::ReadFault,
+            text: b"",
+        },
+        FaultCase {
+            name: "the read of the file",
+            faults: Faults {
+                reads: &[1],
+                ..NO_FAULTS
+            },
+            status: Status::ReadFault,
+            text: b"",
+        },
+        FaultCase {
+            name: "the first put",
+            faults: Faults {
+                puts: &[1],
+                ..NO_FAULTS
+            },
+            status: Status::WriteFault,
+            text: b"",
+        },
+        FaultCase {
+            name: "the second put, of a whole answer",
+            faults: Faults {
+                puts: &[2],
+                ..NO_FAULTS
+            },
+            status: Status::WriteFault,
+            text: b"-- load rows=3\n",
+        },
     ];
-    for (words, takes, reads, puts, status, text) in &rows {
-        let answer = run(alloc, words, SCRIPT, ROWS, takes, reads, puts)?;
-        assert_eq!(rt; answer.0, *status);
-        assert_eq!(rt; answer.1.as_slice(), *text);
+    for case in &cases {
+        let answer = run(alloc, &[], SCRIPT, ROWS, case.faults)?;
+        assert_eq!(rt; answer.0, case.status, "{}", case.name);
+        assert_eq!(rt; answer.1.as_slice(), case.text, "{}", case.name);
     }
+    let help = vec![in alloc; String::from_str(alloc, "--help")?]?;
+    let faults = Faults {
+        puts: &[1],
+        ..NO_FAULTS
+    };
+    let answer = run(alloc, &help, SCRIPT, ROWS, faults)?;
+    assert_eq!(rt; answer.0, Status::WriteFault);
+    assert_eq!(rt; answer.1.as_slice(), b"".as_slice());
     Ok(())
 }
 
@@ -181,11 +279,39 @@ fn a_script_past_its_limit_is_refused(rt: HostRuntime) -> Result<(), Fail> {
         let mut folder = MemoryFolder::new(alloc, Vec::new(alloc));
         let mut sink = MemorySink::new(alloc, Vec::new(alloc));
         let ended = serve(alloc, &[], &mut source, &mut folder, &mut sink);
-        assert_eq!(rt; ended, Status::Refused);
-        assert_eq!(rt; sink.bytes(), b"error E00 later script\n".as_slice());
-        assert_eq!(rt; source.take(&mut [0u8; 4]), Ok(left));
+        assert_eq!(rt; ended, Status::Refused, "{len} bytes");
+        assert_eq!(rt; sink.bytes(), LATER_SCRIPT, "{len} bytes");
+        assert_eq!(rt; source.take(&mut [0u8; 4]), Ok(left), "{len} bytes");
     }
     Ok(())
+}
+
+// A source that fails at every take, and counts them.
+#[derive(Drop)]
+struct Broken {
+    takes: u64,
+}
+
+impl Source for Broken {
+    ghost left = { λ _. None };
+
+    ghost faults = { λ s. s.takes };
+
+    fn take(&mut self, _into: &mut [u8]) -> Result<usize, Failed> {
+        self.takes = self.takes.saturating_add(1);
+        Err(Failed)
+    }
+}
+
+#[test]
+fn after_a_failed_take_the_source_is_not_asked_again(rt: HostRuntime) {
+    let alloc = rt.alloc();
+    let mut source = Broken { takes: 0 };
+    let mut folder = MemoryFolder::new(alloc, Vec::new(alloc));
+    let mut sink = MemorySink::new(alloc, Vec::new(alloc));
+    let ended = serve(alloc, &[], &mut source, &mut folder, &mut sink);
+    assert_eq!(rt; ended, Status::ReadFault);
+    assert_eq!(rt; source.takes, 1);
 }
 
 // A folder that has every file and gives none, since each is too long.
@@ -195,13 +321,9 @@ struct LongFiles {
 }
 
 impl Folder for LongFiles {
-    ghost files = { λ _. None };
+    ghost use Rattle.outside_io.specs.Files.{unknown_files};
 
-    ghost read_faults = { λ _. 0 };
-
-    ghost write_faults = { λ _. 0 };
-
-    ghost misses = { λ f. f.misses };
+    ghost state = { λ f. unknown_files 0 0 f.misses };
 
     fn read(&mut self, _alloc: Global, _name: &str) -> Result<Vec<u8>, FileFault> {
         self.misses = self.misses.saturating_add(1);
@@ -237,7 +359,7 @@ impl Sink for Quiet {
     }
 }
 
-// Where no count of faults ever rises, no fault is answered. This follows from the clauses of `serve` alone.
+// Where no count of faults ever rises, no fault is returned. This follows from the clauses of `serve` alone.
 fn serve_quietly(
     alloc: Global,
     source: &mut Quiet,
@@ -251,14 +373,14 @@ fn serve_quietly(
 }
 
 #[test]
-fn a_file_that_is_too_long_is_of_another_form(rt: HostRuntime) -> Result<(), Fail> {
+fn a_file_that_is_too_long_is_not_well_formed(rt: HostRuntime) -> Result<(), Fail> {
     let alloc = rt.alloc();
     let mut source = MemorySource::new(Vec::from_slice(alloc, SCRIPT)?, Vec::new(alloc));
     let mut sink = MemorySink::new(alloc, Vec::new(alloc));
     let mut folder = LongFiles { misses: 0 };
     let ended = serve(alloc, &[], &mut source, &mut folder, &mut sink);
     assert_eq!(rt; ended, Status::Refused);
-    assert_eq!(rt; sink.bytes(), b"error E00 later file\n".as_slice());
+    assert_eq!(rt; sink.bytes(), LATER_FILE);
     assert_eq!(rt; folder.misses, 1);
     Ok(())
 }

@@ -8,7 +8,7 @@ statements_of-requires c = file_bytes_from_test c.in-Some.spelling (sym c.is_wel
 
 pub returns-in_ok-statements_of-in-Some : goal.returns-in_ok-statements_of-in-Some
 returns-in_ok-statements_of-in-Some c =
-    IsFirstForm-from_words c.args.script.now c.in-Some.spelling _ c.if-script-gt-SCRIPT_BYTES.false (sym c.in_ok-spelling.ensures ∙ c.in-Some.is) (sym c.is_well_formed.ensures ∙ c.if-is_well_formed.true) c.in_ok-statements_of-in-Some.ensures
+    IsFirstForm-from_words c.args.script.now c.in-Some.spelling _ c.if-script-gt-MAX_SCRIPT_BYTES.false (sym c.in_ok-spelling.ensures ∙ c.in-Some.is) (sym c.is_well_formed.ensures ∙ c.if-is_well_formed.true) c.in_ok-statements_of-in-Some.ensures
 
 pub returns-in_default : goal.returns-in_default
 returns-in_default c = elim c.in_default.branch [

@@ -1,0 +1,115 @@
+-- How a run ends at a statement.
+use Rattle.std.proofs.Common.{◌≡◌, ◌⊎◌, inl, inr, ℕ, ◌+◌, ◌<◌, ◌≤◌, List, [], length, take, get_or, Option, refl, sym, ◌∙◌, arith}
+use Rattle.std.specs.Prelude.{Vec, Result, Ok, Err}
+use Rattle.std.specs.declared.alloc.Global.{Global}
+use Rattle.std.specs.Io.KnownBytes.{Appends}
+use Rattle.work_ledger.specs.Account.{Account}
+use Rattle.shell.specs.declared.status.Status.{Status}
+use Rattle.shell.specs.declared.status.Status.TheVariants as status
+use Rattle.shell.specs.declared.stop.Stop.{Stop}
+use Rattle.shell.specs.declared.stop.Stop.TheVariants as stop
+use Rattle.shell.specs.declared.refusal.Refusal.{Refusal}
+use Rattle.shell.specs.Refusal.{line_of}
+use Rattle.shell.specs.Script.{SessionState, Outcome, Prints, Refuses, outcome}
+use Rattle.outside_io.specs.Files.{FolderState, OnlyReads}
+use Rattle.shell.specs.declared.statement.Statement.{Statement}
+use Rattle.shell.specs.Serve.{IsGivenFor}
+use Rattle.shell.specs.Due.{IsCarriedOut, CarriesAll}
+use Rattle.shell.proofs.Carrying.{EndsAt, IsCarried, text_of, appends_none, carried_on, carried_to}
+
+-- the run ended for a cause that isn't the script's
+abbrev pub EndsElsewhere : Status → Type 0
+EndsElsewhere ended = (ended ≡ status.ReadFault) ⊎ ((ended ≡ status.WriteFault) ⊎ (ended ≡ status.NoMemory))
+
+pub not_done : (ended : Status) → EndsElsewhere ended → ended ≡ status.Done → ⊥
+not_done ended (inl fault) is = cc (fault, is)
+not_done ended (inr (inl fault)) is = cc (fault, is)
+not_done ended (inr (inr memory)) is = cc (memory, is)
+
+pub not_refused : (ended : Status) → EndsElsewhere ended → ended ≡ status.Refused → ⊥
+not_refused ended (inl fault) is = cc (fault, is)
+not_refused ended (inr (inl fault)) is = cc (fault, is)
+not_refused ended (inr (inr memory)) is = cc (memory, is)
+
+-- the text that was due was put in part
+pub ends_in_part : (due : Outcome) (text : List ℕ) (work : ℕ) (next : SessionState) (ended : Status) (had got : Option (List ℕ)) (old new : Account) → EndsElsewhere ended → due ≡ Prints text work next
+    → ((n : ℕ) × Appends had got (take n text)) → EndsAt due ended had got old new
+ends_in_part due text work next ended had got old new elsewhere is part = record {
+  refused = λ e. absurd (not_refused ended elsewhere e);
+  unpaid = λ e. absurd (not_refused ended elsewhere e);
+  not_done = not_done ended elsewhere;
+  beginning = (part.0, rw is part.1);
+}
+
+-- nothing was put
+pub ends_with_nothing : (due : Outcome) (ended : Status) (had : Option (List ℕ)) (old new : Account) → EndsElsewhere ended → EndsAt due ended had had old new
+ends_with_nothing due ended had old new elsewhere = record {
+  refused = λ e. absurd (not_refused ended elsewhere e);
+  unpaid = λ e. absurd (not_refused ended elsewhere e);
+  not_done = not_done ended elsewhere;
+  beginning = (0, appends_none had);
+}
+
+-- the line of the refusal that is due was put, whole or in part
+pub ends_refused : (due : Outcome) (why : Refusal) (ended : Status) (had got : Option (List ℕ)) (old new : Account) → due ≡ Refuses why → new.spent ≡ old.spent
+    → (ended ≡ status.Refused → Appends had got (line_of why)) → ((n : ℕ) × Appends had got (take n (line_of why)))
+    → (ended ≡ status.Refused) ⊎ ((ended ≡ status.WriteFault) ⊎ (ended ≡ status.NoMemory)) → EndsAt due ended had got old new
+ends_refused due why ended had got old new is unpaid whole part kinds = record {
+  refused = λ e. ((why, is), rw is (whole e));
+  unpaid = λ _. unpaid;
+  not_done = not_this kinds;
+  beginning = (part.0, rw is part.1);
+}
+  where
+    not_this : (ended ≡ status.Refused) ⊎ ((ended ≡ status.WriteFault) ⊎ (ended ≡ status.NoMemory)) → ended ≡ status.Done → ⊥
+    not_this (inl refused) e = cc (refused, e)
+    not_this (inr (inl fault)) e = cc (fault, e)
+    not_this (inr (inr memory)) e = cc (memory, e)
+
+module _ (all : List Statement) (i : ℕ) (before mid now : FolderState) (state next : SessionState) (statement : Statement) (had got : Option (List ℕ)) (old paid due : Account) (failed : Type 0)
+    (below : i < length all) (is : statement ≡ get_or all i statement) (first : OnlyReads ⊥ ⊥ before mid) (last : OnlyReads failed ⊥ mid now)
+    (carried : IsCarried all i before mid state had got old paid) where
+  ends_at : (file : Option (List ℕ)) → IsGivenFor mid now statement file → (ended : Status) (new : Option (List ℕ)) → EndsAt (outcome state statement file) ended got new paid due
+      → CarriesAll all before now ended had new old due
+  ends_at file given ended new ends =
+      carried_to all i before mid now state next statement file had got old paid below (sym is) first.files first.misses.never_falls last.misses.never_falls carried given new due ended ends
+
+  -- the statement was refused
+  pub refused_at : (why : Refusal) (ended : Status) (new : Option (List ℕ)) → IsCarriedOut statement mid now state next paid due (Err (stop.Refused why))
+      → (ended ≡ status.Refused → Appends got new (line_of why)) → ((n : ℕ) × Appends got new (take n (line_of why)))
+      → (ended ≡ status.Refused) ⊎ ((ended ≡ status.WriteFault) ⊎ (ended ≡ status.NoMemory)) → CarriesAll all before now ended had new old due
+  refused_at why ended new out whole part kinds =
+      ends_at out.file out.given ended new (ends_refused (outcome state statement out.file) why ended got new paid due out.returns.0 out.returns.1 whole part kinds)
+
+  -- the statement stopped for another cause
+  pub stopped_at : (result : Result (Vec ℕ Global) Stop) (ended : Status) → IsCarriedOut statement mid now state next paid due result → EndsElsewhere ended → CarriesAll all before now ended had got old due
+  stopped_at result ended out elsewhere =
+      ends_at out.file out.given ended got (ends_with_nothing (outcome state statement out.file) ended got paid due elsewhere)
+
+  -- the statement's text wasn't put whole
+  pub unput_at : (text : Vec ℕ Global) (ended : Status) (new : Option (List ℕ)) → IsCarriedOut statement mid now state next paid due (Ok text) → EndsElsewhere ended → ((n : ℕ) × Appends got new (take n text.items))
+      → CarriesAll all before now ended had new old due
+  unput_at text ended new out elsewhere part =
+      ends_at out.file out.given ended new (ends_in_part (outcome state statement out.file) text.items out.returns.0 next ended got new paid due elsewhere out.returns.1 part)
+
+  -- the statement's text was put
+  pub put_at : (text : Vec ℕ Global) (new : Option (List ℕ)) → IsCarriedOut statement mid now state next paid due (Ok text) → Appends got new text.items → IsCarried all (i + 1) before now next had new old due
+  put_at text new out put =
+      carried_on all i before mid now state next statement out.file had got old paid below (sym is) first.files first.misses.never_falls last.misses.never_falls carried out.given new due text.items out.returns.0 out.returns.1 put out.returns.2
+
+-- reading on
+pub reads_on : (before mid now : FolderState) (failed : Type 0) → OnlyReads ⊥ ⊥ before mid → OnlyReads failed ⊥ mid now → OnlyReads ⊥ ⊥ before now
+reads_on before mid now failed first last = record {
+  files = last.files ∙ first.files;
+  read_faults = record { rose = λ none. absurd none; never_falls = omega (arith, first.read_faults.never_falls, last.read_faults.never_falls) };
+  write_faults = last.write_faults ∙ first.write_faults;
+  misses = record { rose = λ none. absurd none; never_falls = omega (arith, first.misses.never_falls, last.misses.never_falls) };
+}
+
+pub reads_none : (state : FolderState) (failed : Type 0) → (failed → ⊥) → OnlyReads failed ⊥ state state
+reads_none state failed not_failed = record {
+  files = refl;
+  read_faults = record { rose = λ is. absurd (not_failed is); never_falls = omega arith };
+  write_faults = refl;
+  misses = record { rose = λ none. absurd none; never_falls = omega arith };
+}

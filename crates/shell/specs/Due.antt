@@ -1,0 +1,61 @@
+-- What statements return and do, held against what is due to them.
+use Rattle.std.specs.Prelude.{◌≡◌, ℕ, ◌+◌, ⊤, All, Result, Ok, Err, Vec, List, map, Option, Some, None}
+use Rattle.std.specs.declared.alloc.Global.{Global}
+use Rattle.work_ledger.specs.Account.{Account}
+use Rattle.outside_io.specs.Files.{FolderState}
+use Rattle.shell.specs.declared.stop.Stop.{Stop}
+use Rattle.shell.specs.declared.stop.Stop.TheVariants as stop
+use Rattle.shell.specs.declared.status.Status.{Status}
+use Rattle.shell.specs.declared.status.Status.TheVariants as status
+use Rattle.shell.specs.declared.statement.Statement.{Statement}
+use Rattle.shell.specs.Script.{Answer, NamedTable, Outcome, Prints, Refuses, SessionState, Step, at_table, load_file, outcome, script_answer}
+use Rattle.shell.specs.Serve.{Carries, IsGiven, IsGivenFor}
+use Rattle.shell.specs.Stop.{StopsAt}
+
+-- the bytes of the file are returned, or a stop that fits whatever table it was to be loaded into
+abbrev pub FitsFile : List ℕ → Option (List ℕ) → Result (Vec ℕ Global) Stop → Type 0
+FitsFile name file (Ok bytes) = file ≡ Some bytes.items
+FitsFile name file (Err why) = (table : NamedTable) → StopsAt (load_file table name file) why
+
+-- a file of this name was asked for, and this came of it
+pub record ReadsFile (name : List ℕ) (before after : FolderState) (result : Result (Vec ℕ Global) Stop) : Type 0 where
+  pub file : Option (List ℕ)
+  pub given : IsGiven before after name file
+  pub fits : FitsFile name file result
+
+-- what is returned is what is due, and costs no work: a text and the state after it, or a refusal
+abbrev pub ReturnsFree : Outcome → Result (Vec ℕ Global) Stop → SessionState → Type 0
+ReturnsFree due (Ok text) state = due ≡ Prints text.items 0 state
+ReturnsFree due (Err why) state = StopsAt due why
+
+-- a file was loaded into the table of this name
+pub record LoadsFile (file_name name : List ℕ) (before after : FolderState) (state next : SessionState) (result : Result (Vec ℕ Global) Stop) : Type 0 where
+  pub file : Option (List ℕ)
+  pub given : IsGiven before after file_name file
+  pub returns : ReturnsFree (at_table state name (λ table. load_file table file_name file)) result next
+
+-- what is returned is what is due: a text, whose work was paid, and the state after it; or a refusal, for which nothing was paid
+abbrev pub ReturnsDue : Outcome → Result (Vec ℕ Global) Stop → SessionState → Account → Account → Type 0
+ReturnsDue due (Ok text) state old new = (work : ℕ) × (due ≡ Prints text.items work state) × (new.spent ≡ old.spent + work)
+ReturnsDue due (Err (stop.Refused why)) state old new = (due ≡ Refuses why) × (new.spent ≡ old.spent)
+ReturnsDue due (Err stop.ReadFault) state old new = ⊤
+ReturnsDue due (Err stop.NoMemory) state old new = ⊤
+
+-- a statement returned what is due to it with the file that the folder gave for it
+pub record IsCarriedOut (statement : Statement) (before after : FolderState) (state next : SessionState) (old new : Account) (result : Result (Vec ℕ Global) Stop) : Type 0 where
+  pub file : Option (List ℕ)
+  pub given : IsGivenFor before after statement file
+  pub returns : ReturnsDue (outcome state statement file) result next old new
+
+-- where the run ended as the answer does, exactly the answer's work was paid
+pub record PaysFor (answer : Answer) (ended : Status) (old new : Account) : Type 0 where
+  pub done : ended ≡ status.Done → new.spent ≡ old.spent + answer.work
+  pub refused : ended ≡ status.Refused → new.spent ≡ old.spent + answer.work
+
+-- all statements were carried out, up to and with the first refusal, or a part of them
+pub record CarriesAll (statements : List Statement) (before after : FolderState) (ended : Status) (had got : Option (List ℕ)) (old new : Account) : Type 0 where
+  pub steps : List Step
+  pub are : map (λ step. step.statement) steps ≡ statements
+  pub given : All (λ step. IsGivenFor before after step.statement step.file) steps
+  pub carries : Carries (script_answer None steps) ended had got
+  pub pays : PaysFor (script_answer None steps) ended old new
