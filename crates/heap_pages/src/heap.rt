@@ -71,11 +71,16 @@ impl Model for Heap {
 
     ghost Value = { HeapState };
 
-    ghost view = { λ h. record { columns = h.columns; rows = cut_rows h.columns h.rows h.words.items; spare = h.spare } };
+    ghost view = { λ h. record {
+      columns = h.columns;
+      rows = cut_rows h.columns h.rows h.words.items;
+      spare = h.spare;
+    } };
 
     ghost use Rattle.heap_pages.specs.Layout.{IsLaidOut};
 
-    ghost invariant = { λ h. IsLaidOut h.columns h.rows h.spare (vec_len h.words) (vec_capacity h.words) };
+    ghost invariant = { λ h.
+        IsLaidOut h.columns h.rows h.spare (vec_len h.words) (vec_capacity h.words) };
 }
 
 // Puts words after those that are there. Where there are none they are taken over, not copied.

@@ -68,7 +68,10 @@ impl Model for LoadedRows {
 
     ghost Value = { FileRows };
 
-    ghost view = { λ l. record { columns = l.columns; rows = cut_rows l.columns l.rows l.words.items } };
+    ghost view = { λ l. record {
+      columns = l.columns;
+      rows = cut_rows l.columns l.rows l.words.items;
+    } };
 
     ghost invariant = { λ l. AreCut l.columns l.rows (vec_len l.words) };
 }

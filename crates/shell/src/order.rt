@@ -84,7 +84,8 @@ impl Eq for SortedRow<'_> {
 impl PartialOrd for SortedRow<'_> {
     ghost partial_cmp = { as_partial_cmp row_cmp };
 
-    ghost laws = { partial_order_from_own_ties (Prim.search (comparing, rules)) (Prim.search (comparing, rules)) };
+    ghost laws = { partial_order_from_own_ties
+        (Prim.search (comparing, rules)) (Prim.search (comparing, rules)) };
 
     fn partial_cmp(&self, other: &Self) -> Option<Ordering> {
         Some(self.cmp(other))

@@ -164,7 +164,8 @@ pub fn serve<S: Source, F: Folder, K: Sink>(
         IsScript script None → F.state folder.new ≡ F.state folder.old) }
 
     // Each fault has its cause.
-    ensures read_fault { result ≡ Status.ReadFault → Rose (S.faults source.old) (S.faults source.new)
+    ensures read_fault { result ≡ Status.ReadFault →
+        Rose (S.faults source.old) (S.faults source.new)
         ⊎ Rose (F.state folder.old).read_faults (F.state folder.new).read_faults }
     ensures write_fault { HasCause (result ≡ Status.WriteFault)
         (K.faults sink.old) (K.faults sink.new) }

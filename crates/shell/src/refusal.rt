@@ -34,7 +34,8 @@ fn error_line(alloc: Global, kind: &str, about: &[u8]) -> Result<Vec<u8>, AllocE
 
 // The line of a table that would have so many rows.
 fn row_limit_line(alloc: Global, rows: u64) -> Result<Vec<u8>, AllocError>
-    ensures { IfOk result (λ line. line.items ≡ error_line (codes "E12 limit rows " ++ decimal rows)) }
+    ensures { IfOk result (λ line.
+        line.items ≡ error_line (codes "E12 limit rows " ++ decimal rows)) }
 {
     let mut buffer = Buffer::new();
     error_line(alloc, "E12 limit rows ", buffer.format(rows).as_bytes())

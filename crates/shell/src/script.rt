@@ -37,7 +37,11 @@ impl<'a> Model for Ending<'a> {
 
     ghost Value = { Ending };
 
-    ghost view = { λ e. record { file = e.file.now; loaded = e.loaded.now; selected = e.selected.now } };
+    ghost view = { λ e. record {
+      file = e.file.now;
+      loaded = e.loaded.now;
+      selected = e.selected.now;
+    } };
 }
 
 // The words of a script in their places.
@@ -54,7 +58,13 @@ impl<'a> Model for Places<'a> {
 
     ghost Value = { Spelling };
 
-    ghost view = { λ p. record { created = p.created.now; columns = map (λ c. c.now) p.columns.items; file = p.ending.file; loaded = p.ending.loaded; selected = p.ending.selected } };
+    ghost view = { λ p. record {
+      created = p.created.now;
+      columns = map (λ c. c.now) p.columns.items;
+      file = p.ending.file;
+      loaded = p.ending.loaded;
+      selected = p.ending.selected;
+    } };
 }
 
 fn is_word_byte(byte: u8) -> bool
@@ -153,7 +163,8 @@ fn file_len(bytes: &[u8]) -> usize
 // The longest run of a word's bytes, and what follows the text after it, where it stands there.
 #[tactic(auto, using(crate::proofs::ScriptSteps::script_steps), unfolding(crate::specs::ScriptReader::run_before))]
 fn word_before<'a>(text: &[u8], bytes: &'a [u8]) -> Option<(&'a [u8], &'a [u8])>
-    ensures { option_map (λ front. (front.0.now, front.1.now)) result ≡ run_before is_word_byte text.now bytes.now }
+    ensures { option_map (λ front. (front.0.now, front.1.now)) result
+        ≡ run_before is_word_byte text.now bytes.now }
 {
     let (word, rest) = bytes.split_at(word_len(bytes));
     Some((word, after(text, rest)?))
@@ -161,7 +172,8 @@ fn word_before<'a>(text: &[u8], bytes: &'a [u8]) -> Option<(&'a [u8], &'a [u8])>
 
 #[tactic(auto, using(crate::proofs::ScriptSteps::script_steps), unfolding(crate::specs::ScriptReader::run_before))]
 fn file_before<'a>(text: &[u8], bytes: &'a [u8]) -> Option<(&'a [u8], &'a [u8])>
-    ensures { option_map (λ front. (front.0.now, front.1.now)) result ≡ run_before is_file_byte text.now bytes.now }
+    ensures { option_map (λ front. (front.0.now, front.1.now)) result
+        ≡ run_before is_file_byte text.now bytes.now }
 {
     let (name, rest) = bytes.split_at(file_len(bytes));
     Some((name, after(text, rest)?))
@@ -173,7 +185,9 @@ fn columns_of<'a>(
     alloc: Global,
     bytes: &'a [u8],
 ) -> Result<Option<(Vec<&'a [u8]>, &'a [u8])>, AllocError>
-    ensures { IfOk result (λ read. option_map (λ r. (map (λ c. c.now) r.0.items, r.1.now)) read ≡ columns_from max_columns [] bytes.now) }
+    ensures { IfOk result (λ read.
+        option_map (λ r. (map (λ c. c.now) r.0.items, r.1.now)) read
+        ≡ columns_from max_columns [] bytes.now) }
 {
     let mut columns = Vec::new(alloc);
     let mut rest = bytes;
@@ -193,7 +207,8 @@ fn columns_of<'a>(
 // The name of the table that is made, and what follows it.
 #[tactic(auto, unfolding(crate::specs::ScriptReader::opening_of))]
 fn opening_of(script: &[u8]) -> Option<(&[u8], &[u8])>
-    ensures { option_map (λ opening. (opening.0.now, opening.1.now)) result ≡ opening_of script.now }
+    ensures { option_map (λ opening. (opening.0.now, opening.1.now)) result
+        ≡ opening_of script.now }
 {
     word_before(b" (", after(b"CREATE TABLE ", script)?)
 }
