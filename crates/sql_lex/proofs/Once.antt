@@ -1,5 +1,5 @@
 -- A script is read in one way.
-use Rattle.std.proofs.Common.{◌≡◌, ◌≢◌, ℕ, ◌+◌, ◌<◌, ◌≤◌, Bool, true, false, cond, nat_eq, ◌&&◌, List, [], ◌∷◌, ◌++◌, length, get_or, drop, arith, sym, ◌∙◌, ap, subst, refl, inl, inr, append_assoc, length-drop, add-zero}
+use Rattle.std.proofs.Common.{◌≡◌, ◌≢◌, ℕ, ◌+◌, ◌<◌, Bool, true, false, cond, nat_eq, ◌&&◌, List, [], ◌∷◌, ◌++◌, length, get_or, drop, arith, sym, ◌∙◌, ap, subst, refl, inl, inr, append_assoc, length-drop, add-zero}
 use Rattle.std.specs.Prelude.{Option, Some, None, Result, Ok, Err}
 use Rattle.std.specs.List.{slice_range, AllPass}
 use Rattle.std.specs.Char.{is_ascii_digit}
@@ -11,7 +11,7 @@ use Rattle.std.proofs.lemmas.List.Elements.{All-head, All-tail}
 use Rattle.std.proofs.lemmas.List.Folds.{drop_split}
 use Rattle.sql_lex.specs.Bytes.{is_white, is_comment_byte, starts_word, is_word_byte, is_sign, starts_comparison, is_second}
 use Rattle.sql_lex.specs.Run.{IsRun}
-use Rattle.sql_lex.specs.Gap.{comment_begins, IsComment, IsGap}
+use Rattle.sql_lex.specs.Gap.{comment_begins, IsGap}
 use Rattle.sql_lex.specs.Gap.IsGap.{nothing, white, comment}
 use Rattle.sql_lex.specs.Values.{doubled}
 use Rattle.sql_lex.specs.Forms.{HasForm, KeepsTokenLimit, limit_fault, is_comparison, goes_on, begins_something}

@@ -1,18 +1,18 @@
 -- Written tokens are read as these tokens.
-use Rattle.std.proofs.Common.{◌≡◌, ℕ, ◌+◌, ◌-◌, ◌<◌, ◌≤◌, suc, true, false, List, [], ◌∷◌, ◌++◌, length, get_or, drop, arith, sym, ◌∙◌, ap, subst, refl, length-append, length-drop, add-zero}
+use Rattle.std.proofs.Common.{◌≡◌, ℕ, ◌+◌, ◌-◌, ◌<◌, ◌≤◌, suc, true, List, [], ◌∷◌, ◌++◌, length, get_or, drop, arith, sym, ◌∙◌, ap, subst, refl, length-append, length-drop, add-zero}
 use Rattle.std.specs.Prelude.{Ok, None, Some}
-use Rattle.std.specs.List.{slice_range, AllPass}
+use Rattle.std.specs.List.{AllPass}
 use Rattle.std.proofs.lemmas.List.{drop_at, drop-drop, get_or-drop}
 use Rattle.std.proofs.lemmas.List.Elements.{All-head, All-tail}
 use Rattle.sql_lex.specs.Bytes.{is_white}
 use Rattle.sql_lex.specs.Gap.{IsGap}
 use Rattle.sql_lex.specs.Gap.IsGap.{nothing, white}
-use Rattle.sql_lex.specs.Forms.{HasForm, KeepsTokenLimit}
+use Rattle.sql_lex.specs.Forms.{HasForm}
 use Rattle.sql_lex.specs.Tokens.{IsReading, Tokens}
 use Rattle.sql_lex.specs.Written.{Written, written_text, written_tokens, MayBeWritten}
 use Rattle.sql_lex.specs.declared.token.TokenKind.{TokenKind}
 use Rattle.sql_lex.proofs.Wholes.{between_is_front, IsWhole-front}
-use Rattle.sql_lex.proofs.Once.{first_kind, form_first}
+use Rattle.sql_lex.proofs.Once.{form_first}
 
 -- a form has a byte
 form_length : (kind : TokenKind) (bytes : List ℕ) → HasForm kind bytes → 0 < length bytes
@@ -51,10 +51,17 @@ reads_written s from (token ∷ tokens) in_script same (space, form, keeps, stop
     let inside : end ≤ length s = omega (arith, len) in
     let here : drop start s ≡ token.bytes ++ drop end s = at_start ∙ ap (λ l. token.bytes ++ l) (sym at_end) in
     let next : get_or s end 0 ≡ get_or rest 0 0 = sym (first-drop s end) ∙ ap (λ l. get_or l 0 0) at_end in (
-      (start, IsGap-white s token.space (token.bytes ++ rest) from same space, (refl, record {
-        whole = IsWhole-front s token.kind token.bytes start end in_order inside here form (rw next stops);
-        limit = rw (between_is_front s token.bytes start end in_order inside here) keeps;
-      })),
+      (
+        start,
+        IsGap-white s token.space (token.bytes ++ rest) from same space,
+        (
+          refl,
+          record {
+            whole = IsWhole-front s token.kind token.bytes start end in_order inside here form (rw next stops);
+            limit = rw (between_is_front s token.bytes start end in_order inside here) keeps;
+          },
+        ),
+      ),
       reads_written s end tokens inside at_end others,
     )
 

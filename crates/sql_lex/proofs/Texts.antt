@@ -2,7 +2,7 @@
 use Rattle.std.proofs.Common.{◌≡◌, ◌≢◌, ◌↔◌, ℕ, ◌+◌, ◌-◌, ◌<◌, Bool, true, false, cond, nat_eq, List, [], ◌∷◌, ◌++◌, length, get_or, take, drop, arith, sym, ◌∙◌, ap, subst, refl, inl, inr, append_assoc, length-append}
 use Rattle.std.specs.Str.{IsUtf8}
 use Rattle.std.proofs.lemmas.Bool.{cases_eq, ne_eqb}
-use Rattle.std.proofs.lemmas.List.{take_at, drop_at, get_or_at, drop_more, drop_all, append-nil}
+use Rattle.std.proofs.lemmas.List.{take_at, drop_at, get_or_at, drop_more}
 use Rattle.std.proofs.lemmas.Str.Ascii.{IsAscii-cons, IsAscii-nil}
 use Rattle.std.proofs.lemmas.Str.{IsUtf8-nil, IsUtf8-from_ascii, IsUtf8-append, IsUtf8-take, IsUtf8-drop, IsCharBoundary-before_ascii, IsCharBoundary-after_ascii}
 use Rattle.sql_lex.specs.Forms.{HasForm, KeepsTokenLimit}
@@ -87,9 +87,9 @@ doubled_utf8 (b ∷ v) front =
     elim (cases_eq b 39) [
       | inl quote ↦ subst (λ (c : ℕ). IsUtf8 (front ++ c ∷ v) ↔ IsUtf8 (front ++ doubled (c ∷ v))) (sym quote) (
         λ h. let parts = utf8_around_quote front v h in
-        utf8_with_quote front (39 ∷ doubled v) parts.0 (utf8_with_quote [] (doubled v) IsUtf8-nil ((doubled_utf8 v []).0 parts.1)),
+            utf8_with_quote front (39 ∷ doubled v) parts.0 (utf8_with_quote [] (doubled v) IsUtf8-nil ((doubled_utf8 v []).0 parts.1)),
         λ h. let parts = utf8_around_quote front (39 ∷ doubled v) h in
-        utf8_with_quote front v parts.0 ((doubled_utf8 v []).1 (utf8_around_quote [] (doubled v) parts.1).1),
+            utf8_with_quote front v parts.0 ((doubled_utf8 v []).1 (utf8_around_quote [] (doubled v) parts.1).1),
       )
       | inr other ↦ rw (doubled_byte b v other)
           (rw (← append_assoc front (b ∷ []) v) (rw (← append_assoc front (b ∷ []) (doubled v)) (doubled_utf8 v (front ++ b ∷ []))))

@@ -4,7 +4,7 @@ use Rattle.std.specs.List.{slice_range, AllPass}
 use Rattle.std.specs.Char.{is_ascii_digit}
 use Rattle.std.proofs.lemmas.Bool.{cases_lt, cases_eq, false≢true}
 use Rattle.std.proofs.lemmas.Bool.Decides.{nat_tests}
-use Rattle.std.proofs.lemmas.List.{get_or_past, take_at, drop_more, get_or-drop}
+use Rattle.std.proofs.lemmas.List.{get_or_past, take_at, drop_more}
 use Rattle.std.proofs.lemmas.List.Edits.{length-between, get_or-between}
 use Rattle.std.proofs.lemmas.List.Elements.{All-from_get_or}
 use Rattle.sql_lex.specs.Bytes.{starts_word, is_word_byte}
@@ -98,7 +98,7 @@ pub IsWhole-text : (s : List ℕ) (start at : ℕ) → start < at → at < lengt
     → nat_eq (get_or s (at + 1) 0) 39 ≡ false → HasInside s (start + 1) (drop at s) → IsWhole s Text start (at + 1)
 IsWhole-text s start at in_order inside first last stops (v, same) =
     IsWhole-front s Text (quoted v) start (at + 1) (omega arith) (omega arith) (
-      drop_more s start 0 (omega arith) ∙ ap (λ b. b ∷ drop (start + 1) s) first ∙ ap (λ l. 39 ∷ l) same
-          ∙ ap (λ l. 39 ∷ (doubled v ++ l)) (drop_more s at 0 inside ∙ ap (λ b. b ∷ drop (at + 1) s) last)
-          ∙ quoted-ends v (drop (at + 1) s)
+    drop_more s start 0 (omega arith) ∙ ap (λ b. b ∷ drop (start + 1) s) first ∙ ap (λ l. 39 ∷ l) same
+    ∙ ap (λ l. 39 ∷ (doubled v ++ l)) (drop_more s at 0 inside ∙ ap (λ b. b ∷ drop (at + 1) s) last)
+    ∙ quoted-ends v (drop (at + 1) s)
     ) (v, refl) stops

@@ -2,7 +2,7 @@ use Rattle.std.proofs.Common.{◌≡◌, ◌⊎◌, inr, [], ◌++◌, subst, sy
 use Rattle.std.specs.Prelude.{Ok, None, Err}
 use Rattle.std.proofs.lemmas.List.{append-nil}
 use Rattle.std.proofs.lemmas.Result.{err_from_is_err_and}
-use Rattle.sql_lex.specs.Tokens.{Tokens, IsFirstFault}
+use Rattle.sql_lex.specs.Tokens.{IsFirstFault}
 use Rattle.sql_lex.specs.declared.fault.LexFault.{LexFault}
 use Rattle.sql_lex.specs.declared.fault.LexKind.TheVariants.{NoMemory}
 use Rattle.sql_lex.proofs.Readings.{IsGap-in_order, tokens_each}
