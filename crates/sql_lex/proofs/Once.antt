@@ -1,29 +1,28 @@
 -- A script is read in one way.
-use Rattle.std.proofs.Common.{◌≡◌, ◌≢◌, ℕ, ◌+◌, ◌<◌, Bool, true, false, cond, nat_eq, ◌&&◌, List, [], ◌∷◌, ◌++◌, length, get_or, drop, arith, sym, ◌∙◌, ap, subst, refl, inl, inr, append_assoc, length-drop, add-zero}
+use Rattle.std.proofs.Common.{◌≡◌, ℕ, ◌+◌, ◌<◌, Bool, true, false, cond, nat_eq, ◌&&◌, ◌||◌, List, [], ◌∷◌, ◌++◌, length, get_or, drop, arith, sym, ◌∙◌, ap, subst, refl, inl, inr, append_assoc, length-drop}
 use Rattle.std.specs.Prelude.{Option, Some, None, Result, Ok, Err}
 use Rattle.std.specs.List.{slice_range, AllPass}
 use Rattle.std.specs.Char.{is_ascii_digit}
-use Rattle.std.proofs.lemmas.Bool.{cases_lt, cases_eq, ne_eqb, false≢true, cond-true, cond-false}
+use Rattle.std.proofs.lemmas.Bool.{cases_order, cases_eq, ne_eqb, false≢true, both_ways, or_left, or_right, or_from, and_left, cond-true, cond-false}
 use Rattle.std.proofs.lemmas.Bool.Decides.{nat_tests}
-use Rattle.std.proofs.lemmas.List.{append-nil, get_or-drop, get_or_past}
+use Rattle.std.proofs.lemmas.List.{append-nil, get_or_past, drop_more, drop_all}
 use Rattle.std.proofs.lemmas.List.Edits.{length-between}
 use Rattle.std.proofs.lemmas.List.Elements.{All-head, All-tail}
 use Rattle.std.proofs.lemmas.List.Folds.{drop_split}
 use Rattle.sql_lex.specs.Bytes.{is_white, is_comment_byte, starts_word, is_word_byte, is_sign, starts_comparison, is_second}
 use Rattle.sql_lex.specs.Run.{IsRun}
-use Rattle.sql_lex.specs.Gap.{comment_begins, IsGap}
+use Rattle.sql_lex.specs.Gap.{comment_begins, gap_begins, IsGap}
 use Rattle.sql_lex.specs.Gap.IsGap.{nothing, white, comment}
 use Rattle.sql_lex.specs.Values.{doubled}
 use Rattle.sql_lex.specs.Forms.{HasForm, KeepsTokenLimit, limit_fault, is_comparison, goes_on, begins_something}
-use Rattle.sql_lex.specs.Tokens.{IsWhole, Offends, StandsAt, ComesNext, IsReading, IsLexing}
-use Rattle.sql_lex.specs.Tokens.Offends.{strange, open_text, limit}
+use Rattle.sql_lex.specs.Tokens.{IsWhole, IsToken, StandsAt, ComesNext, IsReading, IsLexing}
+use Rattle.sql_lex.specs.Tokens.StandsAt.{token_here, end_here, strange_byte, open_text, past_limit}
 use Rattle.sql_lex.specs.declared.token.Token.{Token}
 use Rattle.sql_lex.specs.declared.token.TokenKind.{TokenKind}
 use Rattle.sql_lex.specs.declared.token.TokenKind.TheVariants.{Word, Number, Text, Sign, Comparison}
 use Rattle.sql_lex.specs.declared.fault.LexFault.{LexFault}
-use Rattle.sql_lex.specs.declared.fault.LexKind.{LexKind}
 use Rattle.sql_lex.proofs.Texts.{doubled_byte}
-use Rattle.sql_lex.proofs.Wholes.{first-between}
+use Rattle.sql_lex.proofs.Wholes.{first-between, first-drop}
 
 -- the kind of the token that a byte begins
 abbrev pub first_kind : ℕ → Option TokenKind
@@ -51,12 +50,6 @@ second_starts b c h = grind (arith, nat_tests)
 
 nothing_first : (b : ℕ) → begins_something b ≡ false → first_kind b ≡ None
 nothing_first b h = grind (arith, nat_tests)
-
-nothing_white : (b : ℕ) → begins_something b ≡ false → is_white b ≡ false
-nothing_white b h = grind (arith, nat_tests)
-
-kind_white : (b : ℕ) (kind : TokenKind) → first_kind b ≡ Some kind → is_white b ≡ false
-kind_white b kind h = grind (arith, nat_tests)
 
 pub form_first : (kind : TokenKind) (bytes : List ℕ) → HasForm kind bytes → first_kind (get_or bytes 0 0) ≡ Some kind
 form_first Word bytes form = letter_first (get_or bytes 0 0) form.0
@@ -129,132 +122,91 @@ after-append Text xs l (v, same) longest =
 after-append Sign xs l (b, sign, same) longest = ap (λ ys. Some (drop 1 (ys ++ l))) same
 after-append Comparison xs l form longest = ap Some (after_comparison-append xs l form longest)
 
-whole_first : (s : List ℕ) (kind : TokenKind) (place end : ℕ) → IsWhole s kind place end → first_kind (get_or s place 0) ≡ Some kind
-whole_first s kind place end whole =
-    ap first_kind (sym (first-between s place end whole.in_order)) ∙ form_first kind (slice_range s place end) whole.form
+-- what begins here: nothing more, nothing with this byte, or a kind's form with what follows it, if it ends
+data Begun : Type 0 where
+  no_more : Begun
+  no_form : Begun
+  form_of : TokenKind → Option (List ℕ) → Begun
 
-whole_after : (s : List ℕ) (kind : TokenKind) (place end : ℕ) → IsWhole s kind place end → after kind (drop place s) ≡ Some (drop end s)
-whole_after s kind place end whole =
+abbrev begun_by : Option TokenKind → List ℕ → Begun
+begun_by None l = no_form
+begun_by (Some kind) l = form_of kind (after kind l)
+
+abbrev begun : List ℕ → Begun
+begun [] = no_more
+begun (b ∷ l) = begun_by (first_kind b) (b ∷ l)
+
+begun-append : (kind : TokenKind) (xs l : List ℕ) → HasForm kind xs → goes_on kind xs (get_or l 0 0) ≡ false
+    → begun (xs ++ l) ≡ form_of kind (Some l)
+begun-append kind [] l form longest = let none : None ≡ Some kind = form_first kind [] form in absurd (cc none)
+begun-append kind (b ∷ xs) l form longest =
+    ap (λ first. begun_by first (b ∷ xs ++ l)) (form_first kind (b ∷ xs) form) ∙ ap (form_of kind) (after-append kind (b ∷ xs) l form longest)
+
+whole_begun : (s : List ℕ) (kind : TokenKind) (place end : ℕ) → IsWhole s kind place end → begun (drop place s) ≡ form_of kind (Some (drop end s))
+whole_begun s kind place end whole =
     let in_order = whole.in_order in
-    let next : get_or (drop end s) 0 0 ≡ get_or s end 0 = get_or-drop end s 0 0 ∙ ap (λ k. get_or s k 0) (add-zero end) in
-    ap (after kind) (drop_split s place end (omega arith))
-    ∙ after-append kind (slice_range s place end) (drop end s) whole.form (ap (goes_on kind (slice_range s place end)) next ∙ whole.longest)
-
-some_same : {X : Type 0} (a b : X) → Some a ≡ Some b → a ≡ b
-some_same a b same = cc same
+    ap begun (drop_split s place end (omega arith))
+    ∙ begun-append kind (slice_range s place end) (drop end s) whole.form (ap (goes_on kind (slice_range s place end)) (first-drop s end) ∙ whole.longest)
 
 -- one form begins at a place, and it has one end
 whole_once : (s : List ℕ) (k l : TokenKind) (place d e : ℕ) → IsWhole s k place d → IsWhole s l place e → (k ≡ l) × (d ≡ e)
 whole_once s k l place d e one other =
-    let kinds : k ≡ l = some_same k l (sym (whole_first s k place d one) ∙ whole_first s l place e other) in
-    let rests : drop d s ≡ drop e s = some_same (drop d s) (drop e s)
-    (sym (whole_after s k place d one) ∙ ap (λ m. after m (drop place s)) kinds ∙ whole_after s l place e other) in
+    let same = sym (whole_begun s k place d one) ∙ whole_begun s l place e other in
+    let rests : drop d s ≡ drop e s = cc same in
     let lengths : length (drop d s) ≡ length (drop e s) = ap length rests in
     let in_d = one.in_script in
     let in_e = other.in_script in
-    (kinds, omega (arith, lengths, length-drop d s, length-drop e s))
+    (cc same, omega (arith, lengths, length-drop d s, length-drop e s))
 
-quote_first : (s v : List ℕ) (place : ℕ) → drop place s ≡ 39 ∷ doubled v → get_or s place 0 ≡ 39
-quote_first s v place same = ap (λ k. get_or s k 0) (sym (add-zero place)) ∙ sym (get_or-drop place s 0 0) ∙ ap (λ l. get_or l 0 0) same
+-- a form doesn't both keep and break its kind's limit
+keeps_or_breaks : (s : List ℕ) (k l : TokenKind) (place d e : ℕ) → IsToken s (record { kind = k; start = place; end = d }) → IsWhole s l place e
+    → ¬ (KeepsTokenLimit l (slice_range s place e)) → ⊥
+keeps_or_breaks s k l place d e one other breaks =
+    let once = whole_once s k l place d e one.whole other in
+    breaks (subst (λ (m : TokenKind). KeepsTokenLimit m (slice_range s place e)) once.0
+    (subst (λ (n : ℕ). KeepsTokenLimit k (slice_range s place n)) once.1 one.limit))
 
--- an open text has no end
-open_never_ends : (s v : List ℕ) (kind : TokenKind) (place end : ℕ) → drop place s ≡ 39 ∷ doubled v → IsWhole s kind place end → ⊥
-open_never_ends s v kind place end same whole =
-    let text : kind ≡ Text = some_same kind Text (sym (whole_first s kind place end whole) ∙ ap first_kind (quote_first s v place same)) in
-    let ends : None ≡ Some (drop end s) =
-    sym (after_text-append v []) ∙ ap (after_text false) (append-nil (doubled v)) ∙ ap (λ l. after_text false (drop 1 l)) (sym same)
-    ∙ ap (λ m. after m (drop place s)) (sym text) ∙ whole_after s kind place end whole in
-    cc ends
+abbrev what_begins : (s : List ℕ) (place : ℕ) (next : Result (Option Token) LexFault) → StandsAt s place next → Begun
+what_begins s place next (token_here kind end _) = form_of kind (Some (drop end s))
+what_begins s place next (end_here _) = no_more
+what_begins s place next (strange_byte _ _) = no_form
+what_begins s place next (open_text _ _) = form_of Text None
+what_begins s place next (past_limit kind end _ _ _ _) = form_of kind (Some (drop end s))
 
--- a token is no fault
-token_or_fault : (s : List ℕ) (kind : TokenKind) (place end : ℕ) (fault : LexKind) → IsWhole s kind place end
-    → KeepsTokenLimit kind (slice_range s place end) → Offends s place fault → ⊥
-token_or_fault s kind place end fault whole keeps (strange inside none) =
-    let clash = sym (whole_first s kind place end whole) ∙ nothing_first (get_or s place 0) none in cc clash
-token_or_fault s kind place end fault whole keeps (open_text v same) = open_never_ends s v kind place end same whole
-token_or_fault s kind place end fault whole keeps (limit other d _ form breaks _) =
-    let once = whole_once s kind other place end d whole form in
-    breaks (subst (λ (k : TokenKind). KeepsTokenLimit k (slice_range s place d)) once.0
-    (subst (λ (n : ℕ). KeepsTokenLimit kind (slice_range s place n)) once.1 keeps))
-
--- one thing is wrong at a place
-fault_once : (s : List ℕ) (place : ℕ) (f g : LexKind) → Offends s place f → Offends s place g → f ≡ g
-fault_once s place f g (strange _ _) (strange _ _) = refl
-fault_once s place f g (open_text _ _) (open_text _ _) = refl
-fault_once s place f g (limit k d _ a _ broken) (limit l e _ b _ other) =
-    let once = whole_once s k l place d e a b in
-    some_same f g (sym broken ∙ ap limit_fault once.0 ∙ other)
-fault_once s place f g (strange _ none) (open_text v same) =
-    let clash = sym (nothing_first (get_or s place 0) none) ∙ ap first_kind (quote_first s v place same) in cc clash
-fault_once s place f g (open_text v same) (strange _ none) =
-    let clash = sym (nothing_first (get_or s place 0) none) ∙ ap first_kind (quote_first s v place same) in cc clash
-fault_once s place f g (strange _ none) (limit k d _ a _ _) =
-    let clash = sym (nothing_first (get_or s place 0) none) ∙ whole_first s k place d a in cc clash
-fault_once s place f g (limit k d _ a _ _) (strange _ none) =
-    let clash = sym (nothing_first (get_or s place 0) none) ∙ whole_first s k place d a in cc clash
-fault_once s place f g (open_text v same) (limit k d _ a _ _) = absurd (open_never_ends s v k place d same a)
-fault_once s place f g (limit k d _ a _ _) (open_text v same) = absurd (open_never_ends s v k place d same a)
-
-Offends-inside : (s : List ℕ) (place : ℕ) (fault : LexKind) → Offends s place fault → place < length s
-Offends-inside s place fault (strange inside _) = inside
-Offends-inside s place fault (open_text v same) =
-    let some : 0 < length (drop place s) = omega (arith, ap length same) in
-    omega (arith, length-drop place s)
-Offends-inside s place fault (limit k end _ whole _ _) =
-    let in_order = whole.in_order in
-    let in_script = whole.in_script in
-    omega arith
-
-abbrev token_at : TokenKind → (start end : ℕ) → Token
-token_at kind start end = record { kind = kind; start = start; end = end }
-
-abbrev fault_at : LexKind → (place : ℕ) → LexFault
-fault_at kind place = record { place = place; kind = kind }
-
-fault_same : (k l : LexKind) (a b : ℕ) → k ≡ l → a ≡ b → fault_at k a ≡ fault_at l b
-fault_same k l a b kinds places = cc
-
-token_same : (k l : TokenKind) (a b c d : ℕ) → k ≡ l → a ≡ b → c ≡ d → token_at k a c ≡ token_at l b d
-token_same k l a b c d kinds starts ends = cc
+begun-place : (s : List ℕ) (place : ℕ) (next : Result (Option Token) LexFault) (stands : StandsAt s place next)
+    → begun (drop place s) ≡ what_begins s place next stands
+begun-place s place next (token_here kind end one) = whole_begun s kind place end one.whole
+begun-place s place next (end_here end) = ap begun (drop_all place s (omega (arith, end)))
+begun-place s place next (strange_byte inside none) =
+    ap begun (drop_more s place 0 inside) ∙ ap (λ first. begun_by first (get_or s place 0 ∷ drop (place + 1) s)) (nothing_first (get_or s place 0) none)
+begun-place s place next (open_text v same) =
+    ap begun same ∙ ap (form_of Text) (ap (after_text false) (sym (append-nil (doubled v))) ∙ after_text-append v [])
+begun-place s place next (past_limit kind end _ one _ _) = whole_begun s kind place end one
 
 stands_once : (s : List ℕ) (place : ℕ) (one other : Result (Option Token) LexFault) → StandsAt s place one → StandsAt s place other → one ≡ other
-stands_once s place (Ok None) (Ok None) a b = refl
-stands_once s place (Ok (Some t)) (Ok (Some u)) a b =
-    let starts : t.start ≡ u.start = a.0 ∙ sym b.0 in
-    let once = whole_once s t.kind u.kind u.start t.end u.end (subst (λ (p : ℕ). IsWhole s t.kind p t.end) starts a.1.whole) b.1.whole in
-    let same : t ≡ u = token_same t.kind u.kind t.start u.start t.end u.end once.0 starts once.1 in
-    ap (λ v. Ok (Some v)) same
-stands_once s place (Err f) (Err g) a b =
-    let same : f ≡ g = fault_same f.kind g.kind f.place g.place (fault_once s place f.kind g.kind a.1 b.1) (a.0 ∙ sym b.0) in
-    ap Err same
-stands_once s place (Ok (Some t)) (Err f) a b = absurd (token_or_fault s t.kind t.start t.end f.kind a.1.whole a.1.limit (subst (λ (p : ℕ). Offends s p f.kind) (sym a.0) b.1))
-stands_once s place (Err f) (Ok (Some t)) a b = absurd (token_or_fault s t.kind t.start t.end f.kind b.1.whole b.1.limit (subst (λ (p : ℕ). Offends s p f.kind) (sym b.0) a.1))
-stands_once s place (Ok None) (Ok (Some u)) a b =
-    let in_order = b.1.whole.in_order in
-    let in_script = b.1.whole.in_script in
-    absurd (omega (arith, a, b.0))
-stands_once s place (Ok (Some t)) (Ok None) a b =
-    let in_order = a.1.whole.in_order in
-    let in_script = a.1.whole.in_script in
-    absurd (omega (arith, b, a.0))
-stands_once s place (Ok None) (Err g) a b = let inside = Offends-inside s place g.kind b.1 in absurd (omega (arith, a))
-stands_once s place (Err f) (Ok None) a b = let inside = Offends-inside s place f.kind a.1 in absurd (omega (arith, b))
+stands_once s place one other (token_here k d a) (token_here l e b) = let once = whole_once s k l place d e a.whole b.whole in cc (once.0, once.1)
+stands_once s place one other (token_here k d a) (past_limit l e _ b breaks _) = absurd (keeps_or_breaks s k l place d e a b breaks)
+stands_once s place one other (past_limit k d _ a breaks _) (token_here l e b) = absurd (keeps_or_breaks s l k place e d b a breaks)
+stands_once s place one other (past_limit k d f a _ fault) (past_limit l e g b _ same) =
+    let once = whole_once s k l place d e a b in
+    let kinds = sym fault ∙ ap limit_fault once.0 ∙ same in
+    cc kinds
+stands_once s place one other (end_here _) (end_here _) = refl
+stands_once s place one other (strange_byte _ _) (strange_byte _ _) = refl
+stands_once s place one other (open_text _ _) (open_text _ _) = refl
+stands_once s place one other a b = let same = sym (begun-place s place one a) ∙ begun-place s place other b in cc same
 
--- neither white space nor a comment begins here
-abbrev BeginsNoGap : List ℕ → ℕ → Type 0
-BeginsNoGap s place = (is_white (get_or s place 0) ≡ false) × (comment_begins s place ≡ false)
+strange_no_gap : (b c : ℕ) → begins_something b ≡ false → (is_white b || (nat_eq b 45 && nat_eq c 45)) ≡ false
+strange_no_gap b c h = grind (arith, nat_tests)
 
-other_byte : (b c : ℕ) → b ≢ 45 → (nat_eq b 45 && nat_eq c 45) ≡ false
-other_byte b c other = ap (λ t. t && nat_eq c 45) (ne_eqb b 45 other)
-
-strange_byte : (b : ℕ) → begins_something b ≡ false → b ≢ 45
-strange_byte b h e = grind (arith, nat_tests)
+kind_white : (b : ℕ) (kind : TokenKind) → first_kind b ≡ Some kind → is_white b ≡ false
+kind_white b kind h = grind (arith, nat_tests)
 
 minus_first : (b : ℕ) (kind : TokenKind) → first_kind b ≡ Some kind → b ≡ 45 → kind ≡ Sign
-minus_first b kind h minus = some_same kind Sign (sym h ∙ ap first_kind minus)
+minus_first b kind h minus = let same = sym h ∙ ap first_kind minus in cc same
 
-sign_no_gap : (s : List ℕ) (place end : ℕ) → IsWhole s Sign place end → comment_begins s place ≡ false
-sign_no_gap s place end whole =
+sign_no_comment : (s : List ℕ) (place end : ℕ) → IsWhole s Sign place end → comment_begins s place ≡ false
+sign_no_comment s place end whole =
     let len = length-between s place end whole.in_script in
     let one : length (slice_range s place end) ≡ 1 = ap length whole.form.2 in
     let in_order = whole.in_order in
@@ -262,52 +214,47 @@ sign_no_gap s place end whole =
     ap (λ k. nat_eq (get_or s place 0) 45 && nat_eq (get_or s k 0) 45) next
     ∙ ap (λ b. nat_eq b 45 && nat_eq (get_or s end 0) 45) (sym (first-between s place end whole.in_order)) ∙ whole.longest
 
-whole_no_gap : (s : List ℕ) (kind : TokenKind) (place end : ℕ) → IsWhole s kind place end → BeginsNoGap s place
+whole_no_gap : (s : List ℕ) (kind : TokenKind) (place end : ℕ) → IsWhole s kind place end → gap_begins s place ≡ false
 whole_no_gap s kind place end whole =
-    let first = whole_first s kind place end whole in (
-      kind_white (get_or s place 0) kind first,
-      elim (cases_eq (get_or s place 0) 45) [
-        | inl minus ↦ sign_no_gap s place end (subst (λ (k : TokenKind). IsWhole s k place end) (minus_first (get_or s place 0) kind first minus) whole)
-        | inr other ↦ other_byte (get_or s place 0) (get_or s (place + 1) 0) other
-      ],
+    let first = ap first_kind (sym (first-between s place end whole.in_order)) ∙ form_first kind (slice_range s place end) whole.form in
+    or_from (is_white (get_or s place 0)) (comment_begins s place) (kind_white (get_or s place 0) kind first) (
+    elim (cases_eq (get_or s place 0) 45) [
+      | inl minus ↦ sign_no_comment s place end (subst (λ (k : TokenKind). IsWhole s k place end) (minus_first (get_or s place 0) kind first minus) whole)
+      | inr other ↦ and_left (nat_eq (get_or s place 0) 45) (nat_eq (get_or s (place + 1) 0) 45) (ne_eqb (get_or s place 0) 45 other)
+    ]
     )
 
-fault_no_gap : (s : List ℕ) (place : ℕ) (fault : LexKind) → Offends s place fault → BeginsNoGap s place
-fault_no_gap s place fault (strange _ none) =
-    (nothing_white (get_or s place 0) none, other_byte (get_or s place 0) (get_or s (place + 1) 0) (strange_byte (get_or s place 0) none))
-fault_no_gap s place fault (open_text v same) =
-    let quote = quote_first s v place same in
-    (ap is_white quote, ap (λ b. nat_eq b 45 && nat_eq (get_or s (place + 1) 0) 45) quote)
-fault_no_gap s place fault (limit k end _ whole _ _) = whole_no_gap s k place end whole
+stands_no_gap : (s : List ℕ) (place : ℕ) (next : Result (Option Token) LexFault) → StandsAt s place next → gap_begins s place ≡ false
+stands_no_gap s place next (token_here kind end one) = whole_no_gap s kind place end one.whole
+stands_no_gap s place next (end_here last) =
+    ap (λ b. is_white b || (nat_eq b 45 && nat_eq (get_or s (place + 1) 0) 45)) (get_or_past s place 0 (omega (arith, last)))
+stands_no_gap s place next (strange_byte _ none) = strange_no_gap (get_or s place 0) (get_or s (place + 1) 0) none
+stands_no_gap s place next (open_text v same) =
+    ap (λ b. is_white b || (nat_eq b 45 && nat_eq (get_or s (place + 1) 0) 45)) (sym (first-drop s place) ∙ ap (λ l. get_or l 0 0) same)
+stands_no_gap s place next (past_limit kind end _ one _ _) = whole_no_gap s kind place end one
 
-StandsAt-no_gap : (s : List ℕ) (place : ℕ) (next : Result (Option Token) LexFault) → StandsAt s place next → BeginsNoGap s place
-StandsAt-no_gap s place (Ok (Some t)) stands = subst (λ (p : ℕ). BeginsNoGap s p) stands.0 (whole_no_gap s t.kind t.start t.end stands.1.whole)
-StandsAt-no_gap s place (Ok None) end =
-    let none : get_or s place 0 ≡ 0 = get_or_past s place 0 (omega (arith, end)) in
-    (ap is_white none, ap (λ b. nat_eq b 45 && nat_eq (get_or s (place + 1) 0) 45) none)
-StandsAt-no_gap s place (Err f) stands = fault_no_gap s place f.kind stands.1
+run_no_less : (p : ℕ → Bool) (s : List ℕ) (start d e : ℕ) → IsRun p s start d → IsRun p s start e → d < e → ⊥
+run_no_less p s start d e one other less =
+    let inside = other.in_script in
+    false≢true (sym (one.stops (omega arith)) ∙ other.inside d one.in_order less)
 
 run_once : (p : ℕ → Bool) (s : List ℕ) (start d e : ℕ) → IsRun p s start d → IsRun p s start e → d ≡ e
 run_once p s start d e one other =
-    let in_d = one.in_script in
-    let in_e = other.in_script in
-    elim (cases_lt d e) [
-      | inl less ↦ absurd (false≢true (sym (one.stops (omega arith)) ∙ other.inside d one.in_order less))
-      | inr no_less ↦ elim (cases_lt e d) [
-        | inl more ↦ absurd (false≢true (sym (other.stops (omega arith)) ∙ one.inside e other.in_order more))
-        | inr no_more ↦ omega arith
-      ]
+    elim (cases_order d e) [
+      | inl same ↦ same
+      | inr (inl less) ↦ absurd (run_no_less p s start d e one other less)
+      | inr (inr more) ↦ absurd (run_no_less p s start e d other one more)
     ]
 
 white_no_comment : (b c : ℕ) → is_white b ≡ true → (nat_eq b 45 && nat_eq c 45) ≡ true → ⊥
 white_no_comment b c space minus = grind (arith, nat_tests)
 
-gap_once : (s : List ℕ) (from p q : ℕ) → IsGap s from p → IsGap s from q → BeginsNoGap s p → BeginsNoGap s q → p ≡ q
+gap_once : (s : List ℕ) (from p q : ℕ) → IsGap s from p → IsGap s from q → gap_begins s p ≡ false → gap_begins s q ≡ false → p ≡ q
 gap_once s from p q (nothing _) (nothing _) a b = refl
-gap_once s from p q (nothing _) (white _ _ space _) a b = absurd (false≢true (sym a.0 ∙ space))
-gap_once s from p q (nothing _) (comment _ _ _ line _) a b = absurd (false≢true (sym a.1 ∙ line.begins))
-gap_once s from p q (white _ _ space _) (nothing _) a b = absurd (false≢true (sym b.0 ∙ space))
-gap_once s from p q (comment _ _ _ line _) (nothing _) a b = absurd (false≢true (sym b.1 ∙ line.begins))
+gap_once s from p q (nothing _) (white _ _ space _) a b = absurd (both_ways _ a (or_left _ _ space))
+gap_once s from p q (nothing _) (comment _ _ _ line _) a b = absurd (both_ways _ a (or_right _ _ line.begins))
+gap_once s from p q (white _ _ space _) (nothing _) a b = absurd (both_ways _ b (or_left _ _ space))
+gap_once s from p q (comment _ _ _ line _) (nothing _) a b = absurd (both_ways _ b (or_right _ _ line.begins))
 gap_once s from p q (white _ _ _ one) (white _ _ _ other) a b = gap_once s (from + 1) p q one other a b
 gap_once s from p q (white _ _ space _) (comment _ _ _ line _) a b = absurd (white_no_comment (get_or s from 0) (get_or s (from + 1) 0) space line.begins)
 gap_once s from p q (comment _ _ _ line _) (white _ _ space _) a b = absurd (white_no_comment (get_or s from 0) (get_or s (from + 1) 0) space line.begins)
@@ -317,7 +264,7 @@ gap_once s from p q (comment _ d _ line one) (comment _ e _ row other) a b =
 
 comes_once : (s : List ℕ) (from : ℕ) (one other : Result (Option Token) LexFault) → ComesNext s from one → ComesNext s from other → one ≡ other
 comes_once s from one other (p, gap_p, a) (q, gap_q, b) =
-    let places = gap_once s from p q gap_p gap_q (StandsAt-no_gap s p one a) (StandsAt-no_gap s q other b) in
+    let places = gap_once s from p q gap_p gap_q (stands_no_gap s p one a) (stands_no_gap s q other b) in
     stands_once s q one other (subst (λ (k : ℕ). StandsAt s k one) places a) b
 
 -- what ends a list of tokens: no token

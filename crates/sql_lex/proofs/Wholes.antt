@@ -4,7 +4,7 @@ use Rattle.std.specs.List.{slice_range, AllPass}
 use Rattle.std.specs.Char.{is_ascii_digit}
 use Rattle.std.proofs.lemmas.Bool.{cases_lt, cases_eq, false≢true}
 use Rattle.std.proofs.lemmas.Bool.Decides.{nat_tests}
-use Rattle.std.proofs.lemmas.List.{get_or_past, take_at, drop_more}
+use Rattle.std.proofs.lemmas.List.{get_or_past, take_at, drop_more, get_or-drop}
 use Rattle.std.proofs.lemmas.List.Edits.{length-between, get_or-between}
 use Rattle.std.proofs.lemmas.List.Elements.{All-from_get_or}
 use Rattle.sql_lex.specs.Bytes.{starts_word, is_word_byte}
@@ -43,6 +43,9 @@ IsRun-passes p s start end run =
 
 pub first-between : (s : List ℕ) (start end : ℕ) → start < end → get_or (slice_range s start end) 0 0 ≡ get_or s start 0
 first-between s start end some = get_or-between s start end 0 0 (omega arith) ∙ ap (λ k. get_or s k 0) (add-zero start)
+
+pub first-drop : (s : List ℕ) (from : ℕ) → get_or (drop from s) 0 0 ≡ get_or s from 0
+first-drop s from = get_or-drop from s 0 0 ∙ ap (λ k. get_or s k 0) (add-zero from)
 
 letter_in_word : (b : ℕ) → starts_word b ≡ true → is_word_byte b ≡ true
 letter_in_word b h = grind (arith, nat_tests)

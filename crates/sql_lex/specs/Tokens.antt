@@ -22,22 +22,19 @@ pub record IsToken (script : List ℕ) (token : Token) : Type 0 where
   pub whole : IsWhole script token.kind token.start token.end
   pub limit : KeepsTokenLimit token.kind (slice_range script token.start token.end)
 
--- what is wrong at a place: nothing begins with its byte, a text has no closing quote,
--- or bytes have a kind's form and break its limit
-pub data Offends (script : List ℕ) (place : ℕ) : LexKind → Type 0 where
-  strange : place < length script → IsFalse (begins_something (slice_index script place))
-      → Offends script place Byte
+-- what stands at a place: a token, or nothing more at the script's end, or a fault: a byte with which
+-- nothing begins, a text with no closing quote, or bytes of a kind's form that break its limit
+pub data StandsAt (script : List ℕ) (place : ℕ) : Result (Option Token) LexFault → Type 0 where
+  token_here : (kind : TokenKind) (end : ℕ) → IsToken script (record { kind = kind; start = place; end = end })
+      → StandsAt script place (Ok (Some (record { kind = kind; start = place; end = end })))
+  end_here : place ≡ length script → StandsAt script place (Ok None)
+  strange_byte : place < length script → IsFalse (begins_something (slice_index script place))
+      → StandsAt script place (Err (record { place = place; kind = Byte }))
   open_text : (value : List ℕ) → drop place script ≡ 39 ∷ doubled value
-      → Offends script place OpenText
-  limit : (kind : TokenKind) (end : ℕ) (fault : LexKind) → IsWhole script kind place end
+      → StandsAt script place (Err (record { place = place; kind = OpenText }))
+  past_limit : (kind : TokenKind) (end : ℕ) (fault : LexKind) → IsWhole script kind place end
       → ¬ (KeepsTokenLimit kind (slice_range script place end)) → limit_fault kind ≡ Some fault
-      → Offends script place fault
-
--- what stands at a place: a token, nothing more at the script's end, or a fault
-abbrev pub StandsAt : List ℕ → (place : ℕ) → Result (Option Token) LexFault → Type 0
-StandsAt script place (Ok (Some token)) = (token.start ≡ place) × IsToken script token
-StandsAt script place (Ok None) = place ≡ length script
-StandsAt script place (Err fault) = (fault.place ≡ place) × Offends script place fault.kind
+      → StandsAt script place (Err (record { place = place; kind = fault }))
 
 -- what comes next: it stands after white space and comments
 abbrev pub ComesNext : List ℕ → (from : ℕ) → Result (Option Token) LexFault → Type 0

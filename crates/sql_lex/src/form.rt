@@ -1,8 +1,8 @@
 ghost use Rattle.std.specs.Prelude.{◌≡◌, ◌+◌, ◌<◌, ◌==◌, length, drop, slice_index, Some, Ok, Err, IsTrue, IfOk, IfErr, IfSome, IfNone, MatchResult};
 ghost use Rattle.std.specs.Bool.{IsFalse};
-ghost use Rattle.sql_lex.specs.Bytes.{is_white, starts_comparison};
-ghost use Rattle.sql_lex.specs.Gap.{comment_begins};
-ghost use Rattle.sql_lex.specs.Tokens.{IsWhole, Offends, StandsAt};
+ghost use Rattle.sql_lex.specs.Bytes.{starts_comparison};
+ghost use Rattle.sql_lex.specs.Gap.{gap_begins};
+ghost use Rattle.sql_lex.specs.Tokens.{IsWhole, StandsAt};
 ghost use Rattle.sql_lex.specs.declared.token.TokenKind.{TokenKind};
 ghost use Rattle.sql_lex.specs.declared.fault.LexKind.{LexKind};
 
@@ -15,8 +15,7 @@ use crate::token::{Token, TokenKind};
 // The token that begins at `start`, or what is wrong there.
 pub(crate) fn token_at(text: &[u8], start: usize) -> Result<Token, LexFault>
     requires in_text { start < length text.now }
-    requires no_white { IsFalse (is_white (slice_index text.now start)) }
-    requires no_comment { IsFalse (comment_begins text.now start) }
+    requires no_gap { IsFalse (gap_begins text.now start) }
     ensures token { IfOk result (λ token. StandsAt text.now start (Ok (Some token))) }
     ensures fault { IfErr result (λ fault. StandsAt text.now start (Err fault)) }
 {
@@ -33,10 +32,10 @@ pub(crate) fn token_at(text: &[u8], start: usize) -> Result<Token, LexFault>
 // The kind of the form that begins at `start`, and the place after its last byte.
 fn form_at(text: &[u8], start: usize) -> Result<(TokenKind, usize), LexKind>
     requires in_text { start < length text.now }
-    requires no_white { IsFalse (is_white (slice_index text.now start)) }
-    requires no_comment { IsFalse (comment_begins text.now start) }
+    requires no_gap { IsFalse (gap_begins text.now start) }
     ensures whole { IfOk result (λ form. IsWhole text.now form.0 start form.1) }
-    ensures none { IfErr result (λ fault. Offends text.now start fault) }
+    ensures none { IfErr result (λ fault.
+        StandsAt text.now start (Err (record { place = start; kind = fault }))) }
 {
     let first = text[start];
     if first.is_ascii_alphabetic() {
@@ -60,7 +59,8 @@ fn text_end(text: &[u8], start: usize) -> Option<usize>
     requires in_text { start < length text.now }
     requires quote { slice_index text.now start ≡ 39 }
     ensures whole { IfSome result (λ end. IsWhole text.now TokenKind.Text start end) }
-    ensures open { IfNone result (Offends text.now start LexKind.OpenText) }
+    ensures open { IfNone result
+        (StandsAt text.now start (Err (record { place = start; kind = LexKind.OpenText }))) }
 {
     let mut at = start + 1;
     while at < text.len() {

@@ -1,7 +1,6 @@
 ghost use Rattle.std.specs.Prelude.{◌≡◌, ◌<◌, ◌≤◌, length, slice_index};
 ghost use Rattle.std.specs.Bool.{IsFalse};
-ghost use Rattle.sql_lex.specs.Bytes.{is_white};
-ghost use Rattle.sql_lex.specs.Gap.{IsGap, comment_begins};
+ghost use Rattle.sql_lex.specs.Gap.{IsGap, comment_begins, gap_begins};
 
 use crate::byte::{MINUS, Run, is_white};
 
@@ -24,8 +23,7 @@ pub(crate) fn gap_end(text: &[u8], from: usize) -> usize
     requires { from ≤ length text.now }
     ensures in_text { result ≤ length text.now }
     ensures gap { IsGap text.now from result }
-    ensures no_white { result < length text.now → IsFalse (is_white (slice_index text.now result)) }
-    ensures no_comment { result < length text.now → IsFalse (comment_begins text.now result) }
+    ensures stops { result < length text.now → IsFalse (gap_begins text.now result) }
 {
     let mut end = from;
     while end < text.len() {

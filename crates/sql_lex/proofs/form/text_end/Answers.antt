@@ -1,7 +1,7 @@
 use Rattle.std.proofs.Common.{◌≡◌, ◌+◌, ◌<◌, length, get_or, drop, sym, ◌∙◌, ap, arith, refl, inl, inr, [], ◌∷◌}
 use Rattle.std.proofs.lemmas.List.{get_or_past, drop_more, drop_all, append-nil}
 use Rattle.std.proofs.lemmas.Bool.{cases_lt, ne_eqb}
-use Rattle.sql_lex.specs.Tokens.Offends.{open_text}
+use Rattle.sql_lex.specs.Tokens.StandsAt.{open_text}
 use Rattle.sql_lex.proofs.Texts.{HasInside-byte, HasInside-quotes}
 use Rattle.sql_lex.proofs.Wholes.{IsWhole-text}
 use Rattle.sql_lex.proofs.form.text_end.Goals as goal

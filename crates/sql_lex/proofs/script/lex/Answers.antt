@@ -5,7 +5,7 @@ use Rattle.std.proofs.lemmas.Result.{err_from_is_err_and}
 use Rattle.sql_lex.specs.Tokens.{IsFirstFault}
 use Rattle.sql_lex.specs.declared.fault.LexFault.{LexFault}
 use Rattle.sql_lex.specs.declared.fault.LexKind.TheVariants.{NoMemory}
-use Rattle.sql_lex.proofs.Readings.{IsGap-in_order, tokens_each}
+use Rattle.sql_lex.proofs.Readings.{ComesNext-token, tokens_each}
 use Rattle.sql_lex.proofs.script.lex.Goals as goal
 
 pub returns-in_err-token-clause-offends : goal.returns-in_err-token-clause-offends
@@ -18,8 +18,8 @@ returns-in_err-token-clause-offends c =
 pub loop-tokens-smaller : goal.loop-tokens-smaller
 loop-tokens-smaller c =
     let next = rw c.in-Some.is at c.in_ok-token.ensures in
-    let first = IsGap-in_order _ _ _ next.1 in
-    omega (arith, first, next.2.0, next.2.1.whole.in_order, next.2.1.whole.in_script)
+    let after = ComesNext-token c.args.text.now c.loop-tokens.end c.in-Some.token next in
+    omega (arith, after.0, after.1.whole.in_order, after.1.whole.in_script)
 
 pub returns-clause-found : goal.returns-clause-found
 returns-clause-found c =
