@@ -33,33 +33,15 @@ first_kind b =
     (cond (starts_comparison b) (Some Comparison)
     (cond (is_sign b) (Some Sign) None))))
 
-letter_first : (b : ℕ) → starts_word b ≡ true → first_kind b ≡ Some Word
-letter_first b h = grind (arith, nat_tests)
-
-digit_first : (b : ℕ) → is_ascii_digit b ≡ true → first_kind b ≡ Some Number
-digit_first b h = grind (arith, nat_tests)
-
-comparison_first : (b : ℕ) → starts_comparison b ≡ true → first_kind b ≡ Some Comparison
-comparison_first b h = grind (arith, nat_tests)
-
-sign_first : (b : ℕ) → is_sign b ≡ true → first_kind b ≡ Some Sign
-sign_first b h = grind (arith, nat_tests)
-
-second_starts : (b c : ℕ) → is_second b c ≡ true → starts_comparison b ≡ true
-second_starts b c h = grind (arith, nat_tests)
-
-nothing_first : (b : ℕ) → begins_something b ≡ false → first_kind b ≡ None
-nothing_first b h = grind (arith, nat_tests)
-
 pub form_first : (kind : TokenKind) (bytes : List ℕ) → HasForm kind bytes → first_kind (get_or bytes 0 0) ≡ Some kind
-form_first Word bytes form = letter_first (get_or bytes 0 0) form.0
+form_first Word bytes form = let letter = form.0 in grind (arith, nat_tests)
 form_first Number [] form = absurd (omega (arith, form.0))
-form_first Number (b ∷ bs) form = digit_first b (form.1 0 0 (omega arith))
+form_first Number (b ∷ bs) form = let digit : is_ascii_digit b ≡ true = form.1 0 0 (omega arith) in grind (arith, nat_tests)
 form_first Text bytes form = ap (λ l. first_kind (get_or l 0 0)) form.1
-form_first Sign bytes (b, sign, same) = ap (λ l. first_kind (get_or l 0 0)) same ∙ sign_first b sign
+form_first Sign bytes (b, sign, same) = let first : first_kind b ≡ Some Sign = grind (arith, nat_tests) in ap (λ l. first_kind (get_or l 0 0)) same ∙ first
 form_first Comparison [] form = absurd (false≢true form)
-form_first Comparison (b ∷ []) form = comparison_first b form
-form_first Comparison (b ∷ c ∷ []) form = comparison_first b (second_starts b c form)
+form_first Comparison (b ∷ []) form = grind (arith, nat_tests)
+form_first Comparison (b ∷ c ∷ []) form = grind (arith, nat_tests)
 form_first Comparison (b ∷ c ∷ d ∷ bs) form = absurd (false≢true form)
 
 -- what follows the bytes that pass
@@ -178,7 +160,8 @@ begun-place : (s : List ℕ) (place : ℕ) (next : Result (Option Token) LexFaul
 begun-place s place next (token_here kind end one) = whole_begun s kind place end one.whole
 begun-place s place next (end_here end) = ap begun (drop_all place s (omega (arith, end)))
 begun-place s place next (strange_byte inside none) =
-    ap begun (drop_more s place 0 inside) ∙ ap (λ first. begun_by first (get_or s place 0 ∷ drop (place + 1) s)) (nothing_first (get_or s place 0) none)
+    let first : first_kind (get_or s place 0) ≡ None = grind (arith, nat_tests) in
+    ap begun (drop_more s place 0 inside) ∙ ap (λ kind. begun_by kind (get_or s place 0 ∷ drop (place + 1) s)) first
 begun-place s place next (open_text v same) =
     ap begun same ∙ ap (form_of Text) (ap (after_text false) (sym (append-nil (doubled v))) ∙ after_text-append v [])
 begun-place s place next (past_limit kind end _ one _ _) = whole_begun s kind place end one
@@ -196,14 +179,9 @@ stands_once s place one other (strange_byte _ _) (strange_byte _ _) = refl
 stands_once s place one other (open_text _ _) (open_text _ _) = refl
 stands_once s place one other a b = let same = sym (begun-place s place one a) ∙ begun-place s place other b in cc same
 
-strange_no_gap : (b c : ℕ) → begins_something b ≡ false → (is_white b || (nat_eq b 45 && nat_eq c 45)) ≡ false
-strange_no_gap b c h = grind (arith, nat_tests)
-
-kind_white : (b : ℕ) (kind : TokenKind) → first_kind b ≡ Some kind → is_white b ≡ false
-kind_white b kind h = grind (arith, nat_tests)
-
-minus_first : (b : ℕ) (kind : TokenKind) → first_kind b ≡ Some kind → b ≡ 45 → kind ≡ Sign
-minus_first b kind h minus = let same = sym h ∙ ap first_kind minus in cc same
+whole_first : (s : List ℕ) (kind : TokenKind) (place end : ℕ) → IsWhole s kind place end → first_kind (get_or s place 0) ≡ Some kind
+whole_first s kind place end whole =
+    ap first_kind (sym (first-between s place end whole.in_order)) ∙ form_first kind (slice_range s place end) whole.form
 
 sign_no_comment : (s : List ℕ) (place end : ℕ) → IsWhole s Sign place end → comment_begins s place ≡ false
 sign_no_comment s place end whole =
@@ -214,24 +192,19 @@ sign_no_comment s place end whole =
     ap (λ k. nat_eq (get_or s place 0) 45 && nat_eq (get_or s k 0) 45) next
     ∙ ap (λ b. nat_eq b 45 && nat_eq (get_or s end 0) 45) (sym (first-between s place end whole.in_order)) ∙ whole.longest
 
-whole_no_gap : (s : List ℕ) (kind : TokenKind) (place end : ℕ) → IsWhole s kind place end → gap_begins s place ≡ false
-whole_no_gap s kind place end whole =
-    let first = ap first_kind (sym (first-between s place end whole.in_order)) ∙ form_first kind (slice_range s place end) whole.form in
-    or_from (is_white (get_or s place 0)) (comment_begins s place) (kind_white (get_or s place 0) kind first) (
-    elim (cases_eq (get_or s place 0) 45) [
-      | inl minus ↦ sign_no_comment s place end (subst (λ (k : TokenKind). IsWhole s k place end) (minus_first (get_or s place 0) kind first minus) whole)
-      | inr other ↦ and_left (nat_eq (get_or s place 0) 45) (nat_eq (get_or s (place + 1) 0) 45) (ne_eqb (get_or s place 0) 45 other)
-    ]
-    )
+-- where a form begins there is neither white space nor a comment
+whole_no_gap : (s : List ℕ) (kind : TokenKind) (place end : ℕ) → first_kind (get_or s place 0) ≡ Some kind → IsWhole s kind place end → gap_begins s place ≡ false
+whole_no_gap s Sign place end first whole = let none = sign_no_comment s place end whole in grind (arith, nat_tests)
+whole_no_gap s kind place end first whole = grind (arith, nat_tests)
 
 stands_no_gap : (s : List ℕ) (place : ℕ) (next : Result (Option Token) LexFault) → StandsAt s place next → gap_begins s place ≡ false
-stands_no_gap s place next (token_here kind end one) = whole_no_gap s kind place end one.whole
-stands_no_gap s place next (end_here last) =
-    ap (λ b. is_white b || (nat_eq b 45 && nat_eq (get_or s (place + 1) 0) 45)) (get_or_past s place 0 (omega (arith, last)))
-stands_no_gap s place next (strange_byte _ none) = strange_no_gap (get_or s place 0) (get_or s (place + 1) 0) none
+stands_no_gap s place next (token_here kind end one) = whole_no_gap s kind place end (whole_first s kind place end one.whole) one.whole
+stands_no_gap s place next (end_here last) = let none : get_or s place 0 ≡ 0 = get_or_past s place 0 (omega (arith, last)) in grind (arith, nat_tests)
+stands_no_gap s place next (strange_byte _ none) = grind (arith, nat_tests)
 stands_no_gap s place next (open_text v same) =
-    ap (λ b. is_white b || (nat_eq b 45 && nat_eq (get_or s (place + 1) 0) 45)) (sym (first-drop s place) ∙ ap (λ l. get_or l 0 0) same)
-stands_no_gap s place next (past_limit kind end _ one _ _) = whole_no_gap s kind place end one
+    let quote : get_or s place 0 ≡ 39 = sym (first-drop s place) ∙ ap (λ l. get_or l 0 0) same in
+    grind (arith, nat_tests)
+stands_no_gap s place next (past_limit kind end _ one _ _) = whole_no_gap s kind place end (whole_first s kind place end one) one
 
 run_no_less : (p : ℕ → Bool) (s : List ℕ) (start d e : ℕ) → IsRun p s start d → IsRun p s start e → d < e → ⊥
 run_no_less p s start d e one other less =
