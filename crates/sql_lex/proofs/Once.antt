@@ -64,16 +64,11 @@ after_text true (b ∷ l) = cond (nat_eq b 39) (after_text false l) (Some (b ∷
 
 after_text-append : (v l : List ℕ) → after_text false (doubled v ++ l) ≡ after_text false l
 after_text-append [] l = refl
-after_text-append (b ∷ v) l =
-    elim (cases_eq b 39) [
-      | inl quote ↦ subst (λ (c : ℕ). after_text false (doubled (c ∷ v) ++ l) ≡ after_text false l) (sym quote) (after_text-append v l)
-      | inr other ↦ ap (λ xs. after_text false (xs ++ l)) (doubled_byte b v other)
-          ∙ ap (λ t. after_text t (doubled v ++ l)) (ne_eqb b 39 other) ∙ after_text-append v l
-    ]
+after_text-append (b ∷ v) l = grind (arith, nat_tests, after_text-append v l)
 
 after_text-closed : (l : List ℕ) → nat_eq (get_or l 0 0) 39 ≡ false → after_text true l ≡ Some l
 after_text-closed [] stops = refl
-after_text-closed (b ∷ l) stops = cond-false (nat_eq b 39) _ _ stops
+after_text-closed (b ∷ l) stops = grind (arith, nat_tests)
 
 abbrev after_comparison : List ℕ → List ℕ
 after_comparison [] = []
@@ -81,11 +76,9 @@ after_comparison (b ∷ []) = []
 after_comparison (b ∷ c ∷ l) = cond (is_second b c) l (c ∷ l)
 
 after_comparison-append : (xs l : List ℕ) → is_comparison xs ≡ true → is_comparison (xs ++ get_or l 0 0 ∷ []) ≡ false → after_comparison (xs ++ l) ≡ l
-after_comparison-append [] l form longest = absurd (false≢true form)
-after_comparison-append (b ∷ []) [] form longest = refl
-after_comparison-append (b ∷ []) (c ∷ l) form longest = cond-false (is_second b c) _ _ longest
-after_comparison-append (b ∷ c ∷ []) l form longest = cond-true (is_second b c) _ _ form
-after_comparison-append (b ∷ c ∷ d ∷ xs) l form longest = absurd (false≢true form)
+after_comparison-append (b ∷ []) (c ∷ l) form longest = grind (arith, nat_tests)
+after_comparison-append (b ∷ c ∷ []) l form longest = grind (arith, nat_tests)
+after_comparison-append xs l form longest = grind (arith, nat_tests)
 
 -- what follows the token of a kind that begins here, if it ends
 abbrev after : TokenKind → List ℕ → Option (List ℕ)
@@ -183,18 +176,15 @@ whole_first : (s : List ℕ) (kind : TokenKind) (place end : ℕ) → IsWhole s 
 whole_first s kind place end whole =
     ap first_kind (sym (first-between s place end whole.in_order)) ∙ form_first kind (slice_range s place end) whole.form
 
-sign_no_comment : (s : List ℕ) (place end : ℕ) → IsWhole s Sign place end → comment_begins s place ≡ false
-sign_no_comment s place end whole =
-    let len = length-between s place end whole.in_script in
-    let one : length (slice_range s place end) ≡ 1 = ap length whole.form.2 in
-    let in_order = whole.in_order in
-    let next : place + 1 ≡ end = omega (arith, len, one) in
-    ap (λ k. nat_eq (get_or s place 0) 45 && nat_eq (get_or s k 0) 45) next
-    ∙ ap (λ b. nat_eq b 45 && nat_eq (get_or s end 0) 45) (sym (first-between s place end whole.in_order)) ∙ whole.longest
-
 -- where a form begins there is neither white space nor a comment
 whole_no_gap : (s : List ℕ) (kind : TokenKind) (place end : ℕ) → first_kind (get_or s place 0) ≡ Some kind → IsWhole s kind place end → gap_begins s place ≡ false
-whole_no_gap s Sign place end first whole = let none = sign_no_comment s place end whole in grind (arith, nat_tests)
+whole_no_gap s Sign place end first whole =
+    let len = length-between s place end whole.in_script in
+    let one : length (slice_range s place end) ≡ 1 = ap length whole.form.2 in
+    let next : end ≡ place + 1 = let in_order = whole.in_order in omega (arith, len, one) in
+    let same = first-between s place end whole.in_order in
+    let stops = whole.longest in
+    grind (arith, nat_tests)
 whole_no_gap s kind place end first whole = grind (arith, nat_tests)
 
 stands_no_gap : (s : List ℕ) (place : ℕ) (next : Result (Option Token) LexFault) → StandsAt s place next → gap_begins s place ≡ false

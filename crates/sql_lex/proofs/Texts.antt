@@ -2,6 +2,8 @@
 use Rattle.std.proofs.Common.{◌≡◌, ◌≢◌, ◌↔◌, ℕ, ◌+◌, ◌-◌, ◌<◌, Bool, true, false, cond, nat_eq, List, [], ◌∷◌, ◌++◌, length, get_or, take, drop, arith, sym, ◌∙◌, ap, subst, refl, inl, inr, append_assoc, length-append}
 use Rattle.std.specs.Str.{IsUtf8}
 use Rattle.std.proofs.lemmas.Bool.{cases_eq, ne_eqb}
+use Rattle.std.proofs.lemmas.Bool.Decides.{nat_tests}
+use Rattle.std.proofs.lemmas.Grind.{common_steps}
 use Rattle.std.proofs.lemmas.List.{take_at, drop_at, get_or_at, drop_more}
 use Rattle.std.proofs.lemmas.Str.Ascii.{IsAscii-cons, IsAscii-nil}
 use Rattle.std.proofs.lemmas.Str.{IsUtf8-nil, IsUtf8-from_ascii, IsUtf8-append, IsUtf8-take, IsUtf8-drop, IsCharBoundary-before_ascii, IsCharBoundary-after_ascii}
@@ -17,17 +19,10 @@ doubled_byte b v other = ap (λ t. cond t (39 ∷ 39 ∷ []) (b ∷ []) ++ doubl
 -- one quote for two gives the value back
 halved-doubled : (v : List ℕ) → halved false (doubled v) ≡ v
 halved-doubled [] = refl
-halved-doubled (b ∷ v) =
-    elim (cases_eq b 39) [
-      | inl quote ↦ subst (λ (c : ℕ). halved false (doubled (c ∷ v)) ≡ c ∷ v) (sym quote) (ap (λ l. 39 ∷ l) (halved-doubled v))
-      | inr other ↦ ap (halved false) (doubled_byte b v other) ∙ ap (λ t. b ∷ halved t (doubled v)) (ne_eqb b 39 other) ∙ ap (λ l. b ∷ l) (halved-doubled v)
-    ]
+halved-doubled (b ∷ v) = grind (arith, nat_tests, halved-doubled v)
 
 between_quotes-quoted : (v : List ℕ) → between_quotes (quoted v) ≡ doubled v
-between_quotes-quoted v =
-    let len : length (doubled v ++ 39 ∷ []) ≡ length (doubled v) + 1 = length-append (doubled v) (39 ∷ []) in
-    let n : length (quoted v) - 1 - 1 ≡ length (doubled v) = omega (arith, len) in
-    ap (λ k. take k (doubled v ++ 39 ∷ [])) n ∙ take_at (doubled v) (39 ∷ []) (length (doubled v)) refl
+between_quotes-quoted v = grind (arith, common_steps)
 
 text_value_of-quoted : (v : List ℕ) → text_value_of (quoted v) ≡ v
 text_value_of-quoted v = ap (halved false) (between_quotes-quoted v) ∙ halved-doubled v
@@ -44,10 +39,7 @@ HasInside script at rest = (value : List ℕ) × (drop at script ≡ doubled val
 
 pub HasInside-byte : (s : List ℕ) (at : ℕ) (rest : List ℕ) → at < length s → get_or s at 0 ≢ 39
     → HasInside s (at + 1) rest → HasInside s at rest
-HasInside-byte s at rest inside other (v, same) = (
-  get_or s at 0 ∷ v,
-  drop_more s at 0 inside ∙ ap (λ l. get_or s at 0 ∷ l) same ∙ ap (λ l. l ++ rest) (sym (doubled_byte (get_or s at 0) v other)),
-)
+HasInside-byte s at rest inside other (v, same) = (get_or s at 0 ∷ v, grind (arith, nat_tests, drop_more s at 0 inside))
 
 pub HasInside-quotes : (s : List ℕ) (at : ℕ) (rest : List ℕ) → at < length s → get_or s at 0 ≡ 39 → at + 1 < length s → get_or s (at + 1) 0 ≡ 39
     → HasInside s (at + 2) rest → HasInside s at rest

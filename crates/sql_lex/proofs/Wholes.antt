@@ -19,21 +19,11 @@ use Rattle.sql_lex.proofs.Texts.{HasInside, quoted-ends}
 -- the run goes on over a byte that passes
 pub IsRun-moves : (p : ℕ → Bool) (s : List ℕ) (start end : ℕ) → IsRun p s start end
     → start < length s → p (get_or s start 0) ≡ true → start < end
-IsRun-moves p s start end run inside passes =
-    elim (cases_eq start end) [
-      | inl e ↦
-          let at_end : end < length s = omega arith in
-          absurd (false≢true (sym (run.stops at_end) ∙ subst (λ (k : ℕ). p (get_or s k 0) ≡ true) e passes))
-      | inr other ↦ let h = run.in_order in omega (arith, other)
-    ]
+IsRun-moves p s start end run inside passes = let h = run.in_order in let stops = run.stops in grind (arith, nat_tests)
 
 -- the script's end stops each run of bytes that are not 0
 IsRun-stops : (p : ℕ → Bool) → p 0 ≡ false → (s : List ℕ) (start end : ℕ) → IsRun p s start end → p (get_or s end 0) ≡ false
-IsRun-stops p none s start end run =
-    elim (cases_lt end (length s)) [
-      | inl inside ↦ run.stops inside
-      | inr past ↦ ap p (get_or_past s end 0 past) ∙ none
-    ]
+IsRun-stops p none s start end run = let stops = run.stops in grind (arith, nat_tests, get_or_past s end 0)
 
 IsRun-passes : (p : ℕ → Bool) (s : List ℕ) (start end : ℕ) → IsRun p s start end → AllPass p (slice_range s start end)
 IsRun-passes p s start end run =
