@@ -14,7 +14,7 @@ use Rattle.sql_lex.specs.Values.{doubled, quoted, halved, between_quotes, text_v
 
 -- a byte that is no quote stays alone
 pub doubled_byte : (b : ℕ) (v : List ℕ) → b ≢ 39 → doubled (b ∷ v) ≡ b ∷ doubled v
-doubled_byte b v other = ap (λ t. cond t (39 ∷ 39 ∷ []) (b ∷ []) ++ doubled v) (ne_eqb b 39 other)
+doubled_byte b v other = grind (arith, nat_tests)
 
 -- one quote for two gives the value back
 halved-doubled : (v : List ℕ) → halved false (doubled v) ≡ v
@@ -44,27 +44,18 @@ HasInside-byte s at rest inside other (v, same) = (get_or s at 0 ∷ v, grind (a
 pub HasInside-quotes : (s : List ℕ) (at : ℕ) (rest : List ℕ) → at < length s → get_or s at 0 ≡ 39 → at + 1 < length s → get_or s (at + 1) 0 ≡ 39
     → HasInside s (at + 2) rest → HasInside s at rest
 HasInside-quotes s at rest inside first further second (v, same) =
-    let two : at + 1 + 1 ≡ at + 2 = omega arith in (
-      39 ∷ v,
-      drop_more s at 0 inside ∙ ap (λ b. b ∷ drop (at + 1) s) first ∙ ap (λ l. 39 ∷ l) (drop_more s (at + 1) 0 further)
-          ∙ ap (λ b. 39 ∷ b ∷ drop (at + 1 + 1) s) second ∙ ap (λ n. 39 ∷ 39 ∷ drop n s) two ∙ ap (λ l. 39 ∷ 39 ∷ l) same,
-    )
+    (39 ∷ v, grind (arith, common_steps, nat_tests, drop_more s at 0 inside, drop_more s (at + 1) 0 further))
 
 -- UTF-8 may be cut at a quote, and joined there
 utf8_around_quote : (front rest : List ℕ) → IsUtf8 (front ++ 39 ∷ rest) → IsUtf8 front × IsUtf8 rest
 utf8_around_quote front rest h =
     let bs = front ++ 39 ∷ rest in
-    let len : length bs ≡ length front + length (39 ∷ rest) = length-append front (39 ∷ rest) in
-    let at : length front < length bs = omega (arith, len) in
-    let here : get_or bs (length front) 0 ≡ 39 = get_or_at front 39 rest 0 (length front) refl in
-    let ascii : get_or bs (length front) 0 < 128 = omega (arith, here) in
-    let before = IsUtf8-take bs (length front) h (IsCharBoundary-before_ascii bs (length front) at ascii) in
-    let later = IsUtf8-drop bs (length front + 1) h (IsCharBoundary-after_ascii bs (length front) h at ascii) in
-    let one : length (front ++ 39 ∷ []) ≡ length front + 1 = length-append front (39 ∷ []) in (
-      subst IsUtf8 (take_at front (39 ∷ rest) (length front) refl) before,
-      subst IsUtf8
-          (ap (drop (length front + 1)) (sym (append_assoc front (39 ∷ []) rest)) ∙ drop_at (front ++ 39 ∷ []) rest (length front + 1) one)
-          later,
+    let at : length front < length bs = grind (arith, common_steps) in
+    let ascii : get_or bs (length front) 0 < 128 = grind (arith, get_or_at front 39 rest 0 (length front) refl) in
+    let before : take (length front) bs ≡ front = grind (arith, common_steps) in
+    let later : drop (length front + 1) bs ≡ rest = grind (arith, common_steps) in (
+      subst IsUtf8 before (IsUtf8-take bs (length front) h (IsCharBoundary-before_ascii bs (length front) at ascii)),
+      subst IsUtf8 later (IsUtf8-drop bs (length front + 1) h (IsCharBoundary-after_ascii bs (length front) h at ascii)),
     )
 
 utf8_with_quote : (front rest : List ℕ) → IsUtf8 front → IsUtf8 rest → IsUtf8 (front ++ 39 ∷ rest)

@@ -4,6 +4,7 @@ use Rattle.std.specs.List.{slice_range, AllPass}
 use Rattle.std.specs.Char.{is_ascii_digit}
 use Rattle.std.proofs.lemmas.Bool.{cases_lt, cases_eq, false≢true}
 use Rattle.std.proofs.lemmas.Bool.Decides.{nat_tests}
+use Rattle.std.proofs.lemmas.Grind.{common_steps}
 use Rattle.std.proofs.lemmas.List.{get_or_past, take_at, drop_more, get_or-drop}
 use Rattle.std.proofs.lemmas.List.Edits.{length-between, get_or-between}
 use Rattle.std.proofs.lemmas.List.Elements.{All-from_get_or}
@@ -67,8 +68,7 @@ IsWhole-number s start end run inside digit =
 pub between_is_front : (s bytes : List ℕ) (start end : ℕ) → start < end → end ≤ length s → drop start s ≡ bytes ++ drop end s
     → slice_range s start end ≡ bytes
 between_is_front s bytes start end in_order in_script same =
-    let all : length s - start ≡ length bytes + (length s - end) =
-    sym (length-drop start s) ∙ ap length same ∙ length-append bytes (drop end s) ∙ ap (λ n. length bytes + n) (length-drop end s) in
+    let all : length s - start ≡ length bytes + (length s - end) = grind (arith, length-drop start s, length-drop end s, ap length same, length-append bytes (drop end s)) in
     ap (take (end - start)) same ∙ take_at bytes (drop end s) (end - start) (omega (arith, all))
 
 pub IsWhole-front : (s : List ℕ) (kind : TokenKind) (bytes : List ℕ) (start end : ℕ) → start < end → end ≤ length s
@@ -90,8 +90,6 @@ IsWhole-byte s kind start inside form longest =
 pub IsWhole-text : (s : List ℕ) (start at : ℕ) → start < at → at < length s → get_or s start 0 ≡ 39 → get_or s at 0 ≡ 39
     → nat_eq (get_or s (at + 1) 0) 39 ≡ false → HasInside s (start + 1) (drop at s) → IsWhole s Text start (at + 1)
 IsWhole-text s start at in_order inside first last stops (v, same) =
-    IsWhole-front s Text (quoted v) start (at + 1) (omega arith) (omega arith) (
-    drop_more s start 0 (omega arith) ∙ ap (λ b. b ∷ drop (start + 1) s) first ∙ ap (λ l. 39 ∷ l) same
-    ∙ ap (λ l. 39 ∷ (doubled v ++ l)) (drop_more s at 0 inside ∙ ap (λ b. b ∷ drop (at + 1) s) last)
-    ∙ quoted-ends v (drop (at + 1) s)
-    ) (v, refl) stops
+    let begins : start < length s = omega arith in
+    let whole : drop start s ≡ quoted v ++ drop (at + 1) s = grind (arith, common_steps, drop_more s start 0 begins, drop_more s at 0 inside) in
+    IsWhole-front s Text (quoted v) start (at + 1) (omega arith) (omega arith) whole (v, refl) stops
