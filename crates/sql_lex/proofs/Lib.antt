@@ -1,7 +1,5 @@
-pub mod Gaps
-pub mod Slices
-pub mod Wholes
 pub mod Texts
+pub mod Wholes
 pub mod Readings
 pub mod Once
 pub mod Spelled

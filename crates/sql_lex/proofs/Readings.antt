@@ -1,31 +1,33 @@
--- Tokens that were read up to a place.
-use Rattle.std.proofs.Common.{◌≡◌, ℕ, List, [], ◌∷◌, ◌++◌, refl, subst, sym}
-use Rattle.sql_lex.specs.declared.token.Token.{Token}
+-- What a reading says of its tokens and gaps.
+use Rattle.std.proofs.Common.{ℕ, ◌+◌, ◌≤◌, List, [], ◌∷◌, arith}
+use Rattle.std.specs.Prelude.{Option, Result, Ok, None, Some}
 use Rattle.std.specs.List.{All, AllByRecursion}
 use Rattle.std.proofs.lemmas.List.Elements.{All-from_recursion}
-use Rattle.sql_lex.specs.Tokens.{FollowsGap, IsToken, Reads, Tokens}
+use Rattle.sql_lex.specs.Gap.{IsGap}
+use Rattle.sql_lex.specs.Gap.IsGap.{nothing, white, comment}
+use Rattle.sql_lex.specs.Tokens.{IsToken, ComesNext, IsReading, Tokens}
+use Rattle.sql_lex.specs.Tokens.StandsAt.{token_here}
+use Rattle.sql_lex.specs.declared.token.Token.{Token}
+use Rattle.sql_lex.specs.declared.fault.LexFault.{LexFault}
 
--- the tokens from a place on, the last of which ends at `end`
-abbrev pub ReadsTo : List ℕ → (end : ℕ) → ℕ → List Token → Type 0
-ReadsTo script end from tokens = Reads script (λ place. place ≡ end) from tokens
+IsGap-in_order : (script : List ℕ) (from end : ℕ) → IsGap script from end → from ≤ end
+IsGap-in_order script from end (nothing _) = omega arith
+IsGap-in_order script from end (white _ _ _ rest) = let later = IsGap-in_order script (from + 1) end rest in omega arith
+IsGap-in_order script from end (comment _ stop _ line rest) =
+    let first = line.line.in_order in
+    let later = IsGap-in_order script stop end rest in
+    omega arith
 
-pub ReadsTo-push : (script : List ℕ) (end from : ℕ) (tokens : List Token) (token : Token) → ReadsTo script end from tokens
-    → FollowsGap script end token.start → IsToken script token → ReadsTo script token.end from (tokens ++ token ∷ [])
-ReadsTo-push script end from [] token read follows form =
-    (subst (λ (place : ℕ). FollowsGap script place token.start) (sym read) follows, form, refl)
-ReadsTo-push script end from (first ∷ tokens) token read follows form =
-    (read.0, read.1, ReadsTo-push script end first.end tokens token read.2 follows form)
+-- what comes next is a token, and lies further on
+pub ComesNext-token : (script : List ℕ) (from : ℕ) (next : Token) → ComesNext script from (Ok (Some next))
+    → (from ≤ next.start) × IsToken script next
+ComesNext-token script from next (place, gap, token_here kind end one) = (IsGap-in_order script from place gap, one)
 
--- what holds behind the last token
-pub Reads-ends : (script : List ℕ) (Ends : ℕ → Type 0) (end from : ℕ) (tokens : List Token) → ReadsTo script end from tokens
-    → Ends end → Reads script Ends from tokens
-Reads-ends script Ends end from [] read holds = subst Ends (sym read) holds
-Reads-ends script Ends end from (first ∷ tokens) read holds = (read.0, read.1, Reads-ends script Ends end first.end tokens read.2 holds)
-
-each_read : (script : List ℕ) (Ends : ℕ → Type 0) (from : ℕ) (tokens : List Token) → Reads script Ends from tokens → AllByRecursion (IsToken script) tokens
-each_read script Ends from [] read = tt
-each_read script Ends from (first ∷ tokens) read = (read.1, each_read script Ends first.end tokens read.2)
+each_read : (script : List ℕ) (last : Result (Option Token) LexFault) (from : ℕ) (tokens : List Token)
+    → IsReading script from tokens last → AllByRecursion (IsToken script) tokens
+each_read script last from [] read = tt
+each_read script last from (first ∷ tokens) (next, rest) = ((ComesNext-token script from first next).1, each_read script last first.end tokens rest)
 
 -- each token of a script is one
 pub tokens_each : (script : List ℕ) (tokens : List Token) → Tokens script tokens → All (IsToken script) tokens
-tokens_each script tokens read = All-from_recursion (IsToken script) tokens (each_read script _ 0 tokens read)
+tokens_each script tokens read = All-from_recursion (IsToken script) tokens (each_read script (Ok None) 0 tokens read)

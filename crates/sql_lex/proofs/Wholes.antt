@@ -1,112 +1,95 @@
--- Bytes that have a kind's form, with no byte behind them that would go on.
-use Rattle.std.proofs.Common.{nat_eq, ◌≡◌, ℕ, ◌+◌, ◌<◌, ◌≤◌, Bool, true, false, List, [], ◌∷◌, ◌++◌, length, get_or, arith, sym, ◌∙◌, ap, subst, inl, inr, refl}
-use Rattle.std.specs.List.{slice_range}
-use Rattle.std.specs.Char.{is_ascii_alphabetic, is_ascii_digit}
+-- Bytes that have a kind's form and go no further.
+use Rattle.std.proofs.Common.{nat_eq, ◌≡◌, ℕ, ◌+◌, ◌-◌, ◌<◌, ◌≤◌, Bool, true, false, List, [], ◌∷◌, ◌++◌, length, get_or, take, drop, arith, sym, ◌∙◌, ap, subst, inl, inr, refl, length-append, length-drop, add-zero}
+use Rattle.std.specs.List.{slice_range, AllPass}
+use Rattle.std.specs.Char.{is_ascii_digit}
 use Rattle.std.proofs.lemmas.Bool.{cases_lt, cases_eq, false≢true}
 use Rattle.std.proofs.lemmas.Bool.Decides.{nat_tests}
-use Rattle.std.proofs.lemmas.List.{get_or_past}
-use Rattle.sql_lex.specs.Bytes.{is_word_byte, is_sign, starts_comparison, is_second}
-use Rattle.sql_lex.specs.Forms.{is_comparison, goes_on}
-use Rattle.sql_lex.specs.Gap.{comment_begins}
-use Rattle.std.proofs.lemmas.List.Edits.{between_none}
+use Rattle.std.proofs.lemmas.Grind.{common_steps}
+use Rattle.std.proofs.lemmas.List.{get_or_past, take_at, drop_more, get_or-drop}
+use Rattle.std.proofs.lemmas.List.Edits.{length-between, get_or-between}
+use Rattle.std.proofs.lemmas.List.Elements.{All-from_get_or}
+use Rattle.sql_lex.specs.Bytes.{starts_word, is_word_byte}
+use Rattle.sql_lex.specs.Run.{IsRun}
+use Rattle.sql_lex.specs.Values.{quoted, doubled}
+use Rattle.sql_lex.specs.Forms.{HasForm, goes_on}
 use Rattle.sql_lex.specs.Tokens.{IsWhole}
-use Rattle.sql_lex.specs.declared.token.TokenKind.TheVariants.{Word, Number, Text, Sign, Comparison}
-use Rattle.sql_lex.specs.Values.{doubled}
-use Rattle.sql_lex.proofs.Texts.{quoted-part}
-use Rattle.sql_lex.proofs.Slices.{get_or-part, length-part, AllPass-part, part-cons}
+use Rattle.sql_lex.specs.declared.token.TokenKind.{TokenKind}
+use Rattle.sql_lex.specs.declared.token.TokenKind.TheVariants.{Word, Number, Text}
+use Rattle.sql_lex.proofs.Texts.{HasInside, quoted-ends}
 
--- the run of bytes that pass, from start to end, and no further
-pub record IsRun (p : ℕ → Bool) (script : List ℕ) (start end : ℕ) : Type 0 where
-  pub in_order : start ≤ end
-  pub in_text : end ≤ length script
-  pub inside : (k : ℕ) → start ≤ k → k < end → p (get_or script k 0) ≡ true
-  pub stops : end < length script → p (get_or script end 0) ≡ false
-
-pub IsRun-moves : (p : ℕ → Bool) (script : List ℕ) (start end : ℕ) → IsRun p script start end
-    → start < length script → p (get_or script start 0) ≡ true → start < end
-IsRun-moves p script start end run inside passes =
-    elim (cases_eq start end) [
-      | inl e ↦
-          let at_end : end < length script = omega arith in
-          let fails : p (get_or script start 0) ≡ false = subst (λ (k : ℕ). p (get_or script k 0) ≡ false) (sym e) (run.stops at_end) in
-          absurd (false≢true (sym fails ∙ passes))
-      | inr other ↦ let h = run.in_order in omega (arith, other)
-    ]
+-- the run goes on over a byte that passes
+pub IsRun-moves : (p : ℕ → Bool) (s : List ℕ) (start end : ℕ) → IsRun p s start end
+    → start < length s → p (get_or s start 0) ≡ true → start < end
+IsRun-moves p s start end run inside passes = let h = run.in_order in let stops = run.stops in grind (arith, nat_tests)
 
 -- the script's end stops each run of bytes that are not 0
-pub IsRun-stops : (p : ℕ → Bool) → p 0 ≡ false → (script : List ℕ) (start end : ℕ) → IsRun p script start end
-    → p (get_or script end 0) ≡ false
-IsRun-stops p none script start end run =
-    elim (cases_lt end (length script)) [
-      | inl inside ↦ run.stops inside
-      | inr past ↦ subst (λ (b : ℕ). p b ≡ false) (sym (get_or_past script end 0 past)) none
-    ]
+IsRun-stops : (p : ℕ → Bool) → p 0 ≡ false → (s : List ℕ) (start end : ℕ) → IsRun p s start end → p (get_or s end 0) ≡ false
+IsRun-stops p none s start end run = let stops = run.stops in grind (arith, nat_tests, get_or_past s end 0)
 
-letter_in_word : (b : ℕ) → is_ascii_alphabetic b ≡ true → is_word_byte b ≡ true
+IsRun-passes : (p : ℕ → Bool) (s : List ℕ) (start end : ℕ) → IsRun p s start end → AllPass p (slice_range s start end)
+IsRun-passes p s start end run =
+    All-from_get_or (λ b. p b ≡ true) (slice_range s start end) 0 (λ i below.
+    let small : i < end - start = subst (λ (n : ℕ). i < n) (length-between s start end run.in_script) below in
+    rw (get_or-between s start end i 0 (omega arith)) (run.inside (start + i) (omega arith) (omega arith)))
+
+pub first-between : (s : List ℕ) (start end : ℕ) → start < end → get_or (slice_range s start end) 0 0 ≡ get_or s start 0
+first-between s start end some = get_or-between s start end 0 0 (omega arith) ∙ ap (λ k. get_or s k 0) (add-zero start)
+
+pub first-drop : (s : List ℕ) (from : ℕ) → get_or (drop from s) 0 0 ≡ get_or s from 0
+first-drop s from = get_or-drop from s 0 0 ∙ ap (λ k. get_or s k 0) (add-zero from)
+
+letter_in_word : (b : ℕ) → starts_word b ≡ true → is_word_byte b ≡ true
 letter_in_word b h = grind (arith, nat_tests)
 
-pub IsWhole-word : (script : List ℕ) (start end : ℕ) → IsRun is_word_byte script start end
-    → start < length script → is_ascii_alphabetic (get_or script start 0) ≡ true → IsWhole script Word start end
-IsWhole-word script start end run inside letter =
-    let moves = IsRun-moves is_word_byte script start end run inside (letter_in_word (get_or script start 0) letter) in
-    let at : start + 0 < end = omega arith in
-    let zero_more : start + 0 ≡ start = omega arith in
+pub IsWhole-word : (s : List ℕ) (start end : ℕ) → IsRun is_word_byte s start end
+    → start < length s → starts_word (get_or s start 0) ≡ true → IsWhole s Word start end
+IsWhole-word s start end run inside letter =
+    let moves = IsRun-moves is_word_byte s start end run inside (letter_in_word (get_or s start 0) letter) in
     record {
       in_order = moves;
-      in_script = run.in_text;
-      form = (
-        subst (λ (b : ℕ). is_ascii_alphabetic b ≡ true) (sym (get_or-part script start end 0 at ∙ ap (λ k. get_or script k 0) zero_more)) letter,
-        AllPass-part is_word_byte script start end run.in_text run.inside,
-      );
-      longest = IsRun-stops is_word_byte refl script start end run;
+      in_script = run.in_script;
+      form = (ap starts_word (first-between s start end moves) ∙ letter, IsRun-passes is_word_byte s start end run);
+      longest = IsRun-stops is_word_byte refl s start end run;
     }
 
-pub IsWhole-number : (script : List ℕ) (start end : ℕ) → IsRun is_ascii_digit script start end
-    → start < length script → is_ascii_digit (get_or script start 0) ≡ true → IsWhole script Number start end
-IsWhole-number script start end run inside digit =
-    let moves = IsRun-moves is_ascii_digit script start end run inside digit in
-    let len = length-part script start end run.in_text in
+pub IsWhole-number : (s : List ℕ) (start end : ℕ) → IsRun is_ascii_digit s start end
+    → start < length s → is_ascii_digit (get_or s start 0) ≡ true → IsWhole s Number start end
+IsWhole-number s start end run inside digit =
+    let moves = IsRun-moves is_ascii_digit s start end run inside digit in
+    let len = length-between s start end run.in_script in
     record {
       in_order = moves;
-      in_script = run.in_text;
-      form = (omega (arith, len), AllPass-part is_ascii_digit script start end run.in_text run.inside);
-      longest = IsRun-stops is_ascii_digit refl script start end run;
+      in_script = run.in_script;
+      form = (omega (arith, len), IsRun-passes is_ascii_digit s start end run);
+      longest = IsRun-stops is_ascii_digit refl s start end run;
     }
 
-pub IsWhole-text : (script v : List ℕ) (start close : ℕ) → start < close → close < length script
-    → get_or script start 0 ≡ 39 → get_or script close 0 ≡ 39 → nat_eq (get_or script (close + 1) 0) 39 ≡ false
-    → slice_range script (start + 1) close ≡ doubled v → IsWhole script Text start (close + 1)
-IsWhole-text script v start close in_order inside first last stops same = record {
-  in_order = omega arith;
-  in_script = omega arith;
-  form = (v, quoted-part script v start close in_order inside first last same);
-  longest = stops;
-}
+-- where these bytes lie and the rest follows, they are the slice
+pub between_is_front : (s bytes : List ℕ) (start end : ℕ) → start < end → end ≤ length s → drop start s ≡ bytes ++ drop end s
+    → slice_range s start end ≡ bytes
+between_is_front s bytes start end in_order in_script same =
+    let all : length s - start ≡ length bytes + (length s - end) = grind (arith, length-drop start s, length-drop end s, ap length same, length-append bytes (drop end s)) in
+    ap (take (end - start)) same ∙ take_at bytes (drop end s) (end - start) (omega (arith, all))
 
-one_byte : (s : List ℕ) (start : ℕ) → start < length s → slice_range s start (start + 1) ≡ get_or s start 0 ∷ []
-one_byte s start inside =
-    let in_order : start < start + 1 = omega arith in
-    let long : start + 1 ≤ length s = omega arith in
-    part-cons s start (start + 1) in_order long ∙ ap (λ l. get_or s start 0 ∷ l) (between_none s (start + 1))
-
-pub IsWhole-comparison : (script : List ℕ) (start : ℕ) → start < length script → starts_comparison (get_or script start 0) ≡ true
-    → is_second (get_or script start 0) (get_or script (start + 1) 0) ≡ false → IsWhole script Comparison start (start + 1)
-IsWhole-comparison script start inside first second =
-    let slice = one_byte script start inside in
+pub IsWhole-front : (s : List ℕ) (kind : TokenKind) (bytes : List ℕ) (start end : ℕ) → start < end → end ≤ length s
+    → drop start s ≡ bytes ++ drop end s → HasForm kind bytes → goes_on kind bytes (get_or s end 0) ≡ false → IsWhole s kind start end
+IsWhole-front s kind bytes start end in_order in_script same form longest =
+    let part = between_is_front s bytes start end in_order in_script same in
     record {
-      in_order = omega arith;
-      in_script = omega arith;
-      form = ap is_comparison slice ∙ first;
-      longest = ap (λ l. is_comparison (l ++ get_or script (start + 1) 0 ∷ [])) slice ∙ second;
+      in_order = in_order;
+      in_script = in_script;
+      form = subst (HasForm kind) (sym part) form;
+      longest = ap (λ l. goes_on kind l (get_or s end 0)) part ∙ longest;
     }
 
-pub IsWhole-sign : (script : List ℕ) (start : ℕ) → start < length script → is_sign (get_or script start 0) ≡ true
-    → comment_begins script start ≡ false → IsWhole script Sign start (start + 1)
-IsWhole-sign script start inside first second =
-    let slice = one_byte script start inside in
-    record {
-      in_order = omega arith;
-      in_script = omega arith;
-      form = (get_or script start 0, first, slice);
-      longest = ap (λ l. goes_on Sign l (get_or script (start + 1) 0)) slice ∙ second;
-    }
+pub IsWhole-byte : (s : List ℕ) (kind : TokenKind) (start : ℕ) → start < length s → HasForm kind (get_or s start 0 ∷ [])
+    → goes_on kind (get_or s start 0 ∷ []) (get_or s (start + 1) 0) ≡ false → IsWhole s kind start (start + 1)
+IsWhole-byte s kind start inside form longest =
+    IsWhole-front s kind (get_or s start 0 ∷ []) start (start + 1) (omega arith) (omega arith) (drop_more s start 0 inside) form longest
+
+pub IsWhole-text : (s : List ℕ) (start at : ℕ) → start < at → at < length s → get_or s start 0 ≡ 39 → get_or s at 0 ≡ 39
+    → nat_eq (get_or s (at + 1) 0) 39 ≡ false → HasInside s (start + 1) (drop at s) → IsWhole s Text start (at + 1)
+IsWhole-text s start at in_order inside first last stops (v, same) =
+    let begins : start < length s = omega arith in
+    let whole : drop start s ≡ quoted v ++ drop (at + 1) s = grind (arith, common_steps, drop_more s start 0 begins, drop_more s at 0 inside) in
+    IsWhole-front s Text (quoted v) start (at + 1) (omega arith) (omega arith) whole (v, refl) stops

@@ -9,13 +9,15 @@ mod byte;
 mod fault;
 mod form;
 mod gap;
+mod limit;
 mod script;
 mod token;
 mod value;
 
 pub use fault::{LexFault, LexKind};
+pub use limit::{MAX_NUMBER, MAX_WORD_BYTES};
 pub use script::{lex, written_is_read};
-pub use token::{MAX_NUMBER, MAX_WORD_BYTES, Token, TokenKind};
+pub use token::{Token, TokenKind};
 pub use value::{comparison_value, is_word, number_value, text_value, word_value};
 
 #[cfg(test)]
