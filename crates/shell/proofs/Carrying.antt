@@ -1,9 +1,8 @@
 -- A script's text, as far as its statements were carried out.
-use Rattle.std.proofs.Common.{◌≡◌, ◌⊎◌, inl, inr, ℕ, ◌+◌, ◌*◌, ◌<◌, ◌≤◌, min, true, false, List, [], ◌∷◌, ◌++◌, length, map, take, drop, get_or, Option, Some, None, refl, sym, ap, ◌∙◌, subst, arith, append_assoc, add-one}
-use Rattle.std.specs.Prelude.{IfSome, All}
+use Rattle.std.proofs.Common.{◌≡◌, ℕ, ◌+◌, ◌<◌, ◌≤◌, min, true, false, List, [], ◌∷◌, ◌++◌, length, take, drop, get_or, Option, Some, None, refl, sym, ap, ◌∙◌, arith, append_assoc}
 use Rattle.std.specs.Io.KnownBytes.{Appends}
-use Rattle.std.proofs.Math.Seq.{drop-cons, take-append-add}
-use Rattle.std.proofs.lemmas.List.{append-nil, take_min, take_all, drop_all, take-append-le, map-append, take_more, take-append-drop}
+use Rattle.std.proofs.Math.Seq.{take-append-add}
+use Rattle.std.proofs.lemmas.List.{append-nil, take_min, take_all, take-append-le, map-append, take_more, take-append-drop}
 use Rattle.std.proofs.lemmas.List.Elements.{All-nil, All-cons, All-append, All-weaker}
 use Rattle.work_ledger.specs.Account.{Account}
 use Rattle.outside_io.specs.Files.{FolderState}
@@ -13,8 +12,8 @@ use Rattle.shell.specs.declared.refusal.Refusal.{Refusal}
 use Rattle.shell.specs.declared.statement.Statement.{Statement}
 use Rattle.shell.specs.Refusal.{line_of}
 use Rattle.shell.specs.Script.{SessionState, Outcome, Prints, Refuses, Answer, Step, outcome, and_then, script_answer}
-use Rattle.shell.specs.Serve.{Carries, IsGivenFor}
-use Rattle.shell.specs.Due.{CarriesAll, PaysFor}
+use Rattle.shell.specs.Serve.{IsGivenFor}
+use Rattle.shell.specs.Due.{CarriesAll}
 use Rattle.shell.proofs.Beginning.{whole_begins}
 use Rattle.shell.proofs.Given.{AreGiven, statements_of_steps, given_in, any_steps}
 

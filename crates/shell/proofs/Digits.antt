@@ -8,12 +8,12 @@ use Rattle.std.proofs.lemmas.List.{at_drop_more, drop_all}
 use Rattle.std.proofs.lemmas.Bool.{and_right}
 use Rattle.std.proofs.lemmas.Bool.Decides.{nat_tests}
 use borrow.Author.Tests.{le-leb, lt-leb}
-use Rattle.shell.specs.Word.{max_integer}
+use Rattle.sql_lex.specs.Limits.{max_number}
 use Rattle.shell.specs.Digits.{magnitude_of}
 
 -- the number that digits write after those of n, where it isn't past the greatest INTEGER
 unfoldable pub magnitude_after : ℕ → List ℕ → Option ℕ
-magnitude_after n digits = if all_ascii_digits digits && nat_le (digits_value_after 10 n digits) max_integer then Some (digits_value_after 10 n digits) else None
+magnitude_after n digits = if all_ascii_digits digits && nat_le (digits_value_after 10 n digits) max_number then Some (digits_value_after 10 n digits) else None
 
 pub magnitude_of-some : (digits : List ℕ) → 1 ≤ length digits → magnitude_of digits ≡ magnitude_after 0 digits
 unfolding magnitude_after magnitude_of
@@ -40,10 +40,10 @@ magnitude_after-other : (n d : ℕ) (ds : List ℕ) → is_ascii_digit d ≡ fal
 unfolding magnitude_after
 magnitude_after-other n d ds e = rw e refl
 
-magnitude_after-great : (n d : ℕ) (ds : List ℕ) → max_integer / 10 < n → magnitude_after n (d ∷ ds) ≡ None
+magnitude_after-great : (n d : ℕ) (ds : List ℕ) → max_number / 10 < n → magnitude_after n (d ∷ ds) ≡ None
 unfolding magnitude_after
 magnitude_after-great n d ds great =
-    let past : nat_le (digits_value_after 10 n (d ∷ ds)) max_integer ≡ false =
+    let past : nat_le (digits_value_after 10 n (d ∷ ds)) max_number ≡ false =
     lt-leb _ _ (omega (arith, digits_value_after-ge ds (n * 10 + digit_value d))) in
     rw (and_right (all_ascii_digits (d ∷ ds)) _ past) refl
 
@@ -57,21 +57,21 @@ pub magnitude_after-drop_other : (digits : List ℕ) (i n : ℕ) → i < length 
 magnitude_after-drop_other digits i n inside other =
     at_drop_more (magnitude_after n) digits i 0 inside ∙ magnitude_after-other n (get_or digits i 0) (drop (i + 1) digits) other
 
-pub magnitude_after-drop_great : (digits : List ℕ) (i n : ℕ) → i < length digits → max_integer / 10 < n → magnitude_after n (drop i digits) ≡ None
+pub magnitude_after-drop_great : (digits : List ℕ) (i n : ℕ) → i < length digits → max_number / 10 < n → magnitude_after n (drop i digits) ≡ None
 magnitude_after-drop_great digits i n inside great =
     at_drop_more (magnitude_after n) digits i 0 inside ∙ magnitude_after-great n (get_or digits i 0) (drop (i + 1) digits) great
 
 -- the last digit
-pub magnitude_after-drop_all : (digits : List ℕ) (i n : ℕ) → length digits ≤ i → n ≤ max_integer → magnitude_after n (drop i digits) ≡ Some n
+pub magnitude_after-drop_all : (digits : List ℕ) (i n : ℕ) → length digits ≤ i → n ≤ max_number → magnitude_after n (drop i digits) ≡ Some n
 unfolding magnitude_after
 magnitude_after-drop_all digits i n last fits =
-    let fitting : nat_le n max_integer ≡ true = le-leb _ _ fits in
+    let fitting : nat_le n max_number ≡ true = le-leb _ _ fits in
     rw (drop_all i digits last, fitting) refl
 
-pub magnitude_after-drop_all_great : (digits : List ℕ) (i n : ℕ) → length digits ≤ i → max_integer < n → magnitude_after n (drop i digits) ≡ None
+pub magnitude_after-drop_all_great : (digits : List ℕ) (i n : ℕ) → length digits ≤ i → max_number < n → magnitude_after n (drop i digits) ≡ None
 unfolding magnitude_after
 magnitude_after-drop_all_great digits i n last past =
-    let passing : nat_le n max_integer ≡ false = lt-leb _ _ past in
+    let passing : nat_le n max_number ≡ false = lt-leb _ _ past in
     rw (drop_all i digits last, passing) refl
 
 pub ruleset of_digits = (magnitude_of-some, magnitude_of-none, magnitude_after-drop_digit, magnitude_after-drop_other, magnitude_after-drop_great, magnitude_after-drop_all, magnitude_after-drop_all_great)

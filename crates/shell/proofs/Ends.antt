@@ -1,5 +1,5 @@
 -- How a run ends at a statement.
-use Rattle.std.proofs.Common.{◌≡◌, ◌⊎◌, inl, inr, ℕ, ◌+◌, ◌<◌, ◌≤◌, List, [], length, take, get_or, Option, refl, sym, ◌∙◌, arith}
+use Rattle.std.proofs.Common.{◌≡◌, ◌⊎◌, inl, inr, ℕ, ◌+◌, ◌<◌, List, length, take, get_or, Option, refl, sym, ◌∙◌, arith}
 use Rattle.std.specs.Prelude.{Vec, Result, Ok, Err}
 use Rattle.std.specs.declared.alloc.Global.{Global}
 use Rattle.std.specs.Io.KnownBytes.{Appends}
@@ -15,7 +15,7 @@ use Rattle.outside_io.specs.Files.{FolderState, OnlyReads}
 use Rattle.shell.specs.declared.statement.Statement.{Statement}
 use Rattle.shell.specs.Serve.{IsGivenFor}
 use Rattle.shell.specs.Due.{IsCarriedOut, CarriesAll}
-use Rattle.shell.proofs.Carrying.{EndsAt, IsCarried, text_of, appends_none, carried_on, carried_to}
+use Rattle.shell.proofs.Carrying.{EndsAt, IsCarried, appends_none, carried_on, carried_to}
 
 -- the run ended for a cause that isn't the script's
 abbrev pub EndsElsewhere : Status → Type 0

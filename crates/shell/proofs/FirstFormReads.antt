@@ -4,13 +4,15 @@ use Rattle.std.specs.Prelude.{◌&&◌, not, nat_le, IsTrue}
 use Rattle.std.specs.List.{list_all, list_any, IsDistinct, AllByRecursion}
 use Rattle.std.proofs.lemmas.Bool.{and_parts, and_from, or_parts, or_from, leb-true, leb-false, false≢true, not-true, not_from_false}
 use Rattle.std.proofs.lemmas.Slice.Eq.{bytes_eq-Decides}
-use Rattle.shell.specs.Words.{upper, reserved, is_letter, is_word, is_word_byte, is_file_byte, is_name, is_file_name}
+use Rattle.sql_lex.specs.Values.{word_value_of}
+use Rattle.sql_lex.specs.Bytes.{starts_word, is_word_byte}
+use Rattle.shell.specs.Words.{reserved, is_whole_word, is_file_byte, is_name, is_file_name}
 use Rattle.shell.specs.FirstForm.{Spelling, IsFirstForm}
 use Rattle.shell.specs.Serve.{IsScript}
 use Rattle.shell.specs.ScriptReader.{spelling_of, are_different, is_well_formed, statements_of}
 use Rattle.shell.specs.Limits.{max_script_bytes}
 use Rattle.shell.specs.declared.statement.Statement.{Statement}
-use Rattle.shell.proofs.Case.{word_bytes-upper}
+use Rattle.shell.proofs.Case.{word_byte-letter, word_bytes-upper}
 use Rattle.shell.proofs.ScriptLines.{AreWords, HasWords, spelling_of-spelled, IsSpelled-from_spelling_of}
 
 -- columns of different names
@@ -36,19 +38,18 @@ are_different_from_IsDistinct (text ∷ texts) distinct =
     test_from_apart text (other ∷ texts) apart = or_from (bytes_eq text other) (list_any (bytes_eq text) texts) apart.0 (test_from_apart text texts apart.1)
 
 -- words that can stand in their places
-word_bytes_of_word : (word : List ℕ) → IsTrue (is_word word) → IsTrue (list_all is_word_byte word)
+word_bytes_of_word : (word : List ℕ) → IsTrue (is_whole_word word) → IsTrue (list_all is_word_byte word)
 word_bytes_of_word [] test = refl
 word_bytes_of_word (first ∷ rest) test =
-    let parts = and_parts (is_letter first) (list_all is_word_byte rest) test in
-    let letter = parts.0 in
-    rw (letter, parts.1) refl
+    let parts = and_parts (starts_word first) (list_all is_word_byte rest) test in
+    rw (word_byte-letter first parts.0, parts.1) refl
 
 word_bytes_of_name : (word : List ℕ) → IsTrue (is_name word) → IsTrue (list_all is_word_byte word)
 word_bytes_of_name word test =
-    let short = and_parts (is_word word && nat_le (length word) 128) (not (list_any (bytes_eq (upper word)) reserved)) test in
-    word_bytes_of_word word (and_parts (is_word word) (nat_le (length word) 128) short.0).0
+    let short = and_parts (is_whole_word word && nat_le (length word) 128) (not (list_any (bytes_eq (word_value_of word)) reserved)) test in
+    word_bytes_of_word word (and_parts (is_whole_word word) (nat_le (length word) 128) short.0).0
 
-word_bytes_of_same : (one other : List ℕ) → IsTrue (is_name one) → upper other ≡ upper one → IsTrue (list_all is_word_byte other)
+word_bytes_of_same : (one other : List ℕ) → IsTrue (is_name one) → word_value_of other ≡ word_value_of one → IsTrue (list_all is_word_byte other)
 word_bytes_of_same one other name same = sym (word_bytes-upper other) ∙ ap (list_all is_word_byte) same ∙ word_bytes-upper one ∙ word_bytes_of_name one name
 
 are_words : (columns : List (List ℕ)) → IsTrue (list_all is_name columns) → AreWords columns
@@ -62,29 +63,29 @@ file_bytes_of_name name test = (and_parts (nat_le 1 (length name) && nat_le (len
 
 record FitsPlaces (s : Spelling) : Type 0 where
   table : IsTrue (is_name s.created)
-  same_loaded : upper s.loaded ≡ upper s.created
-  same_selected : upper s.selected ≡ upper s.created
+  same_loaded : word_value_of s.loaded ≡ word_value_of s.created
+  same_selected : word_value_of s.selected ≡ word_value_of s.created
   file : IsTrue (is_file_name s.file)
   names : IsTrue (list_all is_name s.columns)
-  different : IsDistinct bytes_eq (map upper s.columns)
+  different : IsDistinct bytes_eq (map word_value_of s.columns)
 
 FitsPlaces-from_is_well_formed : (s : Spelling) → IsTrue (is_well_formed s) → FitsPlaces s
 unfolding is_well_formed
 FitsPlaces-from_is_well_formed s test =
-    let loaded = bytes_eq (upper s.loaded) (upper s.created) in
-    let selected = bytes_eq (upper s.selected) (upper s.created) in
-    let (t4, different) = and_parts (is_name s.created && loaded && selected && is_file_name s.file && list_all is_name s.columns) (are_different (map upper s.columns)) test in
+    let loaded = bytes_eq (word_value_of s.loaded) (word_value_of s.created) in
+    let selected = bytes_eq (word_value_of s.selected) (word_value_of s.created) in
+    let (t4, different) = and_parts (is_name s.created && loaded && selected && is_file_name s.file && list_all is_name s.columns) (are_different (map word_value_of s.columns)) test in
     let (t3, names) = and_parts (is_name s.created && loaded && selected && is_file_name s.file) (list_all is_name s.columns) t4 in
     let (t2, file) = and_parts (is_name s.created && loaded && selected) (is_file_name s.file) t3 in
     let (t1, same_selected) = and_parts (is_name s.created && loaded) selected t2 in
     let (table, same_loaded) = and_parts (is_name s.created) loaded t1 in
     record {
       table = table;
-      same_loaded = (bytes_eq-Decides (upper s.loaded) (upper s.created)).0 same_loaded;
-      same_selected = (bytes_eq-Decides (upper s.selected) (upper s.created)).0 same_selected;
+      same_loaded = (bytes_eq-Decides (word_value_of s.loaded) (word_value_of s.created)).0 same_loaded;
+      same_selected = (bytes_eq-Decides (word_value_of s.selected) (word_value_of s.created)).0 same_selected;
       file = file;
       names = names;
-      different = IsDistinct-from_are_different (map upper s.columns) different;
+      different = IsDistinct-from_are_different (map word_value_of s.columns) different;
     }
 
 pub file_bytes_from_test : (s : Spelling) → IsTrue (is_well_formed s) → IsTrue (list_all is_file_byte s.file)
@@ -94,11 +95,11 @@ is_well_formed_from_FitsPlaces : (s : Spelling) → FitsPlaces s → IsTrue (is_
 unfolding is_well_formed
 is_well_formed_from_FitsPlaces s fits =
     let table = fits.table in
-    let loaded = (bytes_eq-Decides (upper s.loaded) (upper s.created)).1 fits.same_loaded in
-    let selected = (bytes_eq-Decides (upper s.selected) (upper s.created)).1 fits.same_selected in
+    let loaded = (bytes_eq-Decides (word_value_of s.loaded) (word_value_of s.created)).1 fits.same_loaded in
+    let selected = (bytes_eq-Decides (word_value_of s.selected) (word_value_of s.created)).1 fits.same_selected in
     let file = fits.file in
     let names = fits.names in
-    let different = are_different_from_IsDistinct (map upper s.columns) fits.different in
+    let different = are_different_from_IsDistinct (map word_value_of s.columns) fits.different in
     rw (table, loaded, selected, file, names, different) refl
 
 -- words that can stand in their places make a script of the form

@@ -1,16 +1,16 @@
 -- The file that a folder gives.
-use Rattle.std.proofs.Common.{◌≡◌, ◌⊎◌, inl, inr, ℕ, zero, suc, ◌+◌, ◌<◌, ◌≤◌, List, [], ◌∷◌, length, map, Bool, true, false, Option, Some, None, refl, sym, ap, ◌∙◌, subst, arith}
-use Rattle.std.specs.Prelude.{IfSome, IsSome, IsSomeAnd, All, MatchOption, Result, Ok, Err, Vec, bytes_eq, nat_le, ℤ}
+use Rattle.std.proofs.Common.{◌≡◌, ◌⊎◌, inl, inr, ℕ, zero, suc, ◌<◌, ◌≤◌, List, [], ◌∷◌, length, map, true, false, Option, Some, None, refl, sym, ap, ◌∙◌, arith}
+use Rattle.std.specs.Prelude.{IfSome, IsSome, IsSomeAnd, All, MatchOption, Err, bytes_eq, nat_le}
 use borrow.Author.Tests.{lt-leb}
-use Rattle.std.proofs.lemmas.List.Elements.{All-nil, All-cons, All-weaker}
+use Rattle.std.proofs.lemmas.List.Elements.{All-nil, All-cons}
 use Rattle.outside_io.specs.Count.{Rose}
 use Rattle.outside_io.specs.Files.{Files, FolderState, file_of}
 use Rattle.outside_io.specs.Limits.{max_file_bytes}
-use Rattle.shell.specs.Serve.{IsGiven, IsGivenFor}
+use Rattle.shell.specs.Serve.{IsGivenFor}
 use Rattle.shell.specs.Stop.{StopsAt}
-use Rattle.shell.specs.Due.{ReadsFile, LoadsFile, ReturnsFree}
+use Rattle.shell.specs.Due.{ReadsFile, LoadsFile}
 use Rattle.shell.specs.Script.{Step, NamedTable, SessionState, Outcome, Refuses, load_file, at_table, append_rows}
-use Rattle.shell.specs.Load.{load_of, entry_rows}
+use Rattle.shell.specs.Load.{load_of}
 use Rattle.shell.specs.declared.stop.Stop.{Stop}
 use Rattle.shell.specs.declared.stop.Stop.TheVariants as stop
 use Rattle.shell.specs.declared.refusal.Refusal.TheVariants as refusal

@@ -6,7 +6,7 @@ use Rattle.std.proofs.lemmas.Int.{ints}
 use mir.Syntax.{w64}
 use mir.Val.{to_z, of_z}
 use Rattle.shell.specs.Load.{integer_of}
-use Rattle.shell.specs.Word.{max_integer}
+use Rattle.sql_lex.specs.Limits.{max_number}
 use Rattle.shell.specs.Digits.{magnitude_of}
 
 if-some : (b : Bool) (v n : ℕ) → Some n ≡ (if b then Some v else None) → (b ≡ true) × (v ≡ n)
@@ -21,7 +21,7 @@ pub integer_of-none : (field digits : List ℕ) → digits ≡ without_leading_s
 unfolding magnitude_of
 integer_of-none field digits e h = rw (if-none _ _ (rw e at h)) refl
 
-pub integer_of-positive : (field digits : List ℕ) (n : ℕ) → digits ≡ without_leading_sign field → Some n ≡ magnitude_of digits → n ≤ max_integer
+pub integer_of-positive : (field digits : List ℕ) (n : ℕ) → digits ≡ without_leading_sign field → Some n ≡ magnitude_of digits → n ≤ max_number
     → starts_with_minus field ≡ false → Some (to_z w64 n) ≡ integer_of field
 unfolding magnitude_of
 integer_of-positive field digits n e h small sign =
@@ -29,7 +29,7 @@ integer_of-positive field digits n e h small sign =
     let number : to_z w64 n ≡ pos n = omega (arith, ints) in
     rw (read.0, read.1, sign, number) refl
 
-pub integer_of-negative : (field digits : List ℕ) (n : ℕ) → digits ≡ without_leading_sign field → Some n ≡ magnitude_of digits → n ≤ max_integer
+pub integer_of-negative : (field digits : List ℕ) (n : ℕ) → digits ≡ without_leading_sign field → Some n ≡ magnitude_of digits → n ≤ max_number
     → starts_with_minus field ≡ true → Some (to_z w64 (of_z w64 (pos 0 -ℤ to_z w64 n))) ≡ integer_of field
 unfolding magnitude_of
 integer_of-negative field digits n e h small sign =

@@ -1,6 +1,6 @@
 -- What is said of a whole run of the program.
-use Rattle.std.proofs.Common.{◌≡◌, ◌⊎◌, inl, inr, ℕ, ◌+◌, ◌<◌, ◌≤◌, List, [], ◌∷◌, length, map, take, drop, Option, Some, None, refl, sym, ap, ◌∙◌, subst, arith}
-use Rattle.std.specs.Prelude.{IfSome, IsSome, All, option_map}
+use Rattle.std.proofs.Common.{◌≡◌, ◌⊎◌, inl, inr, ℕ, ◌+◌, ◌<◌, ◌≤◌, List, [], ◌∷◌, length, take, drop, Option, Some, None, refl, sym, ap, ◌∙◌, subst, arith}
+use Rattle.std.specs.Prelude.{IfSome, IsSome, option_map}
 use Rattle.std.specs.Io.KnownBytes.{Appends}
 use Rattle.std.proofs.lemmas.Bool.{cases_lt}
 use Rattle.std.proofs.lemmas.List.{take_all, drop_all, length-take}
@@ -14,8 +14,8 @@ use Rattle.shell.specs.declared.refusal.Refusal.TheVariants as refusal
 use Rattle.shell.specs.declared.statement.Statement.{Statement}
 use Rattle.shell.specs.declared.statement.Statement.TheVariants.{CreateTable, Load, Select}
 use Rattle.shell.specs.Refusal.{line_of}
-use Rattle.shell.specs.Script.{Answer, Step, answer_of, script_answer}
-use Rattle.shell.specs.Serve.{IsScript, IsGivenFor, IsAnswer, Carries, Serves, IsDecided}
+use Rattle.shell.specs.Script.{Answer, Step, answer_of}
+use Rattle.shell.specs.Serve.{IsScript, IsGivenFor, IsAnswer, Serves, IsDecided}
 use Rattle.shell.specs.Due.{CarriesAll}
 use Rattle.shell.specs.Source.{TakesAtMost}
 use Rattle.shell.proofs.Carrying.{appends_none}

@@ -5,7 +5,8 @@ use Rattle.std.specs.List.{list_all}
 use Rattle.std.proofs.lemmas.Bool.{and_parts, eqb-true}
 use Rattle.std.proofs.lemmas.List.{nil_from_length}
 use Rattle.heap_pages.specs.Limits.{max_columns}
-use Rattle.shell.specs.Words.{is_word_byte, is_file_byte}
+use Rattle.sql_lex.specs.Bytes.{is_word_byte}
+use Rattle.shell.specs.Words.{is_file_byte}
 use Rattle.shell.specs.FirstForm.{Spelling, column_list, spelled}
 use Rattle.shell.specs.ScriptReader.{◌>>=◌, after, run_before, at_comma, columns_from, opening_of, Ending, ending_of, spelling_of}
 use Rattle.shell.proofs.ScriptRuns.{steps_from_some, test_from_some, after-append, text_from_after, run_before-append, text_from_run_before}

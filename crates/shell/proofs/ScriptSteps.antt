@@ -8,22 +8,24 @@ use Rattle.std.proofs.lemmas.Bool.Decides.{nat_tests}
 use Rattle.std.proofs.lemmas.List.Recursion.{and_at}
 use Rattle.std.proofs.lemmas.List.{map_push}
 use Rattle.std.proofs.lemmas.List.Sums.{prefix_len-le-length}
-use Rattle.shell.specs.Words.{upper, is_word_byte, is_file_byte}
+use Rattle.sql_lex.specs.Values.{word_value_of}
+use Rattle.sql_lex.specs.Bytes.{is_word_byte}
+use Rattle.shell.specs.Words.{is_file_byte}
 use Rattle.shell.specs.ScriptReader.{after, run_before, columns_from, are_different}
 
--- the texts of words in upper case
+-- the texts of words in word_value_of case
 abbrev pub uppers : List (Bor (List ℕ)) → List (List ℕ)
-uppers words = map upper (map (λ word. word.now) words)
+uppers words = map word_value_of (map (λ word. word.now) words)
 
-any_upper : (text : List ℕ) (words : List (Bor (List ℕ))) → list_any (bytes_eq text) (uppers words) ≡ list_any (λ (word : Bor (List ℕ)). bytes_eq text (upper word.now)) words
+any_upper : (text : List ℕ) (words : List (Bor (List ℕ))) → list_any (bytes_eq text) (uppers words) ≡ list_any (λ (word : Bor (List ℕ)). bytes_eq text (word_value_of word.now)) words
 any_upper text [] = refl
-any_upper text (word ∷ words) = ap (λ (later : Bool). bytes_eq text (upper word.now) || later) (any_upper text words)
+any_upper text (word ∷ words) = ap (λ (later : Bool). bytes_eq text (word_value_of word.now) || later) (any_upper text words)
 
 -- one word against those behind it
-pub first_against_others : (words : List (Bor (List ℕ))) (i : ℕ) (d : Bor (List ℕ)) (again : Bool) → i < length words → again ≡ list_any (λ (other : Bor (List ℕ)). bytes_eq (upper (get_or words i d).now) (upper other.now)) (between (i + 1) (length words) words)
+pub first_against_others : (words : List (Bor (List ℕ))) (i : ℕ) (d : Bor (List ℕ)) (again : Bool) → i < length words → again ≡ list_any (λ (other : Bor (List ℕ)). bytes_eq (word_value_of (get_or words i d).now) (word_value_of other.now)) (between (i + 1) (length words) words)
     → are_different (uppers (drop i words)) ≡ (not again && are_different (uppers (drop (i + 1) words)))
 first_against_others words i d again below is =
-    let others = any_upper (upper (get_or words i d).now) (drop (suc i) words) in
+    let others = any_upper (word_value_of (get_or words i d).now) (drop (suc i) words) in
     let next : i + 1 ≡ suc i = omega arith in
     let tail : between (i + 1) (length words) words ≡ drop (suc i) words = between_to_end words (i + 1) (length words) (omega arith) ∙ ap (λ (k : ℕ). drop k words) next in
     rw (is, tail, add-one, drop-cons words i d, others) refl

@@ -2,7 +2,8 @@
 use Rattle.std.specs.Prelude.{◌≡◌, ℕ, ◌≤◌, List, [], ◌∷◌, ◌++◌, map, length, codes, IsTrue, bytes_eq}
 use Rattle.std.specs.List.{list_all, IsDistinct}
 use Rattle.heap_pages.specs.Limits.{max_columns}
-use Rattle.shell.specs.Words.{upper, is_name, is_file_name}
+use Rattle.sql_lex.specs.Values.{word_value_of}
+use Rattle.shell.specs.Words.{is_name, is_file_name}
 use Rattle.shell.specs.Limits.{max_script_bytes}
 use Rattle.shell.specs.declared.statement.Statement.{Statement}
 use Rattle.shell.specs.declared.statement.Statement.TheVariants.{CreateTable, Load, Select}
@@ -33,11 +34,11 @@ pub record IsFirstForm (script : List ℕ) (statements : List Statement) : Type 
   pub text : script ≡ spelled spelling
   pub short : length script ≤ max_script_bytes
   pub table : IsTrue (is_name spelling.created)
-  pub same_loaded : upper spelling.loaded ≡ upper spelling.created
-  pub same_selected : upper spelling.selected ≡ upper spelling.created
+  pub same_loaded : word_value_of spelling.loaded ≡ word_value_of spelling.created
+  pub same_selected : word_value_of spelling.selected ≡ word_value_of spelling.created
   pub names : IsTrue (list_all is_name spelling.columns)
   pub some_columns : 1 ≤ length spelling.columns
   pub few_columns : length spelling.columns ≤ max_columns
-  pub different : IsDistinct bytes_eq (map upper spelling.columns)
+  pub different : IsDistinct bytes_eq (map word_value_of spelling.columns)
   pub file : IsTrue (is_file_name spelling.file)
-  pub are : statements ≡ CreateTable (upper spelling.created) (map upper spelling.columns) ∷ Load spelling.file (upper spelling.created) ∷ Select (upper spelling.created) ∷ []
+  pub are : statements ≡ CreateTable (word_value_of spelling.created) (map word_value_of spelling.columns) ∷ Load spelling.file (word_value_of spelling.created) ∷ Select (word_value_of spelling.created) ∷ []

@@ -6,14 +6,15 @@ use Rattle.csv.specs.Reading.{records, strip_bom, default_config}
 use Rattle.outside_io.specs.Limits.{max_file_bytes}
 use Rattle.heap_pages.specs.Limits.{max_rows}
 use Rattle.heap_pages.specs.Rows.{Row}
-use Rattle.shell.specs.Word.{null_word, max_integer}
-use Rattle.shell.specs.Words.{upper}
+use Rattle.sql_lex.specs.Limits.{max_number}
+use Rattle.shell.specs.Word.{null_word}
+use Rattle.sql_lex.specs.Values.{word_value_of}
 
 -- the INTEGER that a sign, which may be left out, and digits write
 abbrev pub integer_of : List ℕ → Option ℤ
 integer_of field =
     let digits = without_leading_sign field in
-    if nat_le 1 (length digits) && all_ascii_digits digits && nat_le (digits_value 10 digits) max_integer then Some (signed_digits_value 10 field) else None
+    if nat_le 1 (length digits) && all_ascii_digits digits && nat_le (digits_value 10 digits) max_number then Some (signed_digits_value 10 field) else None
 
 -- the word of a field: an empty one is NULL
 abbrev pub field_word : List ℕ → Option ℤ
@@ -46,7 +47,7 @@ same_texts (a ∷ rest) (b ∷ bs) = bytes_eq a b && same_texts rest bs
 abbrev pub entry_rows : List (List ℕ) → List (List (List ℕ)) → Option (List Row)
 entry_rows columns [] = None
 entry_rows columns (header ∷ entries) =
-    if same_texts (map upper header) columns && nat_le (length entries) max_rows then all_of (entry_row (length columns)) entries else None
+    if same_texts (map word_value_of header) columns && nat_le (length entries) max_rows then all_of (entry_row (length columns)) entries else None
 
 -- the rows of a well-formed file
 abbrev pub load_of : List (List ℕ) → List ℕ → Option (List Row)

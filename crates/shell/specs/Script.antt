@@ -10,7 +10,7 @@ use Rattle.shell.specs.declared.refusal.Refusal.TheVariants as refusal
 use Rattle.shell.specs.declared.statement.Statement.{Statement}
 use Rattle.shell.specs.declared.statement.Statement.TheVariants.{CreateTable, Load, Select}
 
--- a table: its name and its columns' names in upper case, and its rows
+-- a table: its name and its columns' names in word_value_of case, and its rows
 pub record NamedTable : Type 0 where
   pub name : List ℕ
   pub columns : List (List ℕ)

@@ -2,7 +2,9 @@
 use Rattle.std.specs.Prelude.{◌&&◌, ◌==◌, not, ℕ, zero, suc, Bool, true, List, [], ◌∷◌, ◌++◌, map, length, take, drop, codes, Option, Some, None, option_and_then, if◌then◌else◌, bytes_eq}
 use Rattle.std.specs.List.{list_all, list_any, prefix_len}
 use Rattle.heap_pages.specs.Limits.{max_columns}
-use Rattle.shell.specs.Words.{upper, is_word_byte, is_file_byte, is_name, is_file_name}
+use Rattle.sql_lex.specs.Values.{word_value_of}
+use Rattle.sql_lex.specs.Bytes.{is_word_byte}
+use Rattle.shell.specs.Words.{is_file_byte, is_name, is_file_name}
 use Rattle.shell.specs.FirstForm.{Spelling}
 use Rattle.shell.specs.declared.statement.Statement.{Statement}
 use Rattle.shell.specs.declared.statement.Statement.TheVariants.{CreateTable, Load, Select}
@@ -69,9 +71,9 @@ are_different (text ∷ texts) = not (list_any (bytes_eq text) texts) && are_dif
 -- whether the words can stand in their places
 unfoldable pub is_well_formed : Spelling → Bool
 is_well_formed s =
-    is_name s.created && bytes_eq (upper s.loaded) (upper s.created) && bytes_eq (upper s.selected) (upper s.created)
-    && is_file_name s.file && list_all is_name s.columns && are_different (map upper s.columns)
+    is_name s.created && bytes_eq (word_value_of s.loaded) (word_value_of s.created) && bytes_eq (word_value_of s.selected) (word_value_of s.created)
+    && is_file_name s.file && list_all is_name s.columns && are_different (map word_value_of s.columns)
 
 -- what the lines with these words ask for
 abbrev pub statements_of : Spelling → List Statement
-statements_of s = CreateTable (upper s.created) (map upper s.columns) ∷ Load s.file (upper s.created) ∷ Select (upper s.created) ∷ []
+statements_of s = CreateTable (word_value_of s.created) (map word_value_of s.columns) ∷ Load s.file (word_value_of s.created) ∷ Select (word_value_of s.created) ∷ []

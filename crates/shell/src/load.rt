@@ -6,17 +6,18 @@ ghost use Rattle.csv.specs.Reading.{records, strip_bom, default_config};
 ghost use Rattle.csv.specs.Records.{fields_of, field_at};
 ghost use Rattle.heap_pages.specs.Limits.{max_rows};
 ghost use Rattle.heap_pages.specs.Refused.{KeepsRowLimit};
-ghost use Rattle.shell.specs.Words.{upper};
-ghost use Rattle.shell.specs.Word.{max_integer};
+ghost use Rattle.sql_lex.specs.Limits.{max_number};
+ghost use Rattle.sql_lex.specs.Values.{word_value_of};
 ghost use Rattle.shell.specs.Load.{integer_of, field_word, all_of, entry_row, same_texts, entry_rows, load_of};
 ghost use Rattle.shell.specs.Entries.{entries_left, GivesEntries, list_and_all, rows_within};
 ghost use Rattle.shell.specs.Digits.{magnitude_of};
 
 use crate::statement::Name;
-use crate::word::{MAX_INTEGER, NULL_WORD};
+use crate::word::NULL_WORD;
 use csv::{ByteRecord, Reader, ReaderBuilder};
 use heap_pages::{Heap, HeapFault, MAX_ROWS};
 use outside_io::MAX_FILE_BYTES;
+use sql_lex::MAX_NUMBER;
 use std::alloc::{AllocError, Global};
 use std::io::Read;
 use std::marker::Model;
@@ -102,19 +103,19 @@ impl LoadedRows {
 #[tactic(auto, using(crate::proofs::Digits::of_digits))]
 fn magnitude_of(digits: &[u8]) -> Option<u64>
     ensures number { result ≡ magnitude_of digits.now }
-    ensures limit { IfSome result (λ number. number ≤ max_integer) }
+    ensures limit { IfSome result (λ number. number ≤ max_number) }
 {
     if digits.is_empty() {
         return None;
     }
     let mut value = 0u64;
     for digit in digits {
-        if !digit.is_ascii_digit() || value > MAX_INTEGER / 10 {
+        if !digit.is_ascii_digit() || value > MAX_NUMBER / 10 {
             return None;
         }
         value = value * 10 + u64::from(*digit - b'0');
     }
-    if value > MAX_INTEGER {
+    if value > MAX_NUMBER {
         return None;
     }
     Some(value)
@@ -160,7 +161,7 @@ fn field_word(field: &[u8]) -> Option<i64>
 // Whether a field is a column's name in any case.
 #[tactic(auto, using(crate::proofs::Headers::of_names))]
 fn is_name_of(field: &[u8], name: &[u8]) -> bool
-    ensures { result ≡ bytes_eq (upper field.now) name.now }
+    ensures { result ≡ bytes_eq (word_value_of field.now) name.now }
 {
     if field.len() != name.len() {
         return false;
@@ -176,7 +177,7 @@ fn is_name_of(field: &[u8], name: &[u8]) -> bool
 // Whether an entry has the columns' names in any case.
 #[tactic(auto, using(crate::proofs::Headers::of_headers))]
 fn is_header(entry: &ByteRecord, columns: &[Name]) -> bool
-    ensures { result ≡ same_texts (map upper (fields_of entry.now)) columns.now }
+    ensures { result ≡ same_texts (map word_value_of (fields_of entry.now)) columns.now }
 {
     if entry.len() != columns.len() {
         return false;

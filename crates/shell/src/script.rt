@@ -4,19 +4,22 @@ ghost use Rattle.std.specs.Prelude.{◌≡◌, [], map, IfOk, IsTrue, option_map
 ghost use Rattle.std.specs.List.{list_any, list_all, prefix_len};
 ghost use Rattle.heap_pages.specs.Limits.{max_columns};
 ghost use Rattle.shell.specs.Serve.{IsScript};
-ghost use Rattle.shell.specs.Words.{upper, is_word_byte, is_file_byte, is_word, is_name, is_file_name, reserved};
+ghost use Rattle.sql_lex.specs.Bytes.{is_word_byte};
+ghost use Rattle.sql_lex.specs.Values.{word_value_of};
+ghost use Rattle.shell.specs.Words.{is_file_byte, is_whole_word, is_name, is_file_name, reserved};
 ghost use Rattle.shell.specs.ScriptReader.{after, run_before, columns_from, opening_of, ending_of, spelling_of, are_different, is_well_formed, statements_of};
 
 use crate::statement::{FileName, Name, Names, Statement};
 use heap_pages::MAX_COLUMNS;
+use sql_lex::MAX_WORD_BYTES;
 use std::alloc::{AllocError, Global};
 use std::marker::Model;
 
 /// The most bytes of a script.
 pub(crate) const MAX_SCRIPT_BYTES: usize = 16777216;
 
-// The most bytes of a name, and of a file's name.
-const MAX_NAME_BYTES: usize = 128;
+// The most bytes of a file's name.
+const MAX_FILE_NAME_BYTES: usize = 128;
 
 // The words that can't be names.
 static RESERVED: [&[u8]; 20] = [
@@ -81,21 +84,21 @@ fn is_file_byte(byte: u8) -> bool
 
 // Whether the words differ at most in the case of their letters.
 fn is_same_word(one: &[u8], other: &[u8]) -> bool
-    ensures { result ≡ bytes_eq (upper one.now) (upper other.now) }
+    ensures { result ≡ bytes_eq (word_value_of one.now) (word_value_of other.now) }
 {
     one.eq_ignore_ascii_case(other)
 }
 
 // Whether the word is one of the others, in any case.
 fn is_among(word: &[u8], others: &[&[u8]]) -> bool
-    ensures { result ≡ list_any (λ other. bytes_eq (upper word.now) (upper other.now)) others.now }
+    ensures { result ≡ list_any (λ other. bytes_eq (word_value_of word.now) (word_value_of other.now)) others.now }
 {
     others.iter().any(|other| is_same_word(word, other))
 }
 
 #[tactic(auto, unfolding(crate::specs::Words::reserved))]
 fn is_reserved(word: &[u8]) -> bool
-    ensures { result ≡ list_any (bytes_eq (upper word.now)) reserved }
+    ensures { result ≡ list_any (bytes_eq (word_value_of word.now)) reserved }
 {
     is_among(word, &RESERVED)
 }
@@ -112,8 +115,8 @@ fn are_file_bytes(bytes: &[u8]) -> bool
     bytes.iter().all(|byte| is_file_byte(*byte))
 }
 
-fn is_word(bytes: &[u8]) -> bool
-    ensures { result ≡ is_word bytes.now }
+fn is_whole_word(bytes: &[u8]) -> bool
+    ensures { result ≡ is_whole_word bytes.now }
 {
     match bytes {
         [first, rest @ ..] => first.is_ascii_alphabetic() && are_word_bytes(rest),
@@ -124,13 +127,13 @@ fn is_word(bytes: &[u8]) -> bool
 fn is_name(word: &[u8]) -> bool
     ensures { result ≡ is_name word.now }
 {
-    is_word(word) && word.len() <= MAX_NAME_BYTES && !is_reserved(word)
+    is_whole_word(word) && word.len() <= MAX_WORD_BYTES && !is_reserved(word)
 }
 
 fn is_file_name(name: &[u8]) -> bool
     ensures { result ≡ is_file_name name.now }
 {
-    !name.is_empty() && name.len() <= MAX_NAME_BYTES && are_file_bytes(name)
+    !name.is_empty() && name.len() <= MAX_FILE_NAME_BYTES && are_file_bytes(name)
 }
 
 fn are_names(words: &[&[u8]]) -> bool
@@ -253,7 +256,7 @@ fn spelling_of<'a>(alloc: Global, script: &'a [u8]) -> Result<Option<Places<'a>>
 
 // Whether no word is one of those after it, in any case.
 fn are_different(words: &[&[u8]]) -> bool
-    ensures { result ≡ are_different (map upper (map (λ word. word.now) words.now)) }
+    ensures { result ≡ are_different (map word_value_of (map (λ word. word.now) words.now)) }
 {
     for (i, word) in words.iter().enumerate() {
         if is_among(word, &words[i + 1..]) {
@@ -277,7 +280,7 @@ fn is_well_formed(spelling: &Places<'_>) -> bool
 }
 
 fn upper_name(alloc: Global, word: &[u8]) -> Result<Name, AllocError>
-    ensures { IfOk result (λ name. name ≡ upper word.now) }
+    ensures { IfOk result (λ name. name ≡ word_value_of word.now) }
 {
     let mut bytes = Vec::from_slice(alloc, word)?;
     bytes.make_ascii_uppercase();
@@ -285,7 +288,7 @@ fn upper_name(alloc: Global, word: &[u8]) -> Result<Name, AllocError>
 }
 
 fn upper_names(alloc: Global, words: &[&[u8]]) -> Result<Names, AllocError>
-    ensures { IfOk result (λ names. names ≡ map upper (map (λ word. word.now) words.now)) }
+    ensures { IfOk result (λ names. names ≡ map word_value_of (map (λ word. word.now) words.now)) }
 {
     let mut names = Vec::new(alloc);
     for word in words {

@@ -2,6 +2,3 @@
 
 /// The word that stands for NULL: -2^63, the least word, which is no INTEGER.
 pub(crate) const NULL_WORD: i64 = i64::MIN;
-
-/// The greatest INTEGER, 2^63 - 1; the least is its negation.
-pub(crate) const MAX_INTEGER: u64 = 9223372036854775807;

@@ -1,5 +1,5 @@
 -- Each statement's text stands after those before it.
-use Rattle.std.proofs.Common.{◌≡◌, ◌+◌, ◌*◌, ◌≤◌, inl, inr, refl, sym, arith}
+use Rattle.std.proofs.Common.{◌+◌, ◌≤◌, inl, inr, refl, arith}
 use Rattle.shell.specs.Limits.{max_work}
 use Rattle.shell.specs.declared.status.Status.TheVariants as status
 use Rattle.shell.proofs.Carrying.{carried_none, carried_all}

@@ -1,4 +1,4 @@
-use Rattle.std.proofs.Common.{◌≡◌, ◌*◌, ◌≤◌}
+use Rattle.std.proofs.Common.{◌*◌, ◌≤◌}
 use Rattle.outside_io.specs.Files.{OnlyReads}
 use Rattle.shell.specs.Limits.{max_work}
 use Rattle.shell.proofs.Carrying.{IsCarried}

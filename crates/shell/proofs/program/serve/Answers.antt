@@ -1,7 +1,7 @@
 -- What was read is carried out; before that nothing is put.
-use Rattle.std.proofs.Common.{inl, inr, refl, sym}
+use Rattle.std.proofs.Common.{inl, inr, refl}
 use Rattle.shell.specs.declared.status.Status.TheVariants as status
-use Rattle.shell.proofs.Runs.{known_nothing, known_whole, known_read, known_emptied, known_bounded, known_decided, known_unread, known_same, takes_nothing}
+use Rattle.shell.proofs.Runs.{known_nothing, known_whole, known_read, known_emptied, known_bounded, known_decided, known_unread}
 use Rattle.shell.proofs.program.serve.Goals as goal
 
 pub returns-in-Err-Failed-clause-serves : goal.returns-in-Err-Failed-clause-serves

@@ -1,6 +1,5 @@
 -- The file isn't read, or couldn't be had.
-use Rattle.std.proofs.Common.{◌≡◌, true, false, Some, None, sym, ◌∙◌}
-use Rattle.std.specs.Prelude.{bytes_eq}
+use Rattle.std.proofs.Common.{Some, sym, ◌∙◌}
 use Rattle.shell.proofs.Given.{loads_nothing, loads_unread, no_table_at, other_table_at}
 use Rattle.shell.proofs.session.Session.load.Goals as goal
 
