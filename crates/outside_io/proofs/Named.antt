@@ -1,12 +1,14 @@
 -- Files under their names, as a tree of entries and as a map.
-use Rattle.std.proofs.Common.{◌≡◌, ℕ, List, [], ◌∷◌, true, false, Option, Some, Vec, map, cond, refl, sym, ap, ◌∙◌}
+use Rattle.std.proofs.Common.{◌≡◌, ℕ, List, [], ◌∷◌, true, false, Option, Some, Vec, map, cond}
+use Rattle.std.proofs.Common.{refl, sym, ap, ◌∙◌}
 use Rattle.std.specs.Option.{option_map}
 use Rattle.std.specs.declared.alloc.Global.{Global}
 use Rattle.std.specs.declared.cmp.Ordering.{Ordering}
 use Rattle.std.specs.declared.cmp.Ordering.TheVariants.{Less, Equal, Greater}
 use Rattle.std.specs.Ordering.{nat_cmp, is_eq, eq_by_cmp}
 use Rattle.std.specs.Cmp.Lexicographic.{slice_cmp, nat_list_cmp_total}
-use Rattle.std.specs.FinMap.{get-from_entries, get-insert, same_map, slice_cmp-IsAntisymmetric, nat_cmp-IsAntisymmetric}
+use Rattle.std.specs.FinMap.{get-from_entries, get-insert, same_map}
+use Rattle.std.specs.FinMap.{slice_cmp-IsAntisymmetric, nat_cmp-IsAntisymmetric}
 use Rattle.std.specs.FinMap.Entries.{find, put, by_order, find-put}
 use Rattle.std.specs.Map.{lookup}
 use Rattle.std.specs.BTreeMap.{insert_entry}
@@ -22,41 +24,67 @@ shown entry = (entry.0.items, entry.1.items)
 abbrev by_name : List ℕ → List ℕ → Ordering
 by_name = slice_cmp nat_cmp
 
-find-shown : (name : List ℕ) (entries : List Entry) → find by_name name (map shown entries) ≡ option_map (λ v. v.items) (lookup (λ k. is_eq (by_name name k.items)) entries)
+-- what the tree finds under a name
+abbrev pub tree_find : List ℕ → List Entry → Option (Vec ℕ Global)
+tree_find name entries = lookup (λ key. is_eq (by_name name key.items)) entries
+
+-- the tree with an entry more
+abbrev pub tree_put : List Entry → Vec ℕ Global → Vec ℕ Global → List Entry
+tree_put entries key value = insert_entry (λ a b. by_name a.items b.items) entries key value
+
+find-shown : (name : List ℕ) (entries : List Entry)
+    → find by_name name (map shown entries) ≡ option_map (λ v. v.items) (tree_find name entries)
 find-shown name [] = refl
 find-shown name (e ∷ entries) =
-    elim (is_eq (by_name name e.0.items)) as (λ b. cond b (Some e.1.items) (find by_name name (map shown entries)) ≡ option_map (λ v. v.items) (cond b (Some e.1) (lookup (λ k. is_eq (by_name name k.items)) entries))) [
+    elim (is_eq (by_name name e.0.items)) as (λ b.
+    cond b (Some e.1.items) (find by_name name (map shown entries))
+    ≡ option_map (λ v. v.items) (cond b (Some e.1) (tree_find name entries))) [
       | true ↦ refl
       | false ↦ find-shown name entries
     ]
 
 -- what a look-up in the tree finds is the file of that name
-pub found-file_of : (entries : List Entry) (name key : List ℕ) (found : Option (Vec ℕ Global)) → key ≡ name → found ≡ lookup (λ k. is_eq (by_name key k.items)) entries
+pub found-file_of : (entries : List Entry) (name key : List ℕ) (found : Option (Vec ℕ Global))
+    → key ≡ name → found ≡ tree_find key entries
     → option_map (λ v. v.items) found ≡ file_of (named_files entries) name
 found-file_of entries name key found same is =
-    ap (option_map (λ v. v.items)) is ∙ sym (find-shown key entries) ∙ ap (λ q. find by_name q (map shown entries)) same ∙ sym (get-from_entries nat_list_cmp_total (map shown entries) name)
+    ap (option_map (λ v. v.items)) is
+    ∙ sym (find-shown key entries)
+    ∙ ap (λ q. find by_name q (map shown entries)) same
+    ∙ sym (get-from_entries nat_list_cmp_total (map shown entries) name)
 
-map-insert_entry : (entries : List Entry) (k v : Vec ℕ Global) → map shown (insert_entry (λ a b. by_name a.items b.items) entries k v) ≡ put by_name k.items v.items (map shown entries)
-map-insert_entry [] k v = refl
-map-insert_entry (e ∷ entries) k v =
-    elim (by_name k.items e.0.items) as (λ o. map shown (by_order o ((k, v) ∷ e ∷ entries) ((e.0, v) ∷ entries) (e ∷ insert_entry (λ a b. by_name a.items b.items) entries k v))
-    ≡ by_order o (shown (k, v) ∷ shown e ∷ map shown entries) ((e.0.items, v.items) ∷ map shown entries) (shown e ∷ put by_name k.items v.items (map shown entries))) [
+map-tree_put : (entries : List Entry) (k v : Vec ℕ Global)
+    → map shown (tree_put entries k v) ≡ put by_name k.items v.items (map shown entries)
+map-tree_put [] k v = refl
+map-tree_put (e ∷ entries) k v =
+    elim (by_name k.items e.0.items) as (λ o.
+    map shown (by_order o ((k, v) ∷ e ∷ entries) ((e.0, v) ∷ entries) (e ∷ tree_put entries k v))
+    ≡ by_order o (shown (k, v) ∷ shown e ∷ map shown entries)
+    ((e.0.items, v.items) ∷ map shown entries)
+    (shown e ∷ put by_name k.items v.items (map shown entries))) [
       | Less ↦ refl
       | Equal ↦ refl
-      | Greater ↦ ap (λ es. shown e ∷ es) (map-insert_entry entries k v)
+      | Greater ↦ ap (λ es. shown e ∷ es) (map-tree_put entries k v)
     ]
 
-named_files-insert_entry : (entries : List Entry) (k v : Vec ℕ Global) → named_files (insert_entry (λ a b. by_name a.items b.items) entries k v) ≡ with_file (named_files entries) k.items v.items
-named_files-insert_entry entries k v =
+named_files-tree_put : (entries : List Entry) (k v : Vec ℕ Global)
+    → named_files (tree_put entries k v) ≡ with_file (named_files entries) k.items v.items
+named_files-tree_put entries k v =
     let o = nat_list_cmp_total in
     same_map o (slice_cmp-IsAntisymmetric nat_cmp-IsAntisymmetric) _ _ (λ name.
     get-from_entries o _ name
-    ∙ ap (find by_name name) (map-insert_entry entries k v)
+    ∙ ap (find by_name name) (map-tree_put entries k v)
     ∙ find-put by_name o name k.items v.items (map shown entries)
-    ∙ sym (get-insert o (named_files entries) k.items v.items name ∙ ap (λ x. cond (eq_by_cmp by_name name k.items) (Some v.items) x) (get-from_entries o (map shown entries) name)))
+    ∙ sym (get-insert o (named_files entries) k.items v.items name
+    ∙ ap (λ x. cond (eq_by_cmp by_name name k.items) (Some v.items) x)
+    (get-from_entries o (map shown entries) name)))
 
 -- an entry more in the tree is a file more in the map
-pub named_files-put : (before after : List Entry) (k v : Vec ℕ Global) (name bytes : List ℕ) → after ≡ insert_entry (λ a b. by_name a.items b.items) before k v → k.items ≡ name → v.items ≡ bytes
+pub named_files-put : (before after : List Entry) (k v : Vec ℕ Global) (name bytes : List ℕ)
+    → after ≡ tree_put before k v → k.items ≡ name → v.items ≡ bytes
     → named_files after ≡ with_file (named_files before) name bytes
 named_files-put before after k v name bytes is named held =
-    ap named_files is ∙ named_files-insert_entry before k v ∙ ap (λ n. with_file (named_files before) n v.items) named ∙ ap (λ b. with_file (named_files before) name b) held
+    ap named_files is
+    ∙ named_files-tree_put before k v
+    ∙ ap (λ n. with_file (named_files before) n v.items) named
+    ∙ ap (λ b. with_file (named_files before) name b) held

@@ -3,7 +3,7 @@ use Rattle.std.specs.Prelude.{ℕ, ◌+◌, ◌==◌, List, Bool, if◌then◌el
 use Rattle.std.specs.List.{list_any}
 use Rattle.outside_io.specs.Count.{raised}
 
--- the numbers of the calls that are to fail, from 1; how many calls were made; how many of them failed
+-- the numbers of the calls that are to fail, from 1; how many calls were made, and how many failed
 pub record Calls : Type 0 where
   pub fails : List ℕ
   pub made : ℕ
@@ -19,4 +19,8 @@ fails_next calls = list_any (λ number. number == calls.made + 1) calls.fails
 
 -- one call more
 abbrev pub after_call : Calls → Calls
-after_call calls = record { fails = calls.fails; made = raised calls.made; failed = if fails_next calls then raised calls.failed else calls.failed }
+after_call calls = record {
+  fails = calls.fails;
+  made = raised calls.made;
+  failed = if fails_next calls then raised calls.failed else calls.failed;
+}

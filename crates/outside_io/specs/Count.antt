@@ -1,5 +1,5 @@
 -- Counts of what went wrong outside.
-use Rattle.std.specs.Prelude.{ℕ, ◌+◌, ◌-◌, ◌^◌, ◌≤◌, min}
+use Rattle.std.specs.Prelude.{◌≡◌, ℕ, ◌+◌, ◌-◌, ◌^◌, ◌≤◌, min}
 
 -- the count one higher; it ends at 2^64 - 1
 abbrev pub raised : ℕ → ℕ
@@ -13,3 +13,8 @@ Rose before after = raised before ≤ after
 pub record HasCause (met : Type 0) (before after : ℕ) : Type 0 where
   pub rose : met → Rose before after
   pub never_falls : before ≤ after
+
+-- a count rises by one where what it counts was met, and else stays
+pub record CountsEach (met : Type 0) (before after : ℕ) : Type 0 where
+  pub counted : met → after ≡ raised before
+  pub kept : ¬ met → after ≡ before

@@ -1,9 +1,12 @@
--- What a folder holds, and what its answers say of it.
-use Rattle.std.specs.Prelude.{◌≡◌, ◌≢◌, ℕ, ◌≤◌, ◌<◌, List, length, Option, Some, None, IsSomeAnd, IfSome, Result, Ok, Err, Vec, ⊤}
+-- What a folder holds, and what its calls say of it.
+use Rattle.std.specs.Prelude.{◌≡◌, ◌≢◌, ℕ, ◌≤◌, ◌<◌, List, length, Option, Some, None, IsSomeAnd}
+use Rattle.std.specs.Prelude.{IfSome, Result, Ok, Err, Vec, ⊤}
 use Rattle.std.specs.Ordering.{nat_cmp}
 use Rattle.std.specs.Cmp.Lexicographic.{slice_cmp}
 use Rattle.std.specs.FinMap as map
 use Rattle.std.specs.declared.alloc.Global.{Global}
+use Rattle.std.specs.declared.io.ErrorKind.{ErrorKind}
+use Rattle.std.specs.declared.io.ErrorKind.TheVariants as kind
 use Rattle.outside_io.specs.declared.fault.FileFault.{FileFault}
 use Rattle.outside_io.specs.declared.fault.FileFault.TheVariants as fault
 use Rattle.outside_io.specs.Limits.{max_file_bytes}
@@ -21,11 +24,12 @@ file_of files name = map.get files name
 abbrev pub with_file : Files → List ℕ → List ℕ → Files
 with_file files name bytes = map.insert files name bytes
 
--- what the answer to a read says of the file: its bytes, that it isn't there, or its length
+-- what a read returns says of the file: its bytes, that it isn't there, or its length
 abbrev pub IsReadAnswer : Files → List ℕ → Result (Vec ℕ Global) FileFault → Type 0
 IsReadAnswer files name (Ok bytes) = file_of files name ≡ Some bytes.items
 IsReadAnswer files name (Err fault.Absent) = file_of files name ≡ None
-IsReadAnswer files name (Err (fault.TooLong len)) = IsSomeAnd (file_of files name) (λ bytes. length bytes ≡ len)
+IsReadAnswer files name (Err (fault.TooLong len)) =
+    IsSomeAnd (file_of files name) (λ bytes. length bytes ≡ len)
 IsReadAnswer files name (Err fault.Failed) = ⊤
 IsReadAnswer files name (Err fault.NoMemory) = ⊤
 
@@ -37,23 +41,23 @@ KeepsFileLimit (Err (fault.TooLong len)) = max_file_bytes < len
 KeepsFileLimit (Err fault.Failed) = ⊤
 KeepsFileLimit (Err fault.NoMemory) = ⊤
 
--- any fault but that the file is too long
-abbrev pub IsNotTooLong : FileFault → Type 0
-IsNotTooLong fault.Absent = ⊤
-IsNotTooLong (fault.TooLong len) = ⊥
-IsNotTooLong fault.Failed = ⊤
-IsNotTooLong fault.NoMemory = ⊤
+-- what a read returns where the system has an error of this kind
+abbrev pub fault_of_kind : ErrorKind → FileFault
+fault_of_kind kind.NotFound = fault.Absent
+fault_of_kind kind.OutOfMemory = fault.NoMemory
+fault_of_kind _ = fault.Failed
 
--- an answer that says why the file can't be had, though nothing failed
+-- the file isn't there or is too long, though nothing failed
 abbrev pub IsMiss : FileFault → Type 0
 IsMiss fault.Absent = Unit {0}
 IsMiss (fault.TooLong len) = Unit {0}
 IsMiss fault.Failed = ⊥
 IsMiss fault.NoMemory = ⊥
 
--- every other name has what it had
+-- every name but this one has what it had
 abbrev pub KeepsOthers : List ℕ → Option Files → Option Files → Type 0
-KeepsOthers name old new = IfSome old (λ files. IsSomeAnd new (λ after. (other : List ℕ) → other ≢ name → file_of after other ≡ file_of files other))
+KeepsOthers name old new = IfSome old (λ files. IsSomeAnd new (λ after.
+    (other : List ℕ) → other ≢ name → file_of after other ≡ file_of files other))
 
 -- what is known of a folder: its files, where its contents are known, and its three counts
 pub record FolderState : Type 0 where
@@ -64,7 +68,12 @@ pub record FolderState : Type 0 where
 
 -- a folder whose files aren't known
 abbrev pub unknown_files : ℕ → ℕ → ℕ → FolderState
-unknown_files read_faults write_faults misses = record { files = None; read_faults = read_faults; write_faults = write_faults; misses = misses }
+unknown_files read_faults write_faults misses = record {
+  files = None;
+  read_faults = read_faults;
+  write_faults = write_faults;
+  misses = misses;
+}
 
 -- reading files: the folder holds what it held, and its counts have their causes
 pub record OnlyReads (failed missed : Type 0) (old new : FolderState) : Type 0 where

@@ -1,11 +1,12 @@
-// Calls that fail by their numbers: what the implementations in memory share.
+// Calls that fail by their numbers, as the implementations in memory make them. The numbers are
+// those that the maker gave; nothing else makes a call fail.
 ghost use Rattle.std.specs.Prelude.{◌≡◌, ◌+◌, ◌==◌, ◌≤◌};
 ghost use Rattle.std.specs.List.{list_any};
 ghost use Rattle.outside_io.specs.Calls.{no_calls, fails_next, after_call};
 
 use std::marker::Model;
 
-/// The numbers of the calls that are to fail, and a count of those that were made and of those that failed.
+/// The numbers of the calls that are to fail, how many calls were made, and how many failed.
 #[derive(Drop)]
 pub(crate) struct FailingCalls {
     fails: Vec<u64>,
@@ -40,9 +41,9 @@ impl FailingCalls {
         }
     }
 
-    /// Counts a call, and answers whether it is to fail.
+    /// Counts a call, and returns whether it is to fail.
     pub(crate) fn next_fails(&mut self) -> bool
-        ensures answer { result ≡ fails_next self.old }
+        ensures fails { result ≡ fails_next self.old }
         ensures counted { self.new ≡ after_call self.old }
         ensures never_falls { self.old.failed ≤ self.new.failed }
     {

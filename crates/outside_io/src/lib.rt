@@ -1,26 +1,34 @@
-//! The outside as the program sees it: a source of bytes, a sink for bytes, and a folder of files, each a trait that
-//! counts what went wrong. Implementations in memory tell all that they hold and fail at the calls that they are told
-//! to; the adapters to standard input, standard output and the working directory tell nothing and are the trusted edge.
-//! To the layers above the traits promise exact bytes where these are told, and a failure only where a count rose.
-//! No call here looks at what the bytes mean.
+//! The outside as the program sees it: a source of bytes, a sink for bytes, and a folder of files,
+//! each a trait that counts what went wrong. Implementations in memory, whose contents are known,
+//! fail at the calls that they are told to; a source and a sink over any reader and writer are the
+//! adapters to standard input and output, and a folder is that of the working directory's files.
+//! To the layers above the traits promise exact bytes where contents are known, and a failure only
+//! where a count rose. No call here looks at what the bytes mean.
 #![tactic(auto)]
 
+mod dir_folder;
 mod failing;
 mod fault;
 mod folder;
-mod memory;
+mod folder_counts;
 mod memory_folder;
+mod memory_sink;
+mod memory_source;
+mod reader_source;
 mod sink;
 mod source;
-mod system;
+mod writer_sink;
 
+pub use dir_folder::DirFolder;
 pub use fault::{Failed, FileFault, PutFault};
 pub use folder::{Folder, MAX_FILE_BYTES};
-pub use memory::{MemorySink, MemorySource};
 pub use memory_folder::MemoryFolder;
+pub use memory_sink::MemorySink;
+pub use memory_source::MemorySource;
+pub use reader_source::{ReaderSource, StdSource};
 pub use sink::Sink;
 pub use source::Source;
-pub use system::{DirFolder, StdSink, StdSource};
+pub use writer_sink::{StdSink, WriterSink};
 
 #[cfg(test)]
 mod tests;

@@ -1,0 +1,6 @@
+-- Writes that a signal came between wrote nothing.
+use Rattle.std.specs.Io.KnownBytes.{Keeps}
+use Rattle.outside_io.proofs.writer_sink.write_some.Given as goal
+
+abbrev pub invariant-loop : goal.invariant-loop
+invariant-loop g l = Keeps (g.W.Write.contents l.initial.writer) (g.W.Write.contents l.writer)

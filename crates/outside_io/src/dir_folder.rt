@@ -1,0 +1,123 @@
+// The folder of the working directory's files. It relies on the system, of whose files nothing is
+// known, and it never reads more of a file than the limit and one byte.
+ghost use Rattle.std.specs.Prelude.{◌≡◌, ◌⊎◌, IfOk, IfErr, IfSome, OnOk, IsErrOf, IsErrAnd};
+ghost use Rattle.std.specs.Prelude.{option_map};
+ghost use Rattle.outside_io.specs.Count.{CountsEach};
+ghost use Rattle.outside_io.specs.Files.{IsReadAnswer, KeepsFileLimit, IsMiss, KeepsOthers};
+ghost use Rattle.outside_io.specs.Files.{OnlyReads, OnlyWrites, unknown_files, with_file};
+
+use crate::folder::check_len;
+use crate::folder_counts::FolderCounts;
+use crate::writer_sink::write_whole;
+use crate::{FileFault, Folder, MAX_FILE_BYTES};
+use std::alloc::Global;
+use std::fs::OpenFile;
+use std::io::Read;
+use std::marker::Model;
+use std::rt::Files;
+use std::{fs, io};
+
+/// The folder of a directory's files: a name is looked up where the program runs.
+#[derive(Drop)]
+pub struct DirFolder<'a, R: Files> {
+    files: &'a R,
+    counts: FolderCounts,
+}
+
+impl<'a, R: Files> Model for DirFolder<'a, R> {
+    ghost use Rattle.outside_io.specs.Files.{FolderState, unknown_files};
+    ghost use Rattle.outside_io.specs.Codes.{folder_code};
+
+    ghost Value = { FolderState };
+
+    ghost coded = { folder_code };
+
+    ghost view = { λ f. unknown_files f.counts.read_faults f.counts.write_faults f.counts.misses };
+}
+
+// All that a reader has left, of which so many bytes are expected.
+fn read_all<R: Read + Drop>(alloc: Global, mut reader: R, expected: u64) -> io::Result<Vec<u8>>
+    ensures { IfOk result (λ bytes. IfSome (R.remaining reader) (λ left. bytes.items ≡ left)) }
+{
+    let mut bytes = Vec::new(alloc);
+    bytes.try_reserve(expected as usize)?;
+    reader.read_to_end(&mut bytes)?;
+    Ok(bytes)
+}
+
+// The bytes of an opened file. Its length is asked first, so that a longer file isn't read. Where
+// more bytes turn up than it told, one past the limit is enough to know.
+fn read_whole<F: OpenFile + Read + Drop>(alloc: Global, file: F) -> Result<Vec<u8>, FileFault>
+    ensures within { KeepsFileLimit result }
+    ensures whole { IfOk result (λ bytes. IfSome (F.remaining file) (λ held. bytes.items ≡ held)) }
+{
+    let len = file.metadata()?.len();
+    check_len(len)?;
+    let bytes = read_all(alloc, file.take(MAX_FILE_BYTES + 1), len + 1)?;
+    check_len(bytes.len() as u64)?;
+    Ok(bytes)
+}
+
+fn read_named<R: Files>(files: &R, alloc: Global, name: &str) -> Result<Vec<u8>, FileFault>
+    ensures { KeepsFileLimit result }
+{
+    read_whole(alloc, fs::open(files, name)?)
+}
+
+fn write_named<R: Files>(files: &R, name: &str, bytes: &[u8]) -> io::Result<()> {
+    write_whole(&mut fs::create(files, name)?, bytes)
+}
+
+impl<'a, R: Files> DirFolder<'a, R> {
+    /// The files of the working directory.
+    pub fn new(files: &'a R) -> DirFolder<'a, R>
+        ensures { result ≡ unknown_files 0 0 0 }
+    {
+        DirFolder {
+            files,
+            counts: FolderCounts::new(),
+        }
+    }
+}
+
+impl<'a, R: Files> Folder for DirFolder<'a, R> {
+    ghost state = { λ f. f };
+
+    fn read(&mut self, alloc: Global, name: &str) -> Result<Vec<u8>, FileFault>
+        ensures known { IfSome self.old.files (λ files. IsReadAnswer files name.now result) }
+        ensures within { KeepsFileLimit result }
+        ensures reads { OnlyReads (IsErrOf result FileFault.Failed) (IsErrAnd result IsMiss)
+            self.old self.new }
+
+        // Each failure and each miss is counted once, and nothing else is.
+        ensures read_faults { CountsEach (IsErrOf result FileFault.Failed)
+            self.old.read_faults self.new.read_faults }
+        ensures misses { CountsEach (IsErrAnd result IsMiss) self.old.misses self.new.misses }
+    {
+        let outcome = read_named(self.files, alloc, name);
+        self.counts.count_read(&outcome);
+        outcome
+    }
+
+    fn write(&mut self, name: &str, bytes: &[u8]) -> Result<(), FileFault>
+        ensures written { OnOk result (self.new.files
+            ≡ option_map (λ files. with_file files name.now bytes.now) self.old.files) }
+        ensures others { IsErrOf result FileFault.Failed →
+            KeepsOthers name.now self.old.files self.new.files }
+        ensures nothing { IsErrOf result FileFault.NoMemory → self.new.files ≡ self.old.files }
+        ensures kinds { IfErr result (λ e. (e ≡ FileFault.Failed) ⊎ (e ≡ FileFault.NoMemory)) }
+        ensures writes { OnlyWrites (IsErrOf result FileFault.Failed) self.old self.new }
+
+        // Each failure is counted once, and nothing else is. It is the one fault.
+        ensures write_faults { CountsEach (IsErrOf result FileFault.Failed)
+            self.old.write_faults self.new.write_faults }
+        ensures only_failed { IfErr result (λ e. e ≡ FileFault.Failed) }
+    {
+        let outcome = match write_named(self.files, name, bytes) {
+            Ok(()) => Ok(()),
+            Err(_) => Err(FileFault::Failed),
+        };
+        self.counts.count_write(&outcome);
+        outcome
+    }
+}
