@@ -21,7 +21,7 @@ use Rattle.sql_lex.specs.declared.token.Token.{Token}
 use Rattle.sql_lex.specs.declared.token.TokenKind.{TokenKind}
 use Rattle.sql_lex.specs.declared.token.TokenKind.TheVariants.{Word, Number, Text, Sign, Comparison}
 use Rattle.sql_lex.specs.declared.fault.LexFault.{LexFault}
-use Rattle.sql_lex.proofs.Texts.{doubled_byte}
+use Rattle.sql_lex.proofs.Texts.{after_text, after_text-append, after_text-closed}
 use Rattle.sql_lex.proofs.Wholes.{first-between, first-drop}
 
 -- the kind of the token that a byte begins
@@ -54,21 +54,6 @@ after_run-append p [] [] all stops = refl
 after_run-append p [] (b ∷ l) all stops = cond-false (p b) _ _ stops
 after_run-append p (b ∷ xs) l all stops =
     cond-true (p b) _ _ (All-head (λ c. p c ≡ true) b xs all) ∙ after_run-append p xs l (All-tail (λ c. p c ≡ true) b xs all) stops
-
--- what follows a text, its opening quote apart, if it ends; `closed` says that a quote stands just before
-abbrev after_text : (closed : Bool) → List ℕ → Option (List ℕ)
-after_text false [] = None
-after_text true [] = Some []
-after_text false (b ∷ l) = after_text (nat_eq b 39) l
-after_text true (b ∷ l) = cond (nat_eq b 39) (after_text false l) (Some (b ∷ l))
-
-after_text-append : (v l : List ℕ) → after_text false (doubled v ++ l) ≡ after_text false l
-after_text-append [] l = refl
-after_text-append (b ∷ v) l = grind (arith, nat_tests, after_text-append v l)
-
-after_text-closed : (l : List ℕ) → nat_eq (get_or l 0 0) 39 ≡ false → after_text true l ≡ Some l
-after_text-closed [] stops = refl
-after_text-closed (b ∷ l) stops = grind (arith, nat_tests)
 
 abbrev after_comparison : List ℕ → List ℕ
 after_comparison [] = []
