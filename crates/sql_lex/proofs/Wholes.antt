@@ -1,9 +1,8 @@
 -- Bytes that have a kind's form and go no further.
-use Rattle.std.proofs.Common.{nat_eq, ◌≡◌, ℕ, ◌+◌, ◌-◌, ◌<◌, ◌≤◌, Bool, true, false, List, [], ◌∷◌, ◌++◌, length, get_or, take, drop, arith, sym, ◌∙◌, ap, subst, inl, inr, refl, length-append, length-drop, add-zero}
+use Rattle.std.proofs.Common.{◌≡◌, ℕ, ◌+◌, ◌-◌, ◌<◌, ◌≤◌, Bool, true, false, List, [], ◌∷◌, ◌++◌, length, get_or, take, drop, arith, sym, ◌∙◌, ap, subst, refl, length-append, length-drop, add-zero}
 use Rattle.std.specs.Prelude.{Some, None, Err}
 use Rattle.std.specs.List.{slice_range, AllPass}
 use Rattle.std.specs.Char.{is_ascii_digit}
-use Rattle.std.proofs.lemmas.Bool.{cases_lt, cases_eq, false≢true}
 use Rattle.std.proofs.lemmas.Bool.Decides.{nat_tests}
 use Rattle.std.proofs.lemmas.Grind.{common_steps}
 use Rattle.std.proofs.lemmas.List.{get_or_past, take_at, drop_more, get_or-drop}
@@ -11,7 +10,7 @@ use Rattle.std.proofs.lemmas.List.Edits.{length-between, get_or-between}
 use Rattle.std.proofs.lemmas.List.Elements.{All-from_get_or}
 use Rattle.sql_lex.specs.Bytes.{starts_word, is_word_byte}
 use Rattle.sql_lex.specs.Run.{IsRun}
-use Rattle.sql_lex.specs.Values.{quoted, doubled}
+use Rattle.sql_lex.specs.Values.{quoted}
 use Rattle.sql_lex.specs.Forms.{HasForm, goes_on}
 use Rattle.sql_lex.specs.Tokens.{IsWhole, StandsAt}
 use Rattle.sql_lex.specs.Tokens.StandsAt.{open_text}
