@@ -1,9 +1,9 @@
 -- A script is read in one way.
-use Rattle.std.proofs.Common.{◌≡◌, ℕ, ◌+◌, ◌<◌, Bool, true, false, cond, nat_eq, ◌&&◌, ◌||◌, List, [], ◌∷◌, ◌++◌, length, get_or, drop, arith, sym, ◌∙◌, ap, subst, refl, inl, inr, append_assoc, length-drop}
+use Rattle.std.proofs.Common.{◌≡◌, ℕ, ◌+◌, ◌<◌, Bool, true, false, cond, nat_eq, ◌&&◌, List, [], ◌∷◌, ◌++◌, length, get_or, drop, arith, sym, ◌∙◌, ap, subst, refl, inl, inr, append_assoc, length-drop}
 use Rattle.std.specs.Prelude.{Option, Some, None, Result, Ok, Err}
 use Rattle.std.specs.List.{slice_range, AllPass}
 use Rattle.std.specs.Char.{is_ascii_digit}
-use Rattle.std.proofs.lemmas.Bool.{cases_order, cases_eq, ne_eqb, false≢true, both_ways, or_left, or_right, or_from, and_left, cond-true, cond-false}
+use Rattle.std.proofs.lemmas.Bool.{cases_order, false≢true, both_ways, or_left, or_right, cond-true, cond-false}
 use Rattle.std.proofs.lemmas.Bool.Decides.{nat_tests}
 use Rattle.std.proofs.lemmas.List.{append-nil, get_or_past, drop_more, drop_all}
 use Rattle.std.proofs.lemmas.List.Edits.{length-between}
@@ -11,17 +11,17 @@ use Rattle.std.proofs.lemmas.List.Elements.{All-head, All-tail}
 use Rattle.std.proofs.lemmas.List.Folds.{drop_split}
 use Rattle.sql_lex.specs.Bytes.{is_white, is_comment_byte, starts_word, is_word_byte, is_sign, starts_comparison, is_second}
 use Rattle.sql_lex.specs.Run.{IsRun}
-use Rattle.sql_lex.specs.Gap.{comment_begins, gap_begins, IsGap}
+use Rattle.sql_lex.specs.Gap.{gap_begins, IsGap}
 use Rattle.sql_lex.specs.Gap.IsGap.{nothing, white, comment}
 use Rattle.sql_lex.specs.Values.{doubled}
-use Rattle.sql_lex.specs.Forms.{HasForm, KeepsTokenLimit, limit_fault, is_comparison, goes_on, begins_something}
+use Rattle.sql_lex.specs.Forms.{HasForm, KeepsTokenLimit, limit_fault, is_comparison, goes_on}
 use Rattle.sql_lex.specs.Tokens.{IsWhole, IsToken, StandsAt, ComesNext, IsReading, IsLexing}
 use Rattle.sql_lex.specs.Tokens.StandsAt.{token_here, end_here, strange_byte, open_text, past_limit}
 use Rattle.sql_lex.specs.declared.token.Token.{Token}
 use Rattle.sql_lex.specs.declared.token.TokenKind.{TokenKind}
 use Rattle.sql_lex.specs.declared.token.TokenKind.TheVariants.{Word, Number, Text, Sign, Comparison}
 use Rattle.sql_lex.specs.declared.fault.LexFault.{LexFault}
-use Rattle.sql_lex.proofs.Texts.{doubled_byte}
+use Rattle.sql_lex.proofs.Texts.{after_text, after_text-append, after_text-closed}
 use Rattle.sql_lex.proofs.Wholes.{first-between, first-drop}
 
 -- the kind of the token that a byte begins
@@ -54,21 +54,6 @@ after_run-append p [] [] all stops = refl
 after_run-append p [] (b ∷ l) all stops = cond-false (p b) _ _ stops
 after_run-append p (b ∷ xs) l all stops =
     cond-true (p b) _ _ (All-head (λ c. p c ≡ true) b xs all) ∙ after_run-append p xs l (All-tail (λ c. p c ≡ true) b xs all) stops
-
--- what follows a text, its opening quote apart, if it ends; `closed` says that a quote stands just before
-abbrev after_text : (closed : Bool) → List ℕ → Option (List ℕ)
-after_text false [] = None
-after_text true [] = Some []
-after_text false (b ∷ l) = after_text (nat_eq b 39) l
-after_text true (b ∷ l) = cond (nat_eq b 39) (after_text false l) (Some (b ∷ l))
-
-after_text-append : (v l : List ℕ) → after_text false (doubled v ++ l) ≡ after_text false l
-after_text-append [] l = refl
-after_text-append (b ∷ v) l = grind (arith, nat_tests, after_text-append v l)
-
-after_text-closed : (l : List ℕ) → nat_eq (get_or l 0 0) 39 ≡ false → after_text true l ≡ Some l
-after_text-closed [] stops = refl
-after_text-closed (b ∷ l) stops = grind (arith, nat_tests)
 
 abbrev after_comparison : List ℕ → List ℕ
 after_comparison [] = []
@@ -231,7 +216,7 @@ comes_once s from one other (p, gap_p, a) (q, gap_q, b) =
     stands_once s q one other (subst (λ (k : ℕ). StandsAt s k one) places a) b
 
 -- what ends a list of tokens: no token
-abbrev IsLast : Result (Option Token) LexFault → Type 0
+abbrev pub IsLast : Result (Option Token) LexFault → Type 0
 IsLast (Ok None) = Unit {0}
 IsLast (Ok (Some token)) = ⊥
 IsLast (Err fault) = Unit {0}

@@ -21,7 +21,7 @@ form_length kind [] form = let none : None ≡ Some kind = form_first kind [] fo
 form_length kind (b ∷ bs) form = omega arith
 
 -- past the front the rest stands
-drop_past : (s front rest : List ℕ) (from : ℕ) → drop from s ≡ front ++ rest → drop (from + length front) s ≡ rest
+pub drop_past : (s front rest : List ℕ) (from : ℕ) → drop from s ≡ front ++ rest → drop (from + length front) s ≡ rest
 drop_past s front rest from same = sym (drop-drop (length front) from s) ∙ ap (drop (length front)) same ∙ drop_at front rest (length front) refl
 
 IsGap-white : (s space rest : List ℕ) (from : ℕ) → drop from s ≡ space ++ rest → AllPass is_white space → IsGap s from (from + length space)

@@ -1,10 +1,11 @@
 -- Text literals, whose quotes are doubled.
-use Rattle.std.proofs.Common.{◌≡◌, ◌≢◌, ◌↔◌, ℕ, ◌+◌, ◌-◌, ◌<◌, Bool, true, false, cond, nat_eq, List, [], ◌∷◌, ◌++◌, length, get_or, take, drop, arith, sym, ◌∙◌, ap, subst, refl, inl, inr, append_assoc, length-append}
+use Rattle.std.proofs.Common.{◌≡◌, ◌≢◌, ◌↔◌, ℕ, ◌+◌, ◌<◌, Bool, true, false, cond, nat_eq, List, [], ◌∷◌, ◌++◌, length, get_or, take, drop, arith, sym, ◌∙◌, ap, subst, refl, inl, inr, append_assoc}
+use Rattle.std.specs.Prelude.{Option, Some, None}
 use Rattle.std.specs.Str.{IsUtf8}
 use Rattle.std.proofs.lemmas.Bool.{cases_eq, ne_eqb}
 use Rattle.std.proofs.lemmas.Bool.Decides.{nat_tests}
 use Rattle.std.proofs.lemmas.Grind.{common_steps}
-use Rattle.std.proofs.lemmas.List.{take_at, drop_at, get_or_at, drop_more}
+use Rattle.std.proofs.lemmas.List.{get_or_at, drop_more}
 use Rattle.std.proofs.lemmas.Str.Ascii.{IsAscii-cons, IsAscii-nil}
 use Rattle.std.proofs.lemmas.Str.{IsUtf8-nil, IsUtf8-from_ascii, IsUtf8-append, IsUtf8-take, IsUtf8-drop, IsCharBoundary-before_ascii, IsCharBoundary-after_ascii}
 use Rattle.sql_lex.specs.Forms.{HasForm, KeepsTokenLimit}
@@ -30,21 +31,50 @@ text_value_of-quoted v = ap (halved false) (between_quotes-quoted v) ∙ halved-
 pub quoted-value : (text value : List ℕ) → value ≡ text_value_of text → (v : List ℕ) × (text ≡ quoted v) → text ≡ quoted value
 quoted-value text value same (v, spelled) = spelled ∙ ap quoted (sym (same ∙ ap text_value_of spelled ∙ text_value_of-quoted v))
 
-pub quoted-ends : (v rest : List ℕ) → 39 ∷ (doubled v ++ 39 ∷ rest) ≡ quoted v ++ rest
-quoted-ends v rest = ap (λ l. 39 ∷ l) (sym (append_assoc (doubled v) (39 ∷ []) rest))
+-- what follows a text, its opening quote apart, if it ends; `closed` says that a quote stands just before
+abbrev pub after_text : (closed : Bool) → List ℕ → Option (List ℕ)
+after_text false [] = None
+after_text true [] = Some []
+after_text false (b ∷ l) = after_text (nat_eq b 39) l
+after_text true (b ∷ l) = cond (nat_eq b 39) (after_text false l) (Some (b ∷ l))
 
--- from a place on stand bytes of a text's inside, and then this rest
-abbrev pub HasInside : List ℕ → (at : ℕ) → (rest : List ℕ) → Type 0
-HasInside script at rest = (value : List ℕ) × (drop at script ≡ doubled value ++ rest)
+pub after_text-append : (v l : List ℕ) → after_text false (doubled v ++ l) ≡ after_text false l
+after_text-append [] l = refl
+after_text-append (b ∷ v) l = grind (arith, nat_tests, after_text-append v l)
 
-pub HasInside-byte : (s : List ℕ) (at : ℕ) (rest : List ℕ) → at < length s → get_or s at 0 ≢ 39
-    → HasInside s (at + 1) rest → HasInside s at rest
-HasInside-byte s at rest inside other (v, same) = (get_or s at 0 ∷ v, grind (arith, nat_tests, drop_more s at 0 inside))
+pub after_text-closed : (l : List ℕ) → nat_eq (get_or l 0 0) 39 ≡ false → after_text true l ≡ Some l
+after_text-closed [] stops = refl
+after_text-closed (b ∷ l) stops = grind (arith, nat_tests)
 
-pub HasInside-quotes : (s : List ℕ) (at : ℕ) (rest : List ℕ) → at < length s → get_or s at 0 ≡ 39 → at + 1 < length s → get_or s (at + 1) 0 ≡ 39
-    → HasInside s (at + 2) rest → HasInside s at rest
-HasInside-quotes s at rest inside first further second (v, same) =
-    (39 ∷ v, grind (arith, common_steps, nat_tests, drop_more s at 0 inside, drop_more s (at + 1) 0 further))
+-- bytes are a text's inside, and then its closing quote and this rest, if it ends
+abbrev pub SplitsAt : List ℕ → Option (List ℕ) → Type 0
+SplitsAt l None = (v : List ℕ) × (l ≡ doubled v)
+SplitsAt l (Some rest) = (v : List ℕ) × (l ≡ doubled v ++ 39 ∷ rest) × (nat_eq (get_or rest 0 0) 39 ≡ false)
+
+SplitsAt-byte : (b : ℕ) (l : List ℕ) (rest : Option (List ℕ)) → b ≢ 39 → SplitsAt l rest → SplitsAt (b ∷ l) rest
+SplitsAt-byte b l None other (v, same) = (b ∷ v, grind (arith, nat_tests))
+SplitsAt-byte b l (Some rest) other (v, same, stops) = (b ∷ v, grind (arith, nat_tests), stops)
+
+SplitsAt-quotes : (l : List ℕ) (rest : Option (List ℕ)) → SplitsAt l rest → SplitsAt (39 ∷ 39 ∷ l) rest
+SplitsAt-quotes l None (v, same) = (39 ∷ v, cc)
+SplitsAt-quotes l (Some rest) (v, same, stops) = (39 ∷ v, cc, stops)
+
+text_splits : (closed : Bool) (l : List ℕ) → SplitsAt (cond closed (39 ∷ l) l) (after_text closed l)
+text_splits false [] = ([], refl)
+text_splits true [] = ([], refl, refl)
+text_splits false (b ∷ l) =
+    elim (cases_eq b 39) [
+      | inl quote ↦ subst (λ (c : ℕ). SplitsAt (c ∷ l) (after_text (nat_eq c 39) l)) (sym quote) (text_splits true l)
+      | inr other ↦ subst (λ (t : Bool). SplitsAt (b ∷ l) (after_text t l)) (sym (ne_eqb b 39 other)) (SplitsAt-byte b l (after_text false l) other (text_splits false l))
+    ]
+text_splits true (b ∷ l) =
+    elim (cases_eq b 39) [
+      | inl quote ↦ subst (λ (c : ℕ). SplitsAt (39 ∷ c ∷ l) (after_text true (c ∷ l))) (sym quote) (SplitsAt-quotes l (after_text false l) (text_splits false l))
+      | inr other ↦ subst (λ (t : Bool). SplitsAt (39 ∷ b ∷ l) (cond t (after_text false l) (Some (b ∷ l)))) (sym (ne_eqb b 39 other)) ([], refl, ne_eqb b 39 other)
+    ]
+
+pub SplitsAt-after : (l : List ℕ) (rest : Option (List ℕ)) → after_text false l ≡ rest → SplitsAt l rest
+SplitsAt-after l rest same = subst (SplitsAt l) same (text_splits false l)
 
 -- UTF-8 may be cut at a quote, and joined there
 utf8_around_quote : (front rest : List ℕ) → IsUtf8 (front ++ 39 ∷ rest) → IsUtf8 front × IsUtf8 rest

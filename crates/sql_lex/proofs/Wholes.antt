@@ -1,8 +1,8 @@
 -- Bytes that have a kind's form and go no further.
-use Rattle.std.proofs.Common.{nat_eq, ◌≡◌, ℕ, ◌+◌, ◌-◌, ◌<◌, ◌≤◌, Bool, true, false, List, [], ◌∷◌, ◌++◌, length, get_or, take, drop, arith, sym, ◌∙◌, ap, subst, inl, inr, refl, length-append, length-drop, add-zero}
+use Rattle.std.proofs.Common.{◌≡◌, ℕ, ◌+◌, ◌-◌, ◌<◌, ◌≤◌, Bool, true, false, List, [], ◌∷◌, ◌++◌, length, get_or, take, drop, arith, sym, ◌∙◌, ap, subst, refl, length-append, length-drop, add-zero}
+use Rattle.std.specs.Prelude.{Some, None, Err}
 use Rattle.std.specs.List.{slice_range, AllPass}
 use Rattle.std.specs.Char.{is_ascii_digit}
-use Rattle.std.proofs.lemmas.Bool.{cases_lt, cases_eq, false≢true}
 use Rattle.std.proofs.lemmas.Bool.Decides.{nat_tests}
 use Rattle.std.proofs.lemmas.Grind.{common_steps}
 use Rattle.std.proofs.lemmas.List.{get_or_past, take_at, drop_more, get_or-drop}
@@ -10,12 +10,14 @@ use Rattle.std.proofs.lemmas.List.Edits.{length-between, get_or-between}
 use Rattle.std.proofs.lemmas.List.Elements.{All-from_get_or}
 use Rattle.sql_lex.specs.Bytes.{starts_word, is_word_byte}
 use Rattle.sql_lex.specs.Run.{IsRun}
-use Rattle.sql_lex.specs.Values.{quoted, doubled}
+use Rattle.sql_lex.specs.Values.{quoted}
 use Rattle.sql_lex.specs.Forms.{HasForm, goes_on}
-use Rattle.sql_lex.specs.Tokens.{IsWhole}
+use Rattle.sql_lex.specs.Tokens.{IsWhole, StandsAt}
+use Rattle.sql_lex.specs.Tokens.StandsAt.{open_text}
+use Rattle.sql_lex.specs.declared.fault.LexKind.TheVariants.{OpenText}
 use Rattle.sql_lex.specs.declared.token.TokenKind.{TokenKind}
 use Rattle.sql_lex.specs.declared.token.TokenKind.TheVariants.{Word, Number, Text}
-use Rattle.sql_lex.proofs.Texts.{HasInside, quoted-ends}
+use Rattle.sql_lex.proofs.Texts.{SplitsAt}
 
 -- the run goes on over a byte that passes
 pub IsRun-moves : (p : ℕ → Bool) (s : List ℕ) (start end : ℕ) → IsRun p s start end
@@ -87,9 +89,14 @@ pub IsWhole-byte : (s : List ℕ) (kind : TokenKind) (start : ℕ) → start < l
 IsWhole-byte s kind start inside form longest =
     IsWhole-front s kind (get_or s start 0 ∷ []) start (start + 1) (omega arith) (omega arith) (drop_more s start 0 inside) form longest
 
-pub IsWhole-text : (s : List ℕ) (start at : ℕ) → start < at → at < length s → get_or s start 0 ≡ 39 → get_or s at 0 ≡ 39
-    → nat_eq (get_or s (at + 1) 0) 39 ≡ false → HasInside s (start + 1) (drop at s) → IsWhole s Text start (at + 1)
-IsWhole-text s start at in_order inside first last stops (v, same) =
+-- a text that ends, and one that doesn't
+pub IsWhole-text : (s : List ℕ) (start end : ℕ) → start < end → end ≤ length s → get_or s start 0 ≡ 39
+    → SplitsAt (drop (start + 1) s) (Some (drop end s)) → IsWhole s Text start end
+IsWhole-text s start end in_order in_script quote (v, same, stops) =
     let begins : start < length s = omega arith in
-    let whole : drop start s ≡ quoted v ++ drop (at + 1) s = grind (arith, common_steps, drop_more s start 0 begins, drop_more s at 0 inside) in
-    IsWhole-front s Text (quoted v) start (at + 1) (omega arith) (omega arith) whole (v, refl) stops
+    let whole : drop start s ≡ quoted v ++ drop end s = grind (arith, common_steps, drop_more s start 0 begins) in
+    IsWhole-front s Text (quoted v) start end in_order in_script whole (v, refl) (rw (first-drop s end) at stops)
+
+pub open_text_stands : (s : List ℕ) (start : ℕ) → start < length s → get_or s start 0 ≡ 39 → SplitsAt (drop (start + 1) s) None
+    → StandsAt s start (Err (record { place = start; kind = OpenText }))
+open_text_stands s start inside quote (v, same) = open_text v (grind (arith, drop_more s start 0 inside))

@@ -54,7 +54,9 @@ fn next_token(text: &[u8], from: usize) -> Result<Option<Token>, LexFault>
 /// The law of lexing: no script is read in two ways. Where it has tokens, it has these alone and no fault. Where it
 /// has a first fault, that is the only one, and it has no tokens.
 pub fn one_lexing_is_due()
-    ensures { (script : List ℕ) (one other : Result (List Token) LexFault) →
+    ensures some { (script : List ℕ) →
+        (lexing : Result (List Token) LexFault) × IsLexing script lexing }
+    ensures one { (script : List ℕ) (one other : Result (List Token) LexFault) →
         IsLexing script one → IsLexing script other → one ≡ other }
 {}
 

@@ -1,12 +1,12 @@
-use Rattle.std.proofs.Common.{ℕ, List, length, ◌-◌, ◌+◌, ◌<◌, ◌≤◌}
-use Rattle.sql_lex.proofs.Texts.{HasInside}
+use Rattle.std.proofs.Common.{◌≡◌, false, length, drop, ◌-◌, ◌+◌, ◌<◌, ◌≤◌}
+use Rattle.sql_lex.proofs.Texts.{after_text}
 use Rattle.sql_lex.proofs.form.text_end.Given as goal
 
 abbrev pub invariant-loop-at : goal.invariant-loop-at
 invariant-loop-at l = record {
   in_order : l.start < l.at;
   in_text : l.at ≤ length l.text;
-  inside : (rest : List ℕ) → HasInside l.text l.at rest → HasInside l.text (l.start + 1) rest;
+  rest : after_text false (drop (l.start + 1) l.text) ≡ after_text false (drop l.at l.text);
 }
 
 abbrev pub decreases-loop-at : goal.decreases-loop-at
