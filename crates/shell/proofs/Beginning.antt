@@ -4,8 +4,7 @@ use Rattle.std.specs.Io.KnownBytes.{Appends}
 use Rattle.std.proofs.lemmas.List.{take_all}
 use Rattle.shell.specs.declared.status.Status.{Status}
 use Rattle.shell.specs.declared.status.Status.TheVariants as status
-use Rattle.shell.specs.Script.{Answer}
-use Rattle.shell.specs.Serve.{Carries, RefusesWords}
+use Rattle.shell.specs.Serve.{RefusesWords}
 
 -- a whole text is a beginning of itself
 pub whole_begins : (old new : Option (List ℕ)) (text : List ℕ) → Appends old new text → (n : ℕ) × Appends old new (take n text)
@@ -17,24 +16,9 @@ whole_begins old new text put =
 abbrev pub IsUnput : Status → Type 0
 IsUnput ended = (ended ≡ status.WriteFault) ⊎ (ended ≡ status.NoMemory)
 
-not_done : (ended : Status) → IsUnput ended → ended ≡ status.Done → ⊥
-not_done ended (inl fault) is = cc (fault, is)
-not_done ended (inr memory) is = cc (memory, is)
-
-not_refused : (ended : Status) → IsUnput ended → ended ≡ status.Refused → ⊥
-not_refused ended (inl fault) is = cc (fault, is)
-not_refused ended (inr memory) is = cc (memory, is)
-
 not_bad_words : (ended : Status) → IsUnput ended → ended ≡ status.BadWords → ⊥
 not_bad_words ended (inl fault) is = cc (fault, is)
 not_bad_words ended (inr memory) is = cc (memory, is)
-
-pub carries_part : (answer : Answer) (ended : Status) (old new : Option (List ℕ)) → IsUnput ended → ((n : ℕ) × Appends old new (take n answer.text)) → Carries answer ended old new
-carries_part answer ended old new unput part = record {
-  done = λ is. absurd (not_done ended unput is);
-  refused = λ is. absurd (not_refused ended unput is);
-  beginning = part;
-}
 
 pub words_part : (line : List ℕ) (ended : Status) (old new : Option (List ℕ)) → IsUnput ended → ((n : ℕ) × Appends old new (take n line)) → RefusesWords line ended old new
 words_part line ended old new unput part = record {

@@ -26,16 +26,6 @@ pub any_given : (files : Option Files) (old new : ℕ) (name : List ℕ) → (fi
 any_given None old new name = (Some [], inl (omega arith))
 any_given (Some held) old new name = (file_of held name, refl)
 
--- the bytes that a read returned
-pub bytes_given : (files : Option Files) (old new : ℕ) (name bytes : List ℕ) → IfSome files (λ held. file_of held name ≡ Some bytes) → length bytes ≤ max_file_bytes → GivenBy files old new name (Some bytes)
-bytes_given None old new name bytes known within = inl within
-bytes_given (Some held) old new name bytes known within = sym known
-
--- a file that isn't there
-pub absent_given : (files : Option Files) (old new : ℕ) (name : List ℕ) → IfSome files (λ held. file_of held name ≡ None) → Rose old new → GivenBy files old new name None
-absent_given None old new name known missed = inr missed
-absent_given (Some held) old new name known missed = sym known
-
 -- a file of that length
 long_text : (len : ℕ) → (bytes : List ℕ) × (length bytes ≡ len)
 long_text zero = ([], refl)

@@ -69,11 +69,6 @@ read_last most bytes more (Some w) (Some l) later short longer s took end =
     let parts = taken_whole most more on.0 w (omega arith) on.2 (nothing_left most bytes more took.0 l short longer took.2 end) in
     (parts.0, on.1 ∙ ap Some parts.1)
 
--- what is read whole took no more than that
-pub takes_whole : (most : ℕ) (bytes : List ℕ) (whole now : Option (List ℕ)) → IfSome whole (λ left. (bytes ≡ take most left) × (now ≡ Some (drop most left))) → IfSome whole (TakesAtMost most now)
-takes_whole most bytes None now read = tt
-takes_whole most bytes (Some w) now read = (most, omega arith, read.1)
-
 -- nor did a last take
 pub takes_on : (most room : ℕ) (bytes : List ℕ) (whole now later : Option (List ℕ)) → room + length bytes ≤ most → IsSplit bytes whole now → IfSome now (TakesAtMost room later) → IfSome whole (TakesAtMost most later)
 takes_on most room bytes None now later fits s took = tt

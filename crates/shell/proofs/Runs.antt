@@ -115,10 +115,6 @@ pub known_unread : (source : Option (List ℕ)) (before after : FolderState) (by
 known_unread None before after bytes read unread = tt
 known_unread (Some left) before after bytes read unread = λ none. unread (subst (λ (l : List ℕ). IsScript l None) (sym read) (no_script left none))
 
-pub known_same : (source : Option (List ℕ)) (before after : FolderState) → after ≡ before → IfSome source (λ script. IsScript script None → after ≡ before)
-known_same None before after same = tt
-known_same (Some left) before after same = λ none. same
-
 -- a well-formed script was the whole
 emptied : (left bytes : List ℕ) → bytes ≡ take enough left → length bytes ≤ max_script_bytes → drop enough left ≡ []
 emptied left bytes read short =
@@ -138,10 +134,6 @@ known_bounded (Some left) now bytes read = (enough, omega arith, read.1)
 pub known_read : (source now : Option (List ℕ)) (bytes : List ℕ) → IfSome source (λ left. (bytes ≡ take enough left) × (now ≡ Some (drop enough left))) → IfSome source (λ left. bytes ≡ take enough left)
 known_read None now bytes read = tt
 known_read (Some left) now bytes read = read.0
-
-pub takes_nothing : (source now : Option (List ℕ)) → now ≡ source → IfSome source (TakesAtMost enough now)
-takes_nothing None now same = tt
-takes_nothing (Some left) now same = (0, omega arith, same)
 
 decided_by : (script : List ℕ) (before after : FolderState) (ended : Status) (had got : Option (List ℕ)) → (ended ≡ status.BadWords → ⊥) → (ended ≡ status.ReadFault → ⊥) → (ended ≡ status.WriteFault → ⊥)
     → Serves script before after ended had got → IsDecided script before after ended

@@ -34,7 +34,8 @@ pub record LoadsFile (file_name name : List ℕ) (before after : FolderState) (s
   pub given : IsGiven before after file_name file
   pub returns : ReturnsFree (at_table state name (λ table. load_file table file_name file)) result next
 
--- what is returned is what is due: a text, whose work was paid, and the state after it; or a refusal, for which nothing was paid
+-- what is returned is what is due: a text, whose work was paid, and the state after it; or a refusal, for which
+-- nothing was paid
 abbrev pub ReturnsDue : Outcome → Result (Vec ℕ Global) Stop → SessionState → Account → Account → Type 0
 ReturnsDue due (Ok text) state old new = (work : ℕ) × (due ≡ Prints text.items work state) × (new.spent ≡ old.spent + work)
 ReturnsDue due (Err (stop.Refused why)) state old new = (due ≡ Refuses why) × (new.spent ≡ old.spent)

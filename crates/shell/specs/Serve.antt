@@ -25,7 +25,8 @@ abbrev pub IsScript : List ℕ → Option (List Statement) → Type 0
 IsScript script None = (statements : List Statement) → ¬ IsFirstForm script statements
 IsScript script (Some statements) = IsFirstForm script statements
 
--- the file that a folder gives under a name: what it holds there; where its contents are unknown, a file that a read can give, or a miss was counted
+-- the file that a folder gives under a name: what it holds there; where its contents are unknown, a file
+-- that a read can give, or a miss was counted
 abbrev pub IsGiven : FolderState → FolderState → List ℕ → Option (List ℕ) → Type 0
 IsGiven old new name file =
     MatchOption old.files (IsSomeAnd file (λ bytes. length bytes ≤ max_file_bytes) ⊎ Rose old.misses new.misses) (λ files. file ≡ file_of files name)
@@ -43,8 +44,8 @@ pub record IsAnswer (script : List ℕ) (old new : FolderState) (answer : Answer
   pub given : IfSome steps (All (λ step. IsGivenFor old new step.statement step.file))
   pub is : answer ≡ answer_of steps
 
--- a sink that held `old` got the whole text where the run ended as the text does, and at least a beginning of it in any case
--- (after a fault the whole text may have gone out too)
+-- a sink that held `old` got the whole text where the run ended as the text does, and a beginning of it in any
+-- case (after a fault that may be the whole text too)
 pub record Carries (answer : Answer) (ended : Status) (old new : Option (List ℕ)) : Type 0 where
   pub done : ended ≡ status.Done → (answer.refused ≡ false) × Appends old new answer.text
   pub refused : ended ≡ status.Refused → (answer.refused ≡ true) × Appends old new answer.text
@@ -62,7 +63,8 @@ pub record IsDecided (script : List ℕ) (old new : FolderState) (ended : Status
   pub due : IsAnswer script old new answer
   pub ends : (ended ≡ (if answer.refused then status.Refused else status.Done)) ⊎ (ended ≡ status.NoMemory)
 
--- a run whose arguments were refused: the sink got the whole usage line where the run ended so, and at least a beginning of it in any case
+-- a run whose arguments were refused: the sink got the whole usage line where the run ended so, and a beginning
+-- of it in any case (after a fault that may be the whole line too)
 pub record RefusesWords (line : List ℕ) (ended : Status) (old new : Option (List ℕ)) : Type 0 where
   pub kinds : (ended ≡ status.BadWords) ⊎ ((ended ≡ status.WriteFault) ⊎ (ended ≡ status.NoMemory))
   pub whole : ended ≡ status.BadWords → Appends old new line
