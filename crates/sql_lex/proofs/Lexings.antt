@@ -3,7 +3,7 @@ use Rattle.std.proofs.Common.{◌≡◌, ℕ, ◌+◌, ◌<◌, Bool, true, fals
 use Rattle.std.specs.Prelude.{Option, Some, None, Result, Ok, Err}
 use Rattle.std.specs.List.{slice_range, AllPass, All, prefix_len}
 use Rattle.std.specs.Char.{is_ascii_digit}
-use Rattle.std.proofs.lemmas.Bool.{cases_order, false≢true, both_ways, or_left, or_right, cases_lt, cases_Bool}
+use Rattle.std.proofs.lemmas.Bool.{false≢true, both_ways, or_left, or_right, cases_lt, cases_Bool}
 use Rattle.std.proofs.lemmas.Bool.Decides.{nat_tests}
 use Rattle.std.proofs.lemmas.List.{append-nil, get_or_past, drop_more, drop_all, get_or-drop}
 use Rattle.std.proofs.lemmas.List.Edits.{length-between}
@@ -116,10 +116,7 @@ whole_once : (s : List ℕ) (k l : TokenKind) (place d e : ℕ) → IsWhole s k 
 whole_once s k l place d e one other =
     let same = sym (whole_begun s k place d one) ∙ whole_begun s l place e other in
     let rests : drop d s ≡ drop e s = cc same in
-    let lengths : length (drop d s) ≡ length (drop e s) = ap length rests in
-    let in_d = one.in_script in
-    let in_e = other.in_script in
-    (cc same, omega (arith, lengths, length-drop d s, length-drop e s))
+    (cc same, omega (arith, ap length rests, length-drop d s, length-drop e s, one.in_script, other.in_script))
 
 -- a form doesn't both keep and break its kind's limit
 keeps_or_breaks : (s : List ℕ) (k l : TokenKind) (place d e : ℕ) → IsToken s (record { kind = k; start = place; end = d }) → IsWhole s l place e
@@ -184,18 +181,10 @@ stands_no_gap s place next (open_text v same) =
     grind (arith, nat_tests)
 stands_no_gap s place next (past_limit kind end _ one _ _) = whole_no_gap s kind place end (whole_first s kind place end one) one
 
-run_no_less : (p : ℕ → Bool) (s : List ℕ) (start d e : ℕ) → IsRun p s start d → IsRun p s start e → d < e → ⊥
-run_no_less p s start d e one other less =
-    let inside = other.in_script in
-    false≢true (sym (one.stops (omega arith)) ∙ other.inside d one.in_order less)
-
+-- a run has one end
 run_once : (p : ℕ → Bool) (s : List ℕ) (start d e : ℕ) → IsRun p s start d → IsRun p s start e → d ≡ e
 run_once p s start d e one other =
-    elim (cases_order d e) [
-      | inl same ↦ same
-      | inr (inl less) ↦ absurd (run_no_less p s start d e one other less)
-      | inr (inr more) ↦ absurd (run_no_less p s start e d other one more)
-    ]
+    grind (arith, nat_tests, one.inside e, other.inside d, one.stops, other.stops, one.in_order, other.in_order, one.in_script, other.in_script)
 
 white_no_comment : (b c : ℕ) → is_white b ≡ true → (nat_eq b 45 && nat_eq c 45) ≡ true → ⊥
 white_no_comment b c space minus = grind (arith, nat_tests)
@@ -245,9 +234,8 @@ IsGap-in_order : (script : List ℕ) (from end : ℕ) → IsGap script from end 
 IsGap-in_order script from end (nothing _) = omega arith
 IsGap-in_order script from end (white _ _ _ rest) = let later = IsGap-in_order script (from + 1) end rest in omega arith
 IsGap-in_order script from end (comment _ stop _ line rest) =
-    let first = line.line.in_order in
     let later = IsGap-in_order script stop end rest in
-    omega arith
+    omega (arith, line.line.in_order)
 
 -- what comes next is a token, and lies further on
 pub ComesNext-token : (script : List ℕ) (from : ℕ) (next : Token) → ComesNext script from (Ok (Some next))
