@@ -1,6 +1,4 @@
 pub mod Texts
 pub mod Wholes
-pub mod Readings
-pub mod Exists
-pub mod Once
+pub mod Lexings
 pub mod Spelled

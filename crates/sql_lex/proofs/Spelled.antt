@@ -2,7 +2,6 @@
 use Rattle.std.proofs.Common.{◌≡◌, ℕ, ◌+◌, ◌-◌, ◌<◌, ◌≤◌, suc, true, List, [], ◌∷◌, ◌++◌, length, get_or, drop, arith, sym, ◌∙◌, ap, subst, refl, length-append, length-drop, add-zero}
 use Rattle.std.specs.Prelude.{Ok, None, Some}
 use Rattle.std.specs.List.{AllPass}
-use Rattle.std.proofs.lemmas.List.{drop_at, drop-drop}
 use Rattle.std.proofs.lemmas.List.Elements.{All-head, All-tail}
 use Rattle.sql_lex.specs.Bytes.{is_white}
 use Rattle.sql_lex.specs.Gap.{IsGap}
@@ -12,17 +11,13 @@ use Rattle.sql_lex.specs.Tokens.{IsToken, IsReading, Tokens}
 use Rattle.sql_lex.specs.Written.{Written, written_text, written_tokens, MayBeWritten}
 use Rattle.sql_lex.specs.declared.token.TokenKind.{TokenKind}
 use Rattle.sql_lex.specs.Tokens.StandsAt.{token_here, end_here}
-use Rattle.sql_lex.proofs.Wholes.{between_is_front, first-drop, IsWhole-front}
-use Rattle.sql_lex.proofs.Once.{form_first}
+use Rattle.sql_lex.proofs.Wholes.{between_is_front, drop_past, first-drop, IsWhole-front}
+use Rattle.sql_lex.proofs.Lexings.{form_first}
 
 -- a form has a byte
 form_length : (kind : TokenKind) (bytes : List ℕ) → HasForm kind bytes → 0 < length bytes
 form_length kind [] form = let none : None ≡ Some kind = form_first kind [] form in absurd (cc none)
 form_length kind (b ∷ bs) form = omega arith
-
--- past the front the rest stands
-pub drop_past : (s front rest : List ℕ) (from : ℕ) → drop from s ≡ front ++ rest → drop (from + length front) s ≡ rest
-drop_past s front rest from same = sym (drop-drop (length front) from s) ∙ ap (drop (length front)) same ∙ drop_at front rest (length front) refl
 
 IsGap-white : (s space rest : List ℕ) (from : ℕ) → drop from s ≡ space ++ rest → AllPass is_white space → IsGap s from (from + length space)
 IsGap-white s [] rest from same all = subst (λ (end : ℕ). IsGap s from end) (sym (add-zero from)) (nothing from)

@@ -5,7 +5,7 @@ use Rattle.std.specs.Str.{IsUtf8}
 use Rattle.std.proofs.lemmas.Bool.{cases_eq, ne_eqb}
 use Rattle.std.proofs.lemmas.Bool.Decides.{nat_tests}
 use Rattle.std.proofs.lemmas.Grind.{common_steps}
-use Rattle.std.proofs.lemmas.List.{get_or_at, drop_more}
+use Rattle.std.proofs.lemmas.List.{get_or_at}
 use Rattle.std.proofs.lemmas.Str.Ascii.{IsAscii-cons, IsAscii-nil}
 use Rattle.std.proofs.lemmas.Str.{IsUtf8-nil, IsUtf8-from_ascii, IsUtf8-append, IsUtf8-take, IsUtf8-drop, IsCharBoundary-before_ascii, IsCharBoundary-after_ascii}
 use Rattle.sql_lex.specs.Forms.{HasForm, KeepsTokenLimit}
@@ -115,16 +115,3 @@ text_limit kind text is_text form =
     let literal = subst (λ (k : TokenKind). HasForm k text) is_text form in
     let v = literal.0 in
     rw (is_text, literal.1, text_value_of-quoted v, between_quotes-quoted v) (doubled_utf8 v [])
-
--- a step over the second of two quotes, a step over another byte, and the end
-pub halved-skips : (bytes front all : List ℕ) (i : ℕ) (skip : Bool) → i < length bytes → skip ≡ true
-    → front ++ halved skip (drop i bytes) ≡ all → front ++ halved false (drop (i + 1) bytes) ≡ all
-halved-skips bytes front all i skip inside second same =
-    ap (λ l. front ++ halved true l) (sym (drop_more bytes i 0 inside)) ∙ ap (λ b. front ++ halved b (drop i bytes)) (sym second) ∙ same
-
-pub halved-keeps : (bytes front all : List ℕ) (i : ℕ) (skip : Bool) → i < length bytes → skip ≡ false
-    → front ++ halved skip (drop i bytes) ≡ all
-    → (front ++ get_or bytes i 0 ∷ []) ++ halved (nat_eq (get_or bytes i 0) 39) (drop (i + 1) bytes) ≡ all
-halved-keeps bytes front all i skip inside first same =
-    append_assoc front (get_or bytes i 0 ∷ []) (halved (nat_eq (get_or bytes i 0) 39) (drop (i + 1) bytes))
-    ∙ ap (λ l. front ++ halved false l) (sym (drop_more bytes i 0 inside)) ∙ ap (λ b. front ++ halved b (drop i bytes)) (sym first) ∙ same

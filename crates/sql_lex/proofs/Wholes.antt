@@ -5,9 +5,10 @@ use Rattle.std.specs.List.{slice_range, AllPass}
 use Rattle.std.specs.Char.{is_ascii_digit}
 use Rattle.std.proofs.lemmas.Bool.Decides.{nat_tests}
 use Rattle.std.proofs.lemmas.Grind.{common_steps}
-use Rattle.std.proofs.lemmas.List.{get_or_past, take_at, drop_more, get_or-drop}
+use Rattle.std.proofs.lemmas.List.{get_or_past, take_at, drop_more, drop_at, drop-drop, get_or-drop}
 use Rattle.std.proofs.lemmas.List.Edits.{length-between, get_or-between}
 use Rattle.std.proofs.lemmas.List.Elements.{All-from_get_or}
+use Rattle.std.proofs.lemmas.List.Folds.{drop_split}
 use Rattle.sql_lex.specs.Bytes.{starts_word, is_word_byte}
 use Rattle.sql_lex.specs.Run.{IsRun}
 use Rattle.sql_lex.specs.Values.{quoted}
@@ -40,31 +41,9 @@ first-between s start end some = get_or-between s start end 0 0 (omega arith) �
 pub first-drop : (s : List ℕ) (from : ℕ) → get_or (drop from s) 0 0 ≡ get_or s from 0
 first-drop s from = get_or-drop from s 0 0 ∙ ap (λ k. get_or s k 0) (add-zero from)
 
-letter_in_word : (b : ℕ) → starts_word b ≡ true → is_word_byte b ≡ true
-letter_in_word b h = grind (arith, nat_tests)
-
-pub IsWhole-word : (s : List ℕ) (start end : ℕ) → IsRun is_word_byte s start end
-    → start < length s → starts_word (get_or s start 0) ≡ true → IsWhole s Word start end
-IsWhole-word s start end run inside letter =
-    let moves = IsRun-moves is_word_byte s start end run inside (letter_in_word (get_or s start 0) letter) in
-    record {
-      in_order = moves;
-      in_script = run.in_script;
-      form = (ap starts_word (first-between s start end moves) ∙ letter, IsRun-passes is_word_byte s start end run);
-      longest = IsRun-stops is_word_byte refl s start end run;
-    }
-
-pub IsWhole-number : (s : List ℕ) (start end : ℕ) → IsRun is_ascii_digit s start end
-    → start < length s → is_ascii_digit (get_or s start 0) ≡ true → IsWhole s Number start end
-IsWhole-number s start end run inside digit =
-    let moves = IsRun-moves is_ascii_digit s start end run inside digit in
-    let len = length-between s start end run.in_script in
-    record {
-      in_order = moves;
-      in_script = run.in_script;
-      form = (omega (arith, len), IsRun-passes is_ascii_digit s start end run);
-      longest = IsRun-stops is_ascii_digit refl s start end run;
-    }
+-- past the front the rest stands
+pub drop_past : (s front rest : List ℕ) (from : ℕ) → drop from s ≡ front ++ rest → drop (from + length front) s ≡ rest
+drop_past s front rest from same = sym (drop-drop (length front) from s) ∙ ap (drop (length front)) same ∙ drop_at front rest (length front) refl
 
 -- where these bytes lie and the rest follows, they are the slice
 pub between_is_front : (s bytes : List ℕ) (start end : ℕ) → start < end → end ≤ length s → drop start s ≡ bytes ++ drop end s
@@ -83,6 +62,20 @@ IsWhole-front s kind bytes start end in_order in_script same form longest =
       form = subst (HasForm kind) (sym part) form;
       longest = ap (λ l. goes_on kind l (get_or s end 0)) part ∙ longest;
     }
+
+pub IsWhole-word : (s : List ℕ) (start end : ℕ) → IsRun is_word_byte s start end
+    → start < length s → starts_word (get_or s start 0) ≡ true → IsWhole s Word start end
+IsWhole-word s start end run inside letter =
+    let moves = IsRun-moves is_word_byte s start end run inside (grind (arith, nat_tests)) in
+    let form : HasForm Word (slice_range s start end) = (ap starts_word (first-between s start end moves) ∙ letter, IsRun-passes is_word_byte s start end run) in
+    IsWhole-front s Word (slice_range s start end) start end moves run.in_script (drop_split s start end run.in_order) form (IsRun-stops is_word_byte refl s start end run)
+
+pub IsWhole-number : (s : List ℕ) (start end : ℕ) → IsRun is_ascii_digit s start end
+    → start < length s → is_ascii_digit (get_or s start 0) ≡ true → IsWhole s Number start end
+IsWhole-number s start end run inside digit =
+    let moves = IsRun-moves is_ascii_digit s start end run inside digit in
+    let form : HasForm Number (slice_range s start end) = (omega (arith, length-between s start end run.in_script), IsRun-passes is_ascii_digit s start end run) in
+    IsWhole-front s Number (slice_range s start end) start end moves run.in_script (drop_split s start end run.in_order) form (IsRun-stops is_ascii_digit refl s start end run)
 
 pub IsWhole-byte : (s : List ℕ) (kind : TokenKind) (start : ℕ) → start < length s → HasForm kind (get_or s start 0 ∷ [])
     → goes_on kind (get_or s start 0 ∷ []) (get_or s (start + 1) 0) ≡ false → IsWhole s kind start (start + 1)

@@ -5,7 +5,8 @@ use Rattle.sql_lex.specs.Run.{IsRun}
 
 -- two minus signs
 abbrev pub comment_begins : List ℕ → ℕ → Bool
-comment_begins script place = (slice_index script place == 45) && (slice_index script (place + 1) == 45)
+comment_begins script place =
+    (slice_index script place == 45) && (slice_index script (place + 1) == 45)
 
 -- white space or a comment begins here
 abbrev pub gap_begins : List ℕ → ℕ → Bool

@@ -17,15 +17,17 @@ pub record IsWhole (script : List ℕ) (kind : TokenKind) (start end : ℕ) : Ty
   pub form : HasForm kind (slice_range script start end)
   pub longest : IsFalse (goes_on kind (slice_range script start end) (slice_index script end))
 
--- a token of the script
+-- a token of the script: it is whole, and keeps the limit of its kind
 pub record IsToken (script : List ℕ) (token : Token) : Type 0 where
   pub whole : IsWhole script token.kind token.start token.end
   pub limit : KeepsTokenLimit token.kind (slice_range script token.start token.end)
 
--- what stands at a place: a token, or nothing more at the script's end, or a fault: a byte with which
--- nothing begins, a text with no closing quote, or bytes of a kind's form that break its limit
-pub data StandsAt (script : List ℕ) (place : ℕ) : Result (Option Token) LexFault → Type 0 where
-  token_here : (kind : TokenKind) (end : ℕ) → IsToken script (record { kind = kind; start = place; end = end })
+-- what stands at a place: a token, or nothing more at the script's end, or a fault; that is
+-- a byte with which nothing begins, a text with no closing quote, or a form that breaks its limit
+pub data StandsAt (script : List ℕ) (place : ℕ)
+    : Result (Option Token) LexFault → Type 0 where
+  token_here : (kind : TokenKind) (end : ℕ)
+      → IsToken script (record { kind = kind; start = place; end = end })
       → StandsAt script place (Ok (Some (record { kind = kind; start = place; end = end })))
   end_here : place ≡ length script → StandsAt script place (Ok None)
   strange_byte : place < length script → IsFalse (begins_something (slice_index script place))
@@ -33,7 +35,8 @@ pub data StandsAt (script : List ℕ) (place : ℕ) : Result (Option Token) LexF
   open_text : (value : List ℕ) → drop place script ≡ 39 ∷ doubled value
       → StandsAt script place (Err (record { place = place; kind = OpenText }))
   past_limit : (kind : TokenKind) (end : ℕ) (fault : LexKind) → IsWhole script kind place end
-      → ¬ (KeepsTokenLimit kind (slice_range script place end)) → limit_fault kind ≡ Some fault
+      → ¬ (KeepsTokenLimit kind (slice_range script place end))
+      → limit_fault kind ≡ Some fault
       → StandsAt script place (Err (record { place = place; kind = fault }))
 
 -- what comes next: it stands after white space and comments
@@ -41,7 +44,8 @@ abbrev pub ComesNext : List ℕ → (from : ℕ) → Result (Option Token) LexFa
 ComesNext script from next = (place : ℕ) × IsGap script from place × StandsAt script place next
 
 -- from a place on a script is read so: these tokens, and then what comes after them
-abbrev pub IsReading : List ℕ → (from : ℕ) → List Token → Result (Option Token) LexFault → Type 0
+abbrev pub IsReading : List ℕ → (from : ℕ) → List Token → Result (Option Token) LexFault
+    → Type 0
 IsReading script from [] last = ComesNext script from last
 IsReading script from (token ∷ tokens) last =
     ComesNext script from (Ok (Some token)) × IsReading script token.end tokens last
@@ -53,7 +57,8 @@ Tokens script tokens = IsReading script 0 tokens (Ok None)
 -- the first fault stands here, after tokens alone
 abbrev pub IsFirstFault : List ℕ → ℕ → LexKind → Type 0
 IsFirstFault script place kind =
-    (tokens : List Token) × IsReading script 0 tokens (Err (record { place = place; kind = kind }))
+    (tokens : List Token)
+    × IsReading script 0 tokens (Err (record { place = place; kind = kind }))
 
 -- what a script is read as: its tokens, or its first fault
 abbrev pub IsLexing : List ℕ → Result (List Token) LexFault → Type 0

@@ -26,10 +26,13 @@ written_tokens from (token ∷ tokens) =
     let end = start + length token.bytes in
     record { kind = token.kind; start = start; end = end } ∷ written_tokens end tokens
 
--- each token may be written so: it has its kind's form, keeps its limit, and doesn't go on with the byte written after it
+-- each token may be written so: it has its kind's form, keeps its limit, and doesn't go on with
+-- the byte that is written after it
 abbrev pub MayBeWritten : List Written → Type 0
 MayBeWritten [] = Unit {0}
 MayBeWritten (token ∷ tokens) =
-    AllPass is_white token.space × HasForm token.kind token.bytes × KeepsTokenLimit token.kind token.bytes
+    AllPass is_white token.space
+    × HasForm token.kind token.bytes
+    × KeepsTokenLimit token.kind token.bytes
     × IsFalse (goes_on token.kind token.bytes (slice_index (written_text tokens) 0))
     × MayBeWritten tokens

@@ -1,3 +1,4 @@
+// Tests of bytes, and how far the bytes that pass one of them go. It relies on nothing, and never knows what a token is.
 ghost use Rattle.std.specs.Prelude.{◌≡◌, ◌≤◌, length};
 ghost use Rattle.sql_lex.specs.Bytes.{is_white, is_sign, starts_comparison, is_second};
 ghost use Rattle.sql_lex.specs.Run.{belongs, IsRun};
@@ -35,7 +36,7 @@ pub(crate) fn is_second(first: u8, second: u8) -> bool
     }
 }
 
-// What goes on for as long as its bytes do.
+// What ends where the next byte doesn't belong to it.
 #[derive(Clone, Copy)]
 pub(crate) enum Run {
     Comment,
@@ -54,7 +55,7 @@ impl Run {
         }
     }
 
-    // The place of the first byte from `start` on that does not belong, or the script's end.
+    // The place of the first byte from `start` on that doesn't belong, or the script's end.
     pub(crate) fn end(self, text: &[u8], start: usize) -> usize
         requires { start ≤ length text.now }
         ensures { IsRun (belongs self) text.now start result }

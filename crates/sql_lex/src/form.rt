@@ -1,4 +1,6 @@
-ghost use Rattle.std.specs.Prelude.{◌≡◌, ◌+◌, ◌<◌, ◌==◌, length, drop, slice_index, Some, Ok, Err, IsTrue, IfOk, IfErr, IfSome, IfNone, MatchResult};
+// The one token that begins at a place, or what is wrong there. It relies on the caller that no white space and no
+// comment begins there, and never looks further than the token and the byte after it.
+ghost use Rattle.std.specs.Prelude.{◌≡◌, ◌<◌, length, slice_index, Some, Ok, Err, IsTrue, IfOk, IfErr, IfSome, IfNone};
 ghost use Rattle.std.specs.Bool.{IsFalse};
 ghost use Rattle.sql_lex.specs.Bytes.{starts_comparison};
 ghost use Rattle.sql_lex.specs.Gap.{gap_begins};

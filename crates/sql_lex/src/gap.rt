@@ -1,3 +1,4 @@
+// White space and comments between tokens. It relies on the tests of bytes, and never looks into a token.
 ghost use Rattle.std.specs.Prelude.{◌≡◌, ◌<◌, ◌≤◌, length, slice_index};
 ghost use Rattle.std.specs.Bool.{IsFalse};
 ghost use Rattle.sql_lex.specs.Gap.{IsGap, comment_begins, gap_begins};
@@ -18,7 +19,7 @@ fn comment_begins(text: &[u8], place: usize) -> bool
     byte_at(text, place) == MINUS && byte_at(text, place + 1) == MINUS
 }
 
-// Where the white space and the comments end that stand from `from` on.
+// The place after the white space and the comments that stand from `from` on.
 pub(crate) fn gap_end(text: &[u8], from: usize) -> usize
     requires { from ≤ length text.now }
     ensures in_text { result ≤ length text.now }

@@ -1,4 +1,6 @@
+// The limits of tokens. It relies on the form of the bytes that it gets, and never looks outside them.
 ghost use Rattle.std.specs.Prelude.{◌≡◌, Some, IfSome, IfNone};
+ghost use Rattle.sql_lex.specs.Limits.{max_word_bytes, max_number};
 ghost use Rattle.sql_lex.specs.Forms.{HasForm, KeepsTokenLimit, limit_fault};
 
 use crate::fault::LexKind;
@@ -10,6 +12,12 @@ pub const MAX_WORD_BYTES: usize = 128;
 
 /// The greatest value that a number has: the greatest INTEGER, 2^63 - 1.
 pub const MAX_NUMBER: u64 = 9_223_372_036_854_775_807;
+
+/// The law of the limits: each constant is the figure of the definitions.
+pub fn limits_are_as_stated()
+    ensures word_bytes { MAX_WORD_BYTES ≡ max_word_bytes }
+    ensures number { MAX_NUMBER ≡ max_number }
+{}
 
 // What is wrong with bytes of a kind's form, where they break its limit.
 pub(crate) fn broken_limit(kind: TokenKind, bytes: &[u8]) -> Option<LexKind>

@@ -1,3 +1,5 @@
+// All tokens of a script, and the two laws of tokens. It relies on `gap` and `form` for one token, and never goes back
+// past the end of a token.
 ghost use Rattle.std.specs.Prelude.{◌≡◌, ℕ, ◌≤◌, ◌⊎◌, List, None, Result, length, IfOk, IfErr};
 ghost use Rattle.std.specs.List.{All};
 ghost use Rattle.sql_lex.specs.Tokens.{IsToken, ComesNext, Tokens, IsFirstFault, IsLexing};
@@ -12,12 +14,13 @@ use crate::gap::gap_end;
 use crate::token::Token;
 use std::alloc::Global;
 
-/// All tokens of a script, in order, in one pass.
+/// All tokens of a script, in order.
 ///
 /// White space is space, tab, line feed and carriage return. A comment begins with `--` and ends before the next line
-/// feed or at the script's end, and may hold any bytes (SQL-92, 5.2). The longest token is taken. A refusal names the
-/// first fault. By `one_lexing_is_due` a script with tokens is refused only out of memory, and one with a fault is
-/// refused with no other place or kind.
+/// feed or at the script's end, and may hold any bytes (SQL-92, 5.2). The longest token is taken.
+///
+/// A refusal names the first fault; `NoMemory` alone may come at any time. By `one_lexing_is_due` no other tokens, and
+/// no other place or kind, fit the script.
 pub fn lex(alloc: Global, text: &[u8]) -> Result<Vec<Token>, LexFault>
     ensures found { IfOk result (λ answer. Tokens text.now answer.items) }
     ensures each { IfOk result (λ answer. All (IsToken text.now) answer.items) }
@@ -51,8 +54,8 @@ fn next_token(text: &[u8], from: usize) -> Result<Option<Token>, LexFault>
     Ok(Some(token))
 }
 
-/// The law of lexing: no script is read in two ways. Where it has tokens, it has these alone and no fault. Where it
-/// has a first fault, that is the only one, and it has no tokens.
+/// The law of lexing: every script has tokens or a first fault, and no script is read in two ways. A script with
+/// tokens has these alone and no first fault; one with a first fault has this one alone and no tokens.
 pub fn one_lexing_is_due()
     ensures some { (script : List ℕ) →
         (lexing : Result (List Token) LexFault) × IsLexing script lexing }
@@ -60,8 +63,8 @@ pub fn one_lexing_is_due()
         IsLexing script one → IsLexing script other → one ≡ other }
 {}
 
-/// What is written is read: tokens one after another, with white space where one would go on into the next, are these
-/// tokens again. So `lex` returns them for that text, or is out of memory.
+/// The law of writing: tokens written one after another, with white space where one would go on into the next, are
+/// the tokens of that text. So `lex` returns them for it, or is out of memory.
 pub fn written_is_read()
     ensures { (tokens : List Written) → MayBeWritten tokens →
         Tokens (written_text tokens) (written_tokens 0 tokens) }

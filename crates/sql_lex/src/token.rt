@@ -1,3 +1,5 @@
+// A token: its kind and its place. It never holds the token's bytes or its value.
+
 /// What a token is (SQL-92, 5.2).
 #[derive(Clone, Copy, Debug, PartialEq, Eq)]
 pub enum TokenKind {

@@ -1,3 +1,4 @@
+// What a token stands for, read from its bytes. It relies on the form that `lex` found, and never tests it again.
 ghost use Rattle.std.specs.Prelude.{◌≡◌, ◌-◌, ◌^◌, ◌↔◌, min, IsTrue, IfOk};
 ghost use Rattle.std.specs.List.{AllPass};
 ghost use Rattle.std.specs.Char.{is_ascii_digit};
@@ -88,7 +89,7 @@ pub(crate) fn between_quotes(text: &[u8]) -> &[u8]
     &text[1..text.len() - 1]
 }
 
-// The value of digits, or the greatest `u64` where it is above that.
+// The value of digits, or the greatest `u64` where the value is above that.
 pub(crate) fn capped_number(digits: &[u8]) -> u64
     requires { AllPass is_ascii_digit digits.now }
     ensures { result ≡ min (number_value_of digits.now) (2 ^ 64 - 1) }

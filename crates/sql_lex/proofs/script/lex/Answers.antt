@@ -5,7 +5,7 @@ use Rattle.std.proofs.lemmas.Result.{err_from_is_err_and}
 use Rattle.sql_lex.specs.Tokens.{IsFirstFault}
 use Rattle.sql_lex.specs.declared.fault.LexFault.{LexFault}
 use Rattle.sql_lex.specs.declared.fault.LexKind.TheVariants.{NoMemory}
-use Rattle.sql_lex.proofs.Readings.{ComesNext-token, tokens_each}
+use Rattle.sql_lex.proofs.Lexings.{ComesNext-token, each_read}
 use Rattle.sql_lex.proofs.script.lex.Goals as goal
 
 pub returns-in_err-token-clause-offends : goal.returns-in_err-token-clause-offends
@@ -29,4 +29,4 @@ returns-clause-found c =
 pub returns-clause-each : goal.returns-clause-each
 returns-clause-each c =
     let last = rw c.in_default.is at c.in_ok-token.ensures in
-    tokens_each c.args.text.now c.loop-tokens.tokens.items (rw append-nil at (c.loop-tokens.invariant.read [] (Ok None) last))
+    each_read c.args.text.now (Ok None) 0 c.loop-tokens.tokens.items (rw append-nil at (c.loop-tokens.invariant.read [] (Ok None) last))

@@ -1,5 +1,4 @@
-use Rattle.sql_lex.proofs.Once.{lexing_once}
-use Rattle.sql_lex.proofs.Exists.{some_lexing}
+use Rattle.sql_lex.proofs.Lexings.{some_lexing, lexing_once}
 use Rattle.sql_lex.proofs.script.one_lexing_is_due.Goals as goal
 
 pub returns-clause-some : goal.returns-clause-some

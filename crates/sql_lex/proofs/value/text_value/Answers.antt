@@ -1,20 +1,18 @@
-use Rattle.std.proofs.Common.{◌≡◌, false, arith}
+use Rattle.std.proofs.Common.{◌≡◌, arith}
 use Rattle.std.proofs.lemmas.Grind.{common_steps}
-use Rattle.sql_lex.specs.Values.{halved, text_value_of}
-use Rattle.sql_lex.proofs.Texts.{halved-skips, halved-keeps, quoted-value}
+use Rattle.std.proofs.lemmas.List.{drop_more}
+use Rattle.sql_lex.specs.Values.{text_value_of}
+use Rattle.sql_lex.proofs.Texts.{quoted-value}
 use Rattle.sql_lex.proofs.value.text_value.Goals as goal
 use Rattle.sql_lex.proofs.value.text_value.Goals.{then-is_second, else-is_second+in_ok-push}
 
 pub loop-byte-preserved : goal.loop-byte-preserved
 loop-byte-preserved c =
-    let inside = c.between_quotes-inside.result.now in
-    let front = c.loop-byte.value.items in
-    let at = c.loop-byte.byte-index in
+    let rest = drop_more c.between_quotes-inside.result.now c.loop-byte.byte-index 0 c.loop-byte-test.true in
     elim c.if-is_second.branch [
-      | then-is_second w ↦ rw (w.value-is, w.is_second-is)
-          (halved-skips inside front (halved false inside) at c.loop-byte.is_second c.loop-byte-test.true w.if-is_second.true c.loop-byte.invariant)
+      | then-is_second w ↦ rw (w.value-is, w.is_second-is) (grind (arith, common_steps, rest, w.if-is_second.true, c.loop-byte.invariant))
       | else-is_second+in_ok-push w ↦ rw (w.value-is, w.is_second-is, w.in_ok-push.ensures.items)
-          (halved-keeps inside front (halved false inside) at c.loop-byte.is_second c.loop-byte-test.true w.if-is_second.false c.loop-byte.invariant)
+          (grind (arith, common_steps, rest, w.if-is_second.false, c.loop-byte.invariant))
     ]
 
 pub returns-clause-spelling : goal.returns-clause-spelling
