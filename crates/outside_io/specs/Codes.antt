@@ -1,4 +1,4 @@
--- How values are told apart: by their parts.
+-- How values are distinguished: by their parts.
 use Rattle.std.specs.Prelude.{ℕ, List, Option, refl}
 use Rattle.std.specs.FinMap as map
 use Rattle.std.specs.Coded.{Coded, code_by, coded×, coded_ℕ, coded_list, coded_option}

@@ -24,7 +24,7 @@ file_of files name = map.get files name
 abbrev pub with_file : Files → List ℕ → List ℕ → Files
 with_file files name bytes = map.insert files name bytes
 
--- what a read returns says of the file: its bytes, that it isn't there, or its length
+-- what the result of a read says of the file: its bytes, that it isn't there, or its length
 abbrev pub IsReadAnswer : Files → List ℕ → Result (Vec ℕ Global) FileFault → Type 0
 IsReadAnswer files name (Ok bytes) = file_of files name ≡ Some bytes.items
 IsReadAnswer files name (Err fault.Absent) = file_of files name ≡ None
@@ -33,7 +33,7 @@ IsReadAnswer files name (Err (fault.TooLong len)) =
 IsReadAnswer files name (Err fault.Failed) = ⊤
 IsReadAnswer files name (Err fault.NoMemory) = ⊤
 
--- a read gives no more bytes than the limit, and only a longer file is too long
+-- a read returns no more bytes than the limit, and only a longer file is too long
 abbrev pub KeepsFileLimit : Result (Vec ℕ Global) FileFault → Type 0
 KeepsFileLimit (Ok bytes) = length bytes.items ≤ max_file_bytes
 KeepsFileLimit (Err fault.Absent) = ⊤

@@ -45,8 +45,8 @@ fn read_all<R: Read + Drop>(alloc: Global, mut reader: R, expected: u64) -> io::
     Ok(bytes)
 }
 
-// The bytes of an opened file. Its length is asked first, so that a longer file isn't read. Where
-// more bytes turn up than it told, one past the limit is enough to know.
+// The bytes of an opened file. Its length is asked first, so that a file past the limit isn't read.
+// A file may have more bytes than the system says, so up to one past the limit are read.
 fn read_whole<F: OpenFile + Read + Drop>(alloc: Global, file: F) -> Result<Vec<u8>, FileFault>
     ensures within { KeepsFileLimit result }
     ensures whole { IfOk result (λ bytes. IfSome (F.remaining file) (λ held. bytes.items ≡ held)) }

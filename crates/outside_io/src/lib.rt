@@ -1,7 +1,7 @@
 //! The outside as the program sees it: a source of bytes, a sink for bytes, and a folder of files,
 //! each a trait that counts what went wrong. Implementations in memory, whose contents are known,
-//! fail at the calls that they are told to; a source and a sink over any reader and writer are the
-//! adapters to standard input and output, and a folder is that of the working directory's files.
+//! fail at the calls whose numbers they were given. A source and a sink over any reader and writer
+//! adapt standard input and output, and a folder adapts the files of the working directory.
 //! To the layers above the traits promise exact bytes where contents are known, and a failure only
 //! where a count rose. No call here looks at what the bytes mean.
 #![tactic(auto)]

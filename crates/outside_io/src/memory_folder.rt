@@ -1,5 +1,5 @@
-// A folder in memory, whose files are known. It fails at the calls that it was told to fail at, and
-// at no others; one that fails changes nothing.
+// A folder in memory, whose files are known. It fails at the calls whose numbers it was given, and
+// never at another; one that fails changes nothing.
 ghost use Rattle.std.specs.Prelude.{◌≡◌, ◌⊎◌, ◌↔◌, OnOk, OnErr, IfErr, IsErrOf, IsErrAnd};
 ghost use Rattle.std.specs.Prelude.{IsTrue, option_map};
 ghost use Rattle.std.specs.FinMap as finite;

@@ -1,5 +1,5 @@
-// A sink in memory, whose bytes are known. It fails at the calls that it was told to fail at, and
-// at no others.
+// A sink in memory, whose bytes are known. It fails at the calls whose numbers it was given, and
+// never at another; one that fails appends nothing.
 ghost use Rattle.std.specs.Prelude.{◌≡◌, ◌++◌, ◌↔◌, [], Some, OnErr, OnOk, IsErrOf, IsTrue};
 ghost use Rattle.outside_io.specs.Count.{HasCause};
 ghost use Rattle.outside_io.specs.Calls.{no_calls, fails_next, after_call};

@@ -1,5 +1,5 @@
-// A source in memory, whose bytes are known. It fails at the calls that it was told to fail at, and
-// at no others, and it never allocates.
+// A source in memory, whose bytes are known. It fails at the calls whose numbers it was given, and
+// never at another; it never allocates.
 ghost use Rattle.std.specs.Prelude.{◌≡◌, ◌++◌, ◌≤◌, ◌<◌, ◌↔◌, [], take, length, min, not, Some};
 ghost use Rattle.std.specs.Prelude.{is_ok, IfOk, IsErr, OnErr};
 ghost use Rattle.outside_io.specs.Count.{HasCause};

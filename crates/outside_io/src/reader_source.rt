@@ -1,5 +1,5 @@
 // A source over any reader. It relies on what the reader's trait says of the bytes that are left,
-// and it never looks at a byte.
+// and it never gives a failure as the end.
 ghost use Rattle.std.specs.Prelude.{◌≡◌, ◌≤◌, ◌<◌, ◌↔◌, [], take, length};
 ghost use Rattle.std.specs.Prelude.{IfOk, IsErr, OnErr, IfSome};
 ghost use Rattle.std.specs.Io.KnownBytes.{Consumes, Keeps, ReadConsumes};

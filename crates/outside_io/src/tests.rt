@@ -236,11 +236,13 @@ fn the_working_directory_is_a_folder(rt: HostRuntime) -> Result<(), Fail> {
         ("", FileFault::Absent),
         ("/tmp", FileFault::Failed),
         ("a\0b", FileFault::Failed),
-        ("/dev/zero", FileFault::TooLong { len: 268435457 }),
     ] {
         let read = folder.read(alloc, path);
         assert!(rt; matches!(read, Err(fault) if fault == wanted), "{path}");
     }
+    // The system says of this file that it has no bytes.
+    let more = folder.read(alloc, "/proc/version");
+    assert!(rt; matches!(&more, Ok(bytes) if !bytes.is_empty()));
     for path in ["/tmp", "/dev/full"] {
         assert_eq!(rt; folder.write(path, b"a"), Err(FileFault::Failed), "{path}");
     }
