@@ -22,7 +22,7 @@ use Rattle.sql_lex.specs.declared.token.TokenKind.{TokenKind}
 use Rattle.sql_lex.specs.declared.token.TokenKind.TheVariants.{Word, Number, Text, Sign, Comparison}
 use Rattle.sql_lex.specs.declared.fault.LexFault.{LexFault}
 use Rattle.sql_lex.proofs.Texts.{after_text, after_text-append, after_text-closed, SplitsAt, SplitsAt-after}
-use Rattle.sql_lex.proofs.Wholes.{first-between, first-drop, drop_past, IsRun-moves, IsWhole-word, IsWhole-number, IsWhole-byte, IsWhole-front, IsWhole-text, open_text_stands}
+use Rattle.sql_lex.proofs.Wholes.{first-between, first-drop, drop_past, IsRun-moves, IsWhole-word, IsWhole-number, IsWhole-byte, IsWhole-pair, IsWhole-text, open_text_stands}
 use Rattle.std.specs.Str.{is_utf8}
 use Rattle.std.proofs.lemmas.Grind.{common_steps}
 use Rattle.std.proofs.lemmas.Str.{IsUtf8-from_is_utf8, is_utf8-from_IsUtf8}
@@ -119,9 +119,9 @@ whole_once s k l place d e one other =
     (cc same, omega (arith, ap length rests, length-drop d s, length-drop e s, one.in_script, other.in_script))
 
 -- a form doesn't both keep and break its kind's limit
-keeps_or_breaks : (s : List ℕ) (k l : TokenKind) (place d e : ℕ) → IsToken s (record { kind = k; start = place; end = d }) → IsWhole s l place e
+not_kept_and_broken : (s : List ℕ) (k l : TokenKind) (place d e : ℕ) → IsToken s (record { kind = k; start = place; end = d }) → IsWhole s l place e
     → ¬ (KeepsTokenLimit l (slice_range s place e)) → ⊥
-keeps_or_breaks s k l place d e one other breaks =
+not_kept_and_broken s k l place d e one other breaks =
     let once = whole_once s k l place d e one.whole other in
     breaks (subst (λ (m : TokenKind). KeepsTokenLimit m (slice_range s place e)) once.0
     (subst (λ (n : ℕ). KeepsTokenLimit k (slice_range s place n)) once.1 one.limit))
@@ -146,8 +146,8 @@ begun-place s place next (past_limit kind end _ one _ _) = whole_begun s kind pl
 
 stands_once : (s : List ℕ) (place : ℕ) (one other : Next) → StandsAt s place one → StandsAt s place other → one ≡ other
 stands_once s place one other (token_here k d a) (token_here l e b) = let once = whole_once s k l place d e a.whole b.whole in cc (once.0, once.1)
-stands_once s place one other (token_here k d a) (past_limit l e _ b breaks _) = absurd (keeps_or_breaks s k l place d e a b breaks)
-stands_once s place one other (past_limit k d _ a breaks _) (token_here l e b) = absurd (keeps_or_breaks s l k place e d b a breaks)
+stands_once s place one other (token_here k d a) (past_limit l e _ b breaks _) = absurd (not_kept_and_broken s k l place d e a b breaks)
+stands_once s place one other (past_limit k d _ a breaks _) (token_here l e b) = absurd (not_kept_and_broken s l k place e d b a breaks)
 stands_once s place one other (past_limit k d f a _ fault) (past_limit l e g b _ same) =
     let once = whole_once s k l place d e a b in
     let kinds = sym fault ∙ ap limit_fault once.0 ∙ same in
@@ -293,10 +293,7 @@ text_stands s place (Some rest) inside quote (v, same, stops) =
 comparison_stands : (s : List ℕ) (place : ℕ) → place < length s → starts_comparison (get_or s place 0) ≡ true → (next : Next) × StandsAt s place next
 comparison_stands s place inside first =
     elim (cases_Bool (is_second (get_or s place 0) (get_or s (place + 1) 0))) [
-      | inl two ↦
-          let further : place + 1 < length s = grind (arith, nat_tests, get_or_past s (place + 1) 0) in
-          whole_stands s Comparison place (place + 2) (IsWhole-front s Comparison (get_or s place 0 ∷ get_or s (place + 1) 0 ∷ []) place (place + 2)
-          (omega arith) (omega arith) (grind (arith, common_steps, drop_more s place 0 inside, drop_more s (place + 1) 0 further)) two refl)
+      | inl pair ↦ whole_stands s Comparison place (place + 2) (IsWhole-pair s place inside pair)
       | inr one ↦ whole_stands s Comparison place (place + 1) (IsWhole-byte s Comparison place inside first one)
     ]
 

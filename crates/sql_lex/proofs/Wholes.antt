@@ -9,7 +9,7 @@ use Rattle.std.proofs.lemmas.List.{get_or_past, take_at, drop_more, drop_at, dro
 use Rattle.std.proofs.lemmas.List.Edits.{length-between, get_or-between}
 use Rattle.std.proofs.lemmas.List.Elements.{All-from_get_or}
 use Rattle.std.proofs.lemmas.List.Folds.{drop_split}
-use Rattle.sql_lex.specs.Bytes.{starts_word, is_word_byte}
+use Rattle.sql_lex.specs.Bytes.{starts_word, is_word_byte, is_second}
 use Rattle.sql_lex.specs.Run.{IsRun}
 use Rattle.sql_lex.specs.Values.{quoted}
 use Rattle.sql_lex.specs.Forms.{HasForm, goes_on}
@@ -17,7 +17,7 @@ use Rattle.sql_lex.specs.Tokens.{IsWhole, StandsAt}
 use Rattle.sql_lex.specs.Tokens.StandsAt.{open_text}
 use Rattle.sql_lex.specs.declared.fault.LexKind.TheVariants.{OpenText}
 use Rattle.sql_lex.specs.declared.token.TokenKind.{TokenKind}
-use Rattle.sql_lex.specs.declared.token.TokenKind.TheVariants.{Word, Number, Text}
+use Rattle.sql_lex.specs.declared.token.TokenKind.TheVariants.{Word, Number, Text, Comparison}
 use Rattle.sql_lex.proofs.Texts.{SplitsAt}
 
 -- the run goes on over a byte that passes
@@ -81,6 +81,13 @@ pub IsWhole-byte : (s : List ℕ) (kind : TokenKind) (start : ℕ) → start < l
     → goes_on kind (get_or s start 0 ∷ []) (get_or s (start + 1) 0) ≡ false → IsWhole s kind start (start + 1)
 IsWhole-byte s kind start inside form longest =
     IsWhole-front s kind (get_or s start 0 ∷ []) start (start + 1) (omega arith) (omega arith) (drop_more s start 0 inside) form longest
+
+pub IsWhole-pair : (s : List ℕ) (start : ℕ) → start < length s → is_second (get_or s start 0) (get_or s (start + 1) 0) ≡ true
+    → IsWhole s Comparison start (start + 2)
+IsWhole-pair s start inside pair =
+    let further : start + 1 < length s = grind (arith, nat_tests, get_or_past s (start + 1) 0) in
+    IsWhole-front s Comparison (get_or s start 0 ∷ get_or s (start + 1) 0 ∷ []) start (start + 2) (omega arith) (omega arith)
+    (grind (arith, common_steps, drop_more s start 0 inside, drop_more s (start + 1) 0 further)) pair refl
 
 -- a text that ends, and one that doesn't
 pub IsWhole-text : (s : List ℕ) (start end : ℕ) → start < end → end ≤ length s → get_or s start 0 ≡ 39

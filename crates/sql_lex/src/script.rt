@@ -22,8 +22,8 @@ use std::alloc::Global;
 /// A refusal names the first fault; `NoMemory` alone may come at any time. By `one_lexing_is_due` no other tokens, and
 /// no other place or kind, fit the script.
 pub fn lex(alloc: Global, text: &[u8]) -> Result<Vec<Token>, LexFault>
-    ensures found { IfOk result (λ answer. Tokens text.now answer.items) }
-    ensures each { IfOk result (λ answer. All (IsToken text.now) answer.items) }
+    ensures found { IfOk result (λ tokens. Tokens text.now tokens.items) }
+    ensures each { IfOk result (λ tokens. All (IsToken text.now) tokens.items) }
     ensures offends { IfErr result (λ fault.
         (fault.kind ≡ LexKind.NoMemory) ⊎ IsFirstFault text.now fault.place fault.kind) }
 {
