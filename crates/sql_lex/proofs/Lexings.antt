@@ -1,4 +1,4 @@
--- A script has exactly one lexing.
+-- A script has exactly one lexing: it never has two (`.._once`), and it has one (`some_..`).
 use Rattle.std.proofs.Common.{◌≡◌, ℕ, ◌+◌, ◌<◌, Bool, true, false, cond, nat_eq, ◌&&◌, List, [], ◌∷◌, ◌++◌, length, get_or, drop, arith, sym, ◌∙◌, ap, subst, refl, inl, inr, append_assoc, length-drop, ◌≤◌, ◌⊎◌, zero, suc, ◌-◌}
 use Rattle.std.specs.Prelude.{Option, Some, None, Result, Ok, Err}
 use Rattle.std.specs.List.{slice_range, AllPass, All, prefix_len}
@@ -107,8 +107,7 @@ begun-append kind (b ∷ xs) l form longest =
 
 whole_begun : (s : List ℕ) (kind : TokenKind) (place end : ℕ) → IsWhole s kind place end → begun (drop place s) ≡ form_of kind (Some (drop end s))
 whole_begun s kind place end whole =
-    let in_order = whole.in_order in
-    ap begun (drop_split s place end (omega arith))
+    ap begun (drop_split s place end (omega (arith, whole.in_order)))
     ∙ begun-append kind (slice_range s place end) (drop end s) whole.form (ap (goes_on kind (slice_range s place end)) (first-drop s end) ∙ whole.longest)
 
 -- one form begins at a place, and it has one end
@@ -149,8 +148,7 @@ stands_once s place one other (token_here k d a) (token_here l e b) = let once =
 stands_once s place one other (token_here k d a) (past_limit l e _ b breaks _) = absurd (not_kept_and_broken s k l place d e a b breaks)
 stands_once s place one other (past_limit k d _ a breaks _) (token_here l e b) = absurd (not_kept_and_broken s l k place e d b a breaks)
 stands_once s place one other (past_limit k d f a _ fault) (past_limit l e g b _ same) =
-    let once = whole_once s k l place d e a b in
-    let kinds = sym fault ∙ ap limit_fault once.0 ∙ same in
+    let kinds = sym fault ∙ ap limit_fault (whole_once s k l place d e a b).0 ∙ same in
     cc kinds
 stands_once s place one other (end_here _) (end_here _) = refl
 stands_once s place one other (strange_byte _ _) (strange_byte _ _) = refl

@@ -32,8 +32,7 @@ IsRun-stops p none s start end run = let stops = run.stops in grind (arith, nat_
 IsRun-passes : (p : ℕ → Bool) (s : List ℕ) (start end : ℕ) → IsRun p s start end → AllPass p (slice_range s start end)
 IsRun-passes p s start end run =
     All-from_get_or (λ b. p b ≡ true) (slice_range s start end) 0 (λ i below.
-    let small : i < end - start = subst (λ (n : ℕ). i < n) (length-between s start end run.in_script) below in
-    rw (get_or-between s start end i 0 (omega arith)) (run.inside (start + i) (omega arith) (omega arith)))
+    grind (arith, length-between s start end run.in_script, get_or-between s start end i 0, run.inside (start + i)))
 
 pub first-between : (s : List ℕ) (start end : ℕ) → start < end → get_or (slice_range s start end) 0 0 ≡ get_or s start 0
 first-between s start end some = get_or-between s start end 0 0 (omega arith) ∙ ap (λ k. get_or s k 0) (add-zero start)
@@ -49,8 +48,8 @@ drop_past s front rest from same = sym (drop-drop (length front) from s) ∙ ap 
 pub between_is_front : (s bytes : List ℕ) (start end : ℕ) → start < end → end ≤ length s → drop start s ≡ bytes ++ drop end s
     → slice_range s start end ≡ bytes
 between_is_front s bytes start end in_order in_script same =
-    let all : length s - start ≡ length bytes + (length s - end) = grind (arith, length-drop start s, length-drop end s, ap length same, length-append bytes (drop end s)) in
-    ap (take (end - start)) same ∙ take_at bytes (drop end s) (end - start) (omega (arith, all))
+    ap (take (end - start)) same
+    ∙ take_at bytes (drop end s) (end - start) (grind (arith, length-drop start s, length-drop end s, ap length same, length-append bytes (drop end s)))
 
 pub IsWhole-front : (s : List ℕ) (kind : TokenKind) (bytes : List ℕ) (start end : ℕ) → start < end → end ≤ length s
     → drop start s ≡ bytes ++ drop end s → HasForm kind bytes → goes_on kind bytes (get_or s end 0) ≡ false → IsWhole s kind start end
