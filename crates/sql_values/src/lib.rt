@@ -1,8 +1,8 @@
 //! The values of SQL as every layer above passes them: texts, values, the columns of a table, and the operators that
 //! compare values.
 //! It promises that a `Text` is exactly the bytes that it was made from, and that two of them are equal exactly where
-//! their bytes are. It never looks into the bytes of a `Text` (they need not be UTF-8), and only `Text::new` and
-//! `clone` take memory.
+//! their bytes are.
+//! It never looks into the bytes of a `Text` (they need not be UTF-8), and only `Text::new` and `clone` take memory.
 #![tactic(auto)]
 
 mod column;

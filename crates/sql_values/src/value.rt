@@ -1,3 +1,4 @@
+// A value: NULL, a number or a text. Nothing here orders values or turns one into another.
 use crate::text::Text;
 
 /// A value as a statement writes it, or as a column holds it.
