@@ -1,7 +1,4 @@
-pub mod Gaps
-pub mod Slices
-pub mod Wholes
 pub mod Texts
-pub mod Readings
-pub mod Once
+pub mod Wholes
+pub mod Lexings
 pub mod Spelled

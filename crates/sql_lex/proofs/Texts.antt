@@ -1,226 +1,117 @@
 -- Text literals, whose quotes are doubled.
-use Rattle.std.proofs.Common.{◌≡◌, ◌≢◌, ℕ, ◌+◌, ◌-◌, ◌<◌, ◌≤◌, Bool, true, false, cond, nat_eq, List, [], ◌∷◌, ◌++◌, length, get_or, take, drop, arith, sym, ◌∙◌, ap, subst, refl, append_assoc, length-append}
-use Rattle.std.specs.List.{slice_range}
+use Rattle.std.proofs.Common.{◌≡◌, ◌≢◌, ◌↔◌, ℕ, ◌+◌, ◌<◌, Bool, true, false, cond, nat_eq, List, [], ◌∷◌, ◌++◌, length, get_or, take, drop, arith, sym, ◌∙◌, ap, subst, refl, inl, inr, append_assoc}
+use Rattle.std.specs.Prelude.{Option, Some, None}
 use Rattle.std.specs.Str.{IsUtf8}
-use Rattle.std.specs.Prelude.{Result, Ok, Err, MatchResult, is_err}
+use Rattle.std.proofs.lemmas.Bool.{cases_eq, ne_eqb}
 use Rattle.std.proofs.lemmas.Bool.Decides.{nat_tests}
-use Rattle.std.proofs.lemmas.Grind.{flat_map-append}
-use Rattle.std.proofs.lemmas.List.{take_at, drop_at, get_or_at, drop_more, drop_all, append-nil}
-use Rattle.std.proofs.lemmas.List.Edits.{between_none}
+use Rattle.std.proofs.lemmas.Grind.{common_steps}
+use Rattle.std.proofs.lemmas.List.{get_or_at}
 use Rattle.std.proofs.lemmas.Str.Ascii.{IsAscii-cons, IsAscii-nil}
-use Rattle.std.proofs.lemmas.Str.{IsUtf8-from_ascii, IsUtf8-append, IsUtf8-take, IsUtf8-drop, IsCharBoundary-before_ascii, IsCharBoundary-after_ascii}
-use Rattle.sql_lex.specs.Values.{IsInside, doubled, quoted, halved, text_value_of}
-use Rattle.sql_lex.proofs.Slices.{part-push, part-cons}
+use Rattle.std.proofs.lemmas.Str.{IsUtf8-nil, IsUtf8-from_ascii, IsUtf8-append, IsUtf8-take, IsUtf8-drop, IsCharBoundary-before_ascii, IsCharBoundary-after_ascii}
+use Rattle.sql_lex.specs.Forms.{HasForm, KeepsTokenLimit}
+use Rattle.sql_lex.specs.declared.token.TokenKind.{TokenKind}
+use Rattle.sql_lex.specs.declared.token.TokenKind.TheVariants.{Text}
+use Rattle.sql_lex.specs.Values.{doubled, quoted, halved, between_quotes, text_value_of}
 
-pub doubled-append : (v w : List ℕ) → doubled (v ++ w) ≡ doubled v ++ doubled w
-doubled-append v w = flat_map-append _ v w
-
-quote_from : (b : ℕ) → nat_eq b 39 ≡ true → b ≡ 39
-quote_from b e = grind (arith, nat_tests)
-
-no_quote_from : (b : ℕ) → nat_eq b 39 ≡ false → b ≡ 39 → ⊥
-no_quote_from b e q = grind (arith, nat_tests)
-
-no_quote_test : (b : ℕ) → b ≢ 39 → nat_eq b 39 ≡ false
-no_quote_test b other = grind (arith, nat_tests)
-
--- a quote or another byte, doubled where it is a quote
-abbrev piece : Bool → ℕ → List ℕ
-piece t b = cond t (39 ∷ 39 ∷ []) (b ∷ [])
-
-halved-piece : (b : ℕ) (bs ds : List ℕ) (t : Bool) → nat_eq b 39 ≡ t → halved false ds ≡ bs → halved false (piece t b ++ ds) ≡ b ∷ bs
-halved-piece b bs ds true e same = cc (quote_from b e)
-halved-piece b bs ds false e same = ap (λ u. b ∷ halved u ds) e ∙ ap (λ xs. b ∷ xs) same
+-- a byte that is no quote stays alone
+pub doubled_byte : (b : ℕ) (v : List ℕ) → b ≢ 39 → doubled (b ∷ v) ≡ b ∷ doubled v
+doubled_byte b v other = grind (arith, nat_tests)
 
 -- one quote for two gives the value back
-pub halved-doubled : (v : List ℕ) → halved false (doubled v) ≡ v
+halved-doubled : (v : List ℕ) → halved false (doubled v) ≡ v
 halved-doubled [] = refl
-halved-doubled (b ∷ bs) = halved-piece b bs (doubled bs) (nat_eq b 39) refl (halved-doubled bs)
+halved-doubled (b ∷ v) = grind (arith, nat_tests, halved-doubled v)
 
-pub text_value_of-quoted : (v : List ℕ) → text_value_of (quoted v) ≡ v
-text_value_of-quoted v =
-    let len : length (doubled v ++ 39 ∷ []) ≡ length (doubled v) + 1 = length-append (doubled v) (39 ∷ []) in
-    let n : length (quoted v) - 1 - 1 ≡ length (doubled v) = omega (arith, len) in
-    ap (λ k. halved false (take k (doubled v ++ 39 ∷ []))) n
-    ∙ ap (halved false) (take_at (doubled v) (39 ∷ []) (length (doubled v)) refl)
-    ∙ halved-doubled v
+between_quotes-quoted : (v : List ℕ) → between_quotes (quoted v) ≡ doubled v
+between_quotes-quoted v = grind (arith, common_steps)
 
--- where a text stops: at a quote with no quote behind it, or at the script's end
-abbrev pub IsStop : List ℕ → Type 0
-IsStop [] = Unit {0}
-IsStop (b ∷ bs) = (b ≡ 39) × (get_or bs 0 0 ≢ 39)
-
-stop_inside : (x ds : List ℕ) (c : ℕ) (t : Bool) → nat_eq c 39 ≡ t → x ≡ piece t c ++ ds → IsStop x → ⊥
-stop_inside [] ds c true e same stop = cc
-stop_inside [] ds c false e same stop = cc
-stop_inside (b ∷ bs) ds c true e same stop = stop.1 (ap (λ l. get_or (drop 1 l) 0 0) same)
-stop_inside (b ∷ bs) ds c false e same stop = no_quote_from c e (sym (ap (λ l. get_or l 0 0) same) ∙ stop.0)
-
-same_piece : (b c : ℕ) (t u : Bool) (ds es : List ℕ) → nat_eq b 39 ≡ t → nat_eq c 39 ≡ u
-    → piece t b ++ ds ≡ piece u c ++ es → (b ≡ c) × (ds ≡ es)
-same_piece b c true true ds es e f same = (quote_from b e ∙ sym (quote_from c f), ap (drop 2) same)
-same_piece b c true false ds es e f same = absurd (no_quote_from c f (sym (ap (λ l. get_or l 0 0) same)))
-same_piece b c false true ds es e f same = absurd (no_quote_from b e (ap (λ l. get_or l 0 0) same))
-same_piece b c false false ds es e f same = (ap (λ l. get_or l 0 0) same, ap (drop 1) same)
-
--- a text can be read in one way
-pub doubled_once : (v w x y : List ℕ) → doubled v ++ x ≡ doubled w ++ y → IsStop x → IsStop y → (v ≡ w) × (x ≡ y)
-doubled_once [] [] x y same stop_x stop_y = (refl, same)
-doubled_once [] (c ∷ w) x y same stop_x stop_y =
-    absurd (stop_inside x (doubled w ++ y) c (nat_eq c 39) refl (same ∙ append_assoc (piece (nat_eq c 39) c) (doubled w) y) stop_x)
-doubled_once (b ∷ v) [] x y same stop_x stop_y =
-    absurd (stop_inside y (doubled v ++ x) b (nat_eq b 39) refl (sym same ∙ append_assoc (piece (nat_eq b 39) b) (doubled v) x) stop_y)
-doubled_once (b ∷ v) (c ∷ w) x y same stop_x stop_y =
-    let both = same_piece b c (nat_eq b 39) (nat_eq c 39) (doubled v ++ x) (doubled w ++ y) refl refl
-    (sym (append_assoc (piece (nat_eq b 39) b) (doubled v) x) ∙ same ∙ append_assoc (piece (nat_eq c 39) c) (doubled w) y) in
-    let rest = doubled_once v w x y both.1 stop_x stop_y in
-    (cc (both.0, rest.0), rest.1)
-
-pub IsInside-nil : (s : List ℕ) (from : ℕ) → IsInside (slice_range s from from)
-IsInside-nil s from = ([], between_none s from)
-
-doubled_byte : (b : ℕ) → b ≢ 39 → doubled (b ∷ []) ≡ b ∷ []
-doubled_byte b other = ap (λ t. piece t b ++ []) (no_quote_test b other)
-
-pub IsInside-byte : (s : List ℕ) (from at : ℕ) → from ≤ at → at < length s → get_or s at 0 ≢ 39
-    → IsInside (slice_range s from at) → IsInside (slice_range s from (at + 1))
-IsInside-byte s from at in_order inside other (value, same) = (
-  value ++ get_or s at 0 ∷ [],
-  part-push s from at in_order inside
-      ∙ ap (λ l. l ++ get_or s at 0 ∷ []) same
-      ∙ ap (λ l. doubled value ++ l) (sym (doubled_byte (get_or s at 0) other))
-      ∙ sym (doubled-append value (get_or s at 0 ∷ [])),
-)
-
-pub IsInside-quotes : (s : List ℕ) (from at : ℕ) → from ≤ at → at + 1 < length s → get_or s at 0 ≡ 39 → get_or s (at + 1) 0 ≡ 39
-    → IsInside (slice_range s from at) → IsInside (slice_range s from (at + 2))
-IsInside-quotes s from at in_order inside first second (value, same) =
-    let short : at < length s = omega arith in
-    let later : from ≤ at + 1 = omega arith in
-    let two : at + 1 + 1 ≡ at + 2 = omega arith in (
-      value ++ 39 ∷ [],
-      ap (λ n. slice_range s from n) (sym two)
-          ∙ part-push s from (at + 1) later inside
-          ∙ ap (λ l. l ++ get_or s (at + 1) 0 ∷ []) (part-push s from at in_order short ∙ ap (λ l. l ++ get_or s at 0 ∷ []) same)
-          ∙ ap (λ b. (doubled value ++ get_or s at 0 ∷ []) ++ b ∷ []) second
-          ∙ ap (λ b. (doubled value ++ b ∷ []) ++ 39 ∷ []) first
-          ∙ append_assoc (doubled value) (39 ∷ []) (39 ∷ [])
-          ∙ sym (doubled-append value (39 ∷ [])),
-    )
-
-quote_utf8 : IsUtf8 (39 ∷ [])
-quote_utf8 = IsUtf8-from_ascii (39 ∷ []) (IsAscii-cons 39 [] (omega arith) IsAscii-nil)
-
--- UTF-8 may be cut at a quote
-utf8_around_quote : (front rest : List ℕ) → IsUtf8 (front ++ 39 ∷ rest) → IsUtf8 front × IsUtf8 rest
-utf8_around_quote front rest h =
-    let bs = front ++ 39 ∷ rest in
-    let len : length bs ≡ length front + length (39 ∷ rest) = length-append front (39 ∷ rest) in
-    let at : length front < length bs = omega (arith, len) in
-    let here : get_or bs (length front) 0 ≡ 39 = get_or_at front 39 rest 0 (length front) refl in
-    let ascii : get_or bs (length front) 0 < 128 = omega (arith, here) in
-    let before = IsUtf8-take bs (length front) h (IsCharBoundary-before_ascii bs (length front) at ascii) in
-    let behind = IsUtf8-drop bs (length front + 1) h (IsCharBoundary-after_ascii bs (length front) h at ascii) in
-    let one : length (front ++ 39 ∷ []) ≡ length front + 1 = length-append front (39 ∷ []) in (
-      subst IsUtf8 (take_at front (39 ∷ rest) (length front) refl) before,
-      subst IsUtf8
-          (ap (drop (length front + 1)) (sym (append_assoc front (39 ∷ []) rest)) ∙ drop_at (front ++ 39 ∷ []) rest (length front + 1) one)
-          behind,
-    )
-
-doubled_piece : (b : ℕ) (bs ds front : List ℕ) (t : Bool) → nat_eq b 39 ≡ t
-    → ((f : List ℕ) → IsUtf8 (f ++ bs) → IsUtf8 (f ++ ds)) → IsUtf8 (front ++ b ∷ bs) → IsUtf8 (front ++ (piece t b ++ ds))
-doubled_piece b bs ds front true e later h =
-    let parts = utf8_around_quote front bs (subst (λ (c : ℕ). IsUtf8 (front ++ c ∷ bs)) (quote_from b e) h) in
-    IsUtf8-append front (39 ∷ 39 ∷ ds) parts.0 (IsUtf8-append (39 ∷ []) (39 ∷ ds) quote_utf8 (IsUtf8-append (39 ∷ []) ds quote_utf8 (later [] parts.1)))
-doubled_piece b bs ds front false e later h =
-    subst IsUtf8 (append_assoc front (b ∷ []) ds) (later (front ++ b ∷ []) (subst IsUtf8 (sym (append_assoc front (b ∷ []) bs)) h))
-
-doubled_utf8 : (v front : List ℕ) → IsUtf8 (front ++ v) → IsUtf8 (front ++ doubled v)
-doubled_utf8 [] front h = h
-doubled_utf8 (b ∷ bs) front h = doubled_piece b bs (doubled bs) front (nat_eq b 39) refl (doubled_utf8 bs) h
-
-halved_piece : (b : ℕ) (bs ds front : List ℕ) (t : Bool) → nat_eq b 39 ≡ t
-    → ((f : List ℕ) → IsUtf8 (f ++ ds) → IsUtf8 (f ++ bs)) → IsUtf8 (front ++ (piece t b ++ ds)) → IsUtf8 (front ++ b ∷ bs)
-halved_piece b bs ds front true e later h =
-    let parts = utf8_around_quote front (39 ∷ ds) h in
-    let behind = utf8_around_quote [] ds parts.1 in
-    subst (λ (c : ℕ). IsUtf8 (front ++ c ∷ bs)) (sym (quote_from b e))
-    (IsUtf8-append front (39 ∷ bs) parts.0 (IsUtf8-append (39 ∷ []) bs quote_utf8 (later [] behind.1)))
-halved_piece b bs ds front false e later h =
-    subst IsUtf8 (append_assoc front (b ∷ []) bs) (later (front ++ b ∷ []) (subst IsUtf8 (sym (append_assoc front (b ∷ []) ds)) h))
-
-halved_utf8 : (v front : List ℕ) → IsUtf8 (front ++ doubled v) → IsUtf8 (front ++ v)
-halved_utf8 [] front h = h
-halved_utf8 (b ∷ bs) front h = halved_piece b bs (doubled bs) front (nat_eq b 39) refl (halved_utf8 bs) h
-
--- a value is UTF-8 exactly where it is with its quotes doubled
-pub IsUtf8-doubled : (v : List ℕ) → IsUtf8 v → IsUtf8 (doubled v)
-IsUtf8-doubled v h = doubled_utf8 v [] h
-
-pub IsUtf8-value : (v : List ℕ) → IsUtf8 (doubled v) → IsUtf8 v
-IsUtf8-value v h = halved_utf8 v [] h
-
--- the text that ends with this quote
-pub quoted-part : (s v : List ℕ) (start close : ℕ) → start < close → close < length s → get_or s start 0 ≡ 39 → get_or s close 0 ≡ 39
-    → slice_range s (start + 1) close ≡ doubled v → slice_range s start (close + 1) ≡ quoted v
-quoted-part s v start close in_order inside first last same =
-    let long : close + 1 ≤ length s = omega arith in
-    let front : start < close + 1 = omega arith in
-    let later : start + 1 ≤ close = omega arith in
-    part-cons s start (close + 1) front long
-    ∙ ap (λ b. b ∷ slice_range s (start + 1) (close + 1)) first
-    ∙ ap (λ l. 39 ∷ l) (part-push s (start + 1) close later inside)
-    ∙ ap (λ l. 39 ∷ (l ++ get_or s close 0 ∷ [])) same
-    ∙ ap (λ b. 39 ∷ (doubled v ++ b ∷ [])) last
-
-text_value_of-part : (s v : List ℕ) (start close : ℕ) → start < close → close < length s → get_or s start 0 ≡ 39 → get_or s close 0 ≡ 39
-    → slice_range s (start + 1) close ≡ doubled v → text_value_of (slice_range s start (close + 1)) ≡ v
-text_value_of-part s v start close in_order inside first last same =
-    ap text_value_of (quoted-part s v start close in_order inside first last same) ∙ text_value_of-quoted v
-
--- what lies between the quotes is UTF-8 exactly where the value is
-pub IsUtf8-part : (s v : List ℕ) (start close : ℕ) → start < close → close < length s → get_or s start 0 ≡ 39 → get_or s close 0 ≡ 39
-    → slice_range s (start + 1) close ≡ doubled v → IsUtf8 (slice_range s (start + 1) close) → IsUtf8 (text_value_of (slice_range s start (close + 1)))
-IsUtf8-part s v start close in_order inside first last same h =
-    subst IsUtf8 (sym (text_value_of-part s v start close in_order inside first last same)) (IsUtf8-value v (subst IsUtf8 same h))
-
-pub IsUtf8-from_part : (s v : List ℕ) (start close : ℕ) → start < close → close < length s → get_or s start 0 ≡ 39 → get_or s close 0 ≡ 39
-    → slice_range s (start + 1) close ≡ doubled v → IsUtf8 (text_value_of (slice_range s start (close + 1))) → IsUtf8 (slice_range s (start + 1) close)
-IsUtf8-from_part s v start close in_order inside first last same h =
-    subst IsUtf8 (sym same) (IsUtf8-doubled v (subst IsUtf8 (text_value_of-part s v start close in_order inside first last same) h))
-
--- what a test for UTF-8 told
-pub told_not : {T E : Type 0} (r : Result T E) (P : Type 0) (A : T → Type 0) (B : E → Type 0)
-    → MatchResult r (λ x. A x × P) (λ e. (¬ P) × B e) → is_err r ≡ true → ¬ P
-told_not (Ok x) P A B told e = absurd (cc e)
-told_not (Err d) P A B told e = told.0
-
-pub told_so : {T E : Type 0} (r : Result T E) (P : Type 0) (A : T → Type 0) (B : E → Type 0)
-    → MatchResult r (λ x. A x × P) (λ e. (¬ P) × B e) → is_err r ≡ false → P
-told_so (Ok x) P A B told e = told.1
-told_so (Err d) P A B told e = absurd (cc e)
-
--- a step over the second of two quotes, a step over another byte, and the end
-pub halved-skips : (bytes front all : List ℕ) (i : ℕ) (skip : Bool) → i < length bytes → skip ≡ true
-    → front ++ halved skip (drop i bytes) ≡ all → front ++ halved false (drop (i + 1) bytes) ≡ all
-halved-skips bytes front all i skip inside second same =
-    ap (λ l. front ++ halved true l) (sym (drop_more bytes i 0 inside)) ∙ ap (λ b. front ++ halved b (drop i bytes)) (sym second) ∙ same
-
-pub halved-keeps : (bytes front all : List ℕ) (i : ℕ) (skip : Bool) → i < length bytes → skip ≡ false
-    → front ++ halved skip (drop i bytes) ≡ all
-    → (front ++ get_or bytes i 0 ∷ []) ++ halved (nat_eq (get_or bytes i 0) 39) (drop (i + 1) bytes) ≡ all
-halved-keeps bytes front all i skip inside first same =
-    append_assoc front (get_or bytes i 0 ∷ []) (halved (nat_eq (get_or bytes i 0) 39) (drop (i + 1) bytes))
-    ∙ ap (λ l. front ++ halved false l) (sym (drop_more bytes i 0 inside)) ∙ ap (λ b. front ++ halved b (drop i bytes)) (sym first) ∙ same
-
-halved-nil : (skip : Bool) → halved skip [] ≡ []
-halved-nil true = refl
-halved-nil false = refl
-
-pub halved-done : (bytes front all : List ℕ) (i : ℕ) (skip : Bool) → length bytes ≤ i → front ++ halved skip (drop i bytes) ≡ all → front ≡ all
-halved-done bytes front all i skip past same =
-    sym (append-nil front) ∙ ap (λ l. front ++ l) (sym (halved-nil skip)) ∙ ap (λ l. front ++ halved skip l) (sym (drop_all i bytes past)) ∙ same
+text_value_of-quoted : (v : List ℕ) → text_value_of (quoted v) ≡ v
+text_value_of-quoted v = ap (halved false) (between_quotes-quoted v) ∙ halved-doubled v
 
 pub quoted-value : (text value : List ℕ) → value ≡ text_value_of text → (v : List ℕ) × (text ≡ quoted v) → text ≡ quoted value
 quoted-value text value same (v, spelled) = spelled ∙ ap quoted (sym (same ∙ ap text_value_of spelled ∙ text_value_of-quoted v))
+
+-- what follows a text, its opening quote apart, if it ends; `closed` says that a quote stands just before
+abbrev pub after_text : (closed : Bool) → List ℕ → Option (List ℕ)
+after_text false [] = None
+after_text true [] = Some []
+after_text false (b ∷ l) = after_text (nat_eq b 39) l
+after_text true (b ∷ l) = cond (nat_eq b 39) (after_text false l) (Some (b ∷ l))
+
+pub after_text-append : (v l : List ℕ) → after_text false (doubled v ++ l) ≡ after_text false l
+after_text-append [] l = refl
+after_text-append (b ∷ v) l = grind (arith, nat_tests, after_text-append v l)
+
+pub after_text-closed : (l : List ℕ) → nat_eq (get_or l 0 0) 39 ≡ false → after_text true l ≡ Some l
+after_text-closed [] stops = refl
+after_text-closed (b ∷ l) stops = grind (arith, nat_tests)
+
+-- bytes are a text's inside, and then its closing quote and this rest, if it ends
+abbrev pub SplitsAt : List ℕ → Option (List ℕ) → Type 0
+SplitsAt l None = (v : List ℕ) × (l ≡ doubled v)
+SplitsAt l (Some rest) = (v : List ℕ) × (l ≡ doubled v ++ 39 ∷ rest) × (nat_eq (get_or rest 0 0) 39 ≡ false)
+
+SplitsAt-byte : (b : ℕ) (l : List ℕ) (rest : Option (List ℕ)) → b ≢ 39 → SplitsAt l rest → SplitsAt (b ∷ l) rest
+SplitsAt-byte b l None other (v, same) = (b ∷ v, grind (arith, nat_tests))
+SplitsAt-byte b l (Some rest) other (v, same, stops) = (b ∷ v, grind (arith, nat_tests), stops)
+
+SplitsAt-quotes : (l : List ℕ) (rest : Option (List ℕ)) → SplitsAt l rest → SplitsAt (39 ∷ 39 ∷ l) rest
+SplitsAt-quotes l None (v, same) = (39 ∷ v, cc)
+SplitsAt-quotes l (Some rest) (v, same, stops) = (39 ∷ v, cc, stops)
+
+text_splits : (closed : Bool) (l : List ℕ) → SplitsAt (cond closed (39 ∷ l) l) (after_text closed l)
+text_splits false [] = ([], refl)
+text_splits true [] = ([], refl, refl)
+text_splits false (b ∷ l) =
+    elim (cases_eq b 39) [
+      | inl quote ↦ subst (λ (c : ℕ). SplitsAt (c ∷ l) (after_text (nat_eq c 39) l)) (sym quote) (text_splits true l)
+      | inr other ↦ subst (λ (t : Bool). SplitsAt (b ∷ l) (after_text t l)) (sym (ne_eqb b 39 other)) (SplitsAt-byte b l (after_text false l) other (text_splits false l))
+    ]
+text_splits true (b ∷ l) =
+    elim (cases_eq b 39) [
+      | inl quote ↦ subst (λ (c : ℕ). SplitsAt (39 ∷ c ∷ l) (after_text true (c ∷ l))) (sym quote) (SplitsAt-quotes l (after_text false l) (text_splits false l))
+      | inr other ↦ subst (λ (t : Bool). SplitsAt (39 ∷ b ∷ l) (cond t (after_text false l) (Some (b ∷ l)))) (sym (ne_eqb b 39 other)) ([], refl, ne_eqb b 39 other)
+    ]
+
+pub SplitsAt-after : (l : List ℕ) (rest : Option (List ℕ)) → after_text false l ≡ rest → SplitsAt l rest
+SplitsAt-after l rest same = subst (SplitsAt l) same (text_splits false l)
+
+-- UTF-8 may be cut at a quote, and joined there
+utf8_around_quote : (front rest : List ℕ) → IsUtf8 (front ++ 39 ∷ rest) → IsUtf8 front × IsUtf8 rest
+utf8_around_quote front rest h =
+    let bs = front ++ 39 ∷ rest in
+    let at : length front < length bs = grind (arith, common_steps) in
+    let ascii : get_or bs (length front) 0 < 128 = grind (arith, get_or_at front 39 rest 0 (length front) refl) in
+    let before : take (length front) bs ≡ front = grind (arith, common_steps) in
+    let later : drop (length front + 1) bs ≡ rest = grind (arith, common_steps) in (
+      subst IsUtf8 before (IsUtf8-take bs (length front) h (IsCharBoundary-before_ascii bs (length front) at ascii)),
+      subst IsUtf8 later (IsUtf8-drop bs (length front + 1) h (IsCharBoundary-after_ascii bs (length front) h at ascii)),
+    )
+
+utf8_with_quote : (front rest : List ℕ) → IsUtf8 front → IsUtf8 rest → IsUtf8 (front ++ 39 ∷ rest)
+utf8_with_quote front rest before later =
+    let quote : IsUtf8 (39 ∷ []) = IsUtf8-from_ascii (39 ∷ []) (IsAscii-cons 39 [] (omega arith) IsAscii-nil) in
+    IsUtf8-append front (39 ∷ rest) before (IsUtf8-append (39 ∷ []) rest quote later)
+
+-- a value is UTF-8 exactly where it is with its quotes doubled
+doubled_utf8 : (v front : List ℕ) → IsUtf8 (front ++ v) ↔ IsUtf8 (front ++ doubled v)
+doubled_utf8 [] front = (λ h. h, λ h. h)
+doubled_utf8 (b ∷ v) front =
+    elim (cases_eq b 39) [
+      | inl quote ↦ subst (λ (c : ℕ). IsUtf8 (front ++ c ∷ v) ↔ IsUtf8 (front ++ doubled (c ∷ v))) (sym quote) (
+        λ h. let parts = utf8_around_quote front v h in
+            utf8_with_quote front (39 ∷ doubled v) parts.0 (utf8_with_quote [] (doubled v) IsUtf8-nil ((doubled_utf8 v []).0 parts.1)),
+        λ h. let parts = utf8_around_quote front (39 ∷ doubled v) h in
+            utf8_with_quote front v parts.0 ((doubled_utf8 v []).1 (utf8_around_quote [] (doubled v) parts.1).1),
+      )
+      | inr other ↦ rw (doubled_byte b v other)
+          (rw (← append_assoc front (b ∷ []) v) (rw (← append_assoc front (b ∷ []) (doubled v)) (doubled_utf8 v (front ++ b ∷ []))))
+    ]
+
+-- so a text keeps its limit exactly where what is between its quotes is UTF-8
+pub text_limit : (kind : TokenKind) (text : List ℕ) → kind ≡ Text → HasForm kind text
+    → KeepsTokenLimit kind text ↔ IsUtf8 (between_quotes text)
+text_limit kind text is_text form =
+    let literal = subst (λ (k : TokenKind). HasForm k text) is_text form in
+    let v = literal.0 in
+    rw (is_text, literal.1, text_value_of-quoted v, between_quotes-quoted v) (doubled_utf8 v [])

@@ -1,5 +1,5 @@
 -- What the bytes of a token stand for.
-use Rattle.std.specs.Prelude.{ℕ, ◌≡◌, ◌+◌, ◌-◌, ◌*◌, ◌==◌, Bool, true, false, List, [], ◌∷◌, ◌++◌, length, map, fold, codes, if◌then◌else◌}
+use Rattle.std.specs.Prelude.{ℕ, ◌+◌, ◌-◌, ◌*◌, ◌==◌, Bool, true, false, List, [], ◌∷◌, ◌++◌, length, map, fold, codes, if◌then◌else◌}
 use Rattle.std.specs.List.{flat_map, slice_range}
 use Rattle.std.specs.Char.{to_ascii_uppercase}
 use Rattle.sql_values.specs.declared.op.Op.{Op}
@@ -17,23 +17,23 @@ number_value_of bytes = fold (λ value digit. 10 * value + (digit - 48)) 0 bytes
 abbrev pub doubled : List ℕ → List ℕ
 doubled value = flat_map (λ b. if b == 39 then 39 ∷ 39 ∷ [] else b ∷ []) value
 
--- what stands between the quotes of a text literal
-abbrev pub IsInside : List ℕ → Type 0
-IsInside bytes = (value : List ℕ) × (bytes ≡ doubled value)
-
 -- a value as a text literal: each quote doubled, between quotes
 abbrev pub quoted : List ℕ → List ℕ
 quoted value = 39 ∷ (doubled value ++ 39 ∷ [])
 
--- each byte but the second of two quotes; `skip` says that the first one stood before
+-- each byte but the second of two quotes; `skip` says that the first one stood just before
 abbrev pub halved : (skip : Bool) → List ℕ → List ℕ
 halved skip [] = []
 halved true (b ∷ bs) = halved false bs
 halved false (b ∷ bs) = b ∷ halved (b == 39) bs
 
--- a text literal stands for what lies between its quotes, with one quote for two
+-- what stands between the quotes of a text literal
+abbrev pub between_quotes : List ℕ → List ℕ
+between_quotes bytes = slice_range bytes 1 (length bytes - 1)
+
+-- a text literal stands for what is between its quotes, with one quote for two
 abbrev pub text_value_of : List ℕ → List ℕ
-text_value_of bytes = halved false (slice_range bytes 1 (length bytes - 1))
+text_value_of bytes = halved false (between_quotes bytes)
 
 -- how a comparison is spelled
 abbrev pub comparison_text : Op → List ℕ

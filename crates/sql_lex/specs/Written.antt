@@ -3,7 +3,7 @@ use Rattle.std.specs.Prelude.{ℕ, ◌+◌, List, [], ◌∷◌, ◌++◌, lengt
 use Rattle.std.specs.Bool.{IsFalse}
 use Rattle.std.specs.List.{AllPass}
 use Rattle.sql_lex.specs.Bytes.{is_white}
-use Rattle.sql_lex.specs.Forms.{HasForm, IsWithinLimit, goes_on}
+use Rattle.sql_lex.specs.Forms.{HasForm, KeepsTokenLimit, goes_on}
 use Rattle.sql_lex.specs.declared.token.Token.{Token}
 use Rattle.sql_lex.specs.declared.token.TokenKind.{TokenKind}
 
@@ -26,10 +26,13 @@ written_tokens from (token ∷ tokens) =
     let end = start + length token.bytes in
     record { kind = token.kind; start = start; end = end } ∷ written_tokens end tokens
 
--- each token may be written so: it has its kind's form and limit, and doesn't go on with the byte written behind it
+-- each token may be written so: it has its kind's form, keeps its limit, and doesn't go on with
+-- the byte that is written after it
 abbrev pub MayBeWritten : List Written → Type 0
 MayBeWritten [] = Unit {0}
 MayBeWritten (token ∷ tokens) =
-    AllPass is_white token.space × HasForm token.kind token.bytes × IsWithinLimit token.kind token.bytes
+    AllPass is_white token.space
+    × HasForm token.kind token.bytes
+    × KeepsTokenLimit token.kind token.bytes
     × IsFalse (goes_on token.kind token.bytes (slice_index (written_text tokens) 0))
     × MayBeWritten tokens

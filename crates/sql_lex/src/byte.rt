@@ -1,6 +1,7 @@
-ghost use Rattle.std.specs.Prelude.{◌≡◌, ℕ, ◌<◌, ◌≤◌, true, false, length, slice_index};
+// Tests of bytes, and how far the bytes that pass one of them go. It relies on nothing, and never knows what a token is.
+ghost use Rattle.std.specs.Prelude.{◌≡◌, ◌≤◌, length};
 ghost use Rattle.sql_lex.specs.Bytes.{is_white, is_sign, starts_comparison, is_second};
-ghost use Rattle.sql_lex.specs.Run.{belongs};
+ghost use Rattle.sql_lex.specs.Run.{belongs, IsRun};
 
 pub(crate) const QUOTE: u8 = b'\'';
 
@@ -24,7 +25,7 @@ pub(crate) fn starts_comparison(byte: u8) -> bool
     matches!(byte, b'=' | b'<' | b'>')
 }
 
-// Whether `second` behind `first` belongs to one comparison.
+// Whether `first` and `second` are one comparison.
 pub(crate) fn is_second(first: u8, second: u8) -> bool
     ensures { result ≡ is_second first second }
 {
@@ -35,7 +36,7 @@ pub(crate) fn is_second(first: u8, second: u8) -> bool
     }
 }
 
-// What goes on for as long as its bytes do.
+// What ends where the next byte doesn't belong to it.
 #[derive(Clone, Copy)]
 pub(crate) enum Run {
     Comment,
@@ -54,14 +55,10 @@ impl Run {
         }
     }
 
-    // The place of the first byte from `start` on that does not belong, or the script's end.
+    // The place of the first byte from `start` on that doesn't belong, or the script's end.
     pub(crate) fn end(self, text: &[u8], start: usize) -> usize
         requires { start ≤ length text.now }
-        ensures in_order { start ≤ result }
-        ensures in_text { result ≤ length text.now }
-        ensures inside { (k : ℕ) → start ≤ k → k < result →
-            belongs self (slice_index text.now k) ≡ true }
-        ensures stops { result < length text.now → belongs self (slice_index text.now result) ≡ false }
+        ensures { IsRun (belongs self) text.now start result }
     {
         let mut end = start;
         while end < text.len() && self.belongs(text[end]) {

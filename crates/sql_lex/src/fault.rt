@@ -1,3 +1,5 @@
+// What is wrong with a script that has no tokens. It never names more than the first fault.
+
 /// Why a script has no tokens.
 #[derive(Clone, Copy, Debug, PartialEq, Eq)]
 pub enum LexKind {
@@ -5,20 +7,20 @@ pub enum LexKind {
     Byte,
     /// A text with no closing quote.
     OpenText,
-    /// A number above the greatest one.
+    /// A number above `MAX_NUMBER`.
     Number,
-    /// A word of too many bytes.
+    /// A word of more than `MAX_WORD_BYTES` bytes.
     Name,
-    /// A text whose value is not UTF-8.
+    /// A text whose value isn't UTF-8.
     Utf8,
-    /// No memory for the list of tokens.
+    /// Out of memory for the list of tokens.
     NoMemory,
 }
 
-/// The first offending token of a script.
+/// The first fault of a script.
 #[derive(Clone, Copy, Debug, PartialEq, Eq)]
 pub struct LexFault {
-    /// The place of its first byte, from 0. Where memory ran out, no clause says which place this is.
+    /// The place of its first byte, from 0. Out of memory, no clause says which place this is.
     pub place: usize,
     pub kind: LexKind,
 }

@@ -1,117 +1,68 @@
-ghost use Rattle.std.specs.Prelude.{◌≡◌, ◌+◌, ◌<◌, ◌==◌, length, drop, slice_index, slice_range, IsTrue, IfSome, IfNone};
+// The one token that begins at a place, or what is wrong there. It relies on the caller that no white space and no
+// comment begins there, and never looks further than the token and the byte after it.
+ghost use Rattle.std.specs.Prelude.{◌≡◌, ◌<◌, length, slice_index, Some, Ok, Err, IsTrue, IfOk, IfErr, IfSome, IfNone};
 ghost use Rattle.std.specs.Bool.{IsFalse};
-ghost use Rattle.std.specs.Char.{is_ascii_alphabetic, is_ascii_digit};
-ghost use Rattle.sql_lex.specs.Bytes.{is_white, starts_comparison};
-ghost use Rattle.sql_lex.specs.Gap.{comment_begins};
-ghost use Rattle.sql_lex.specs.Values.{IsInside};
-ghost use Rattle.sql_lex.specs.Tokens.{IsToken, ReadsAt};
+ghost use Rattle.sql_lex.specs.Bytes.{starts_comparison};
+ghost use Rattle.sql_lex.specs.Gap.{gap_begins};
+ghost use Rattle.sql_lex.specs.Tokens.{IsWhole, StandsAt};
+ghost use Rattle.sql_lex.specs.declared.token.TokenKind.{TokenKind};
+ghost use Rattle.sql_lex.specs.declared.fault.LexKind.{LexKind};
 
 use crate::byte::{QUOTE, Run, is_second, is_sign, starts_comparison};
 use crate::fault::{LexFault, LexKind};
 use crate::gap::byte_at;
-use crate::token::{MAX_NUMBER, MAX_WORD_BYTES, Token, TokenKind};
-use crate::value::capped_number;
+use crate::limit::broken_limit;
+use crate::token::{Token, TokenKind};
 
-// The token that begins at `start`, or what is wrong with it.
+// The token that begins at `start`, or what is wrong there.
 pub(crate) fn token_at(text: &[u8], start: usize) -> Result<Token, LexFault>
     requires in_text { start < length text.now }
-    requires no_white { IsFalse (is_white (slice_index text.now start)) }
-    requires no_comment { IsFalse (comment_begins text.now start) }
-    ensures { ReadsAt text.now start result }
+    requires no_gap { IsFalse (gap_begins text.now start) }
+    ensures token { IfOk result (λ token. StandsAt text.now start (Ok (Some token))) }
+    ensures fault { IfErr result (λ fault. StandsAt text.now start (Err fault)) }
+{
+    let (kind, end) = match form_at(text, start) {
+        Ok(form) => form,
+        Err(kind) => return Err(LexFault { place: start, kind }),
+    };
+    match broken_limit(kind, &text[start..end]) {
+        Some(kind) => Err(LexFault { place: start, kind }),
+        None => Ok(Token { kind, start, end }),
+    }
+}
+
+// The kind of the form that begins at `start`, and the place after its last byte.
+fn form_at(text: &[u8], start: usize) -> Result<(TokenKind, usize), LexKind>
+    requires in_text { start < length text.now }
+    requires no_gap { IsFalse (gap_begins text.now start) }
+    ensures whole { IfOk result (λ form. IsWhole text.now form.0 start form.1) }
+    ensures none { IfErr result (λ fault.
+        StandsAt text.now start (Err (record { place = start; kind = fault }))) }
 {
     let first = text[start];
     if first.is_ascii_alphabetic() {
-        word_at(text, start)
+        Ok((TokenKind::Word, Run::Word.end(text, start)))
     } else if first.is_ascii_digit() {
-        number_at(text, start)
+        Ok((TokenKind::Number, Run::Number.end(text, start)))
     } else if first == QUOTE {
-        text_at(text, start)
+        let end = text_end(text, start).ok_or(LexKind::OpenText)?;
+        Ok((TokenKind::Text, end))
     } else if starts_comparison(first) {
-        Ok(comparison_at(text, start))
+        Ok((TokenKind::Comparison, comparison_end(text, start)))
     } else if is_sign(first) {
-        Ok(Token {
-            kind: TokenKind::Sign,
-            start,
-            end: start + 1,
-        })
+        Ok((TokenKind::Sign, start + 1))
     } else {
-        Err(LexFault {
-            place: start,
-            kind: LexKind::Byte,
-        })
+        Err(LexKind::Byte)
     }
 }
 
-fn word_at(text: &[u8], start: usize) -> Result<Token, LexFault>
-    requires in_text { start < length text.now }
-    requires letter { IsTrue (is_ascii_alphabetic (slice_index text.now start)) }
-    ensures { ReadsAt text.now start result }
-{
-    let end = Run::Word.end(text, start);
-    if end - start > MAX_WORD_BYTES {
-        return Err(LexFault {
-            place: start,
-            kind: LexKind::Name,
-        });
-    }
-    Ok(Token {
-        kind: TokenKind::Word,
-        start,
-        end,
-    })
-}
-
-fn number_at(text: &[u8], start: usize) -> Result<Token, LexFault>
-    requires in_text { start < length text.now }
-    requires digit { IsTrue (is_ascii_digit (slice_index text.now start)) }
-    ensures { ReadsAt text.now start result }
-{
-    let end = Run::Number.end(text, start);
-    if capped_number(&text[start..end]) > MAX_NUMBER {
-        return Err(LexFault {
-            place: start,
-            kind: LexKind::Number,
-        });
-    }
-    Ok(Token {
-        kind: TokenKind::Number,
-        start,
-        end,
-    })
-}
-
-fn text_at(text: &[u8], start: usize) -> Result<Token, LexFault>
+// The place after the quote that closes the text which begins at `start`.
+fn text_end(text: &[u8], start: usize) -> Option<usize>
     requires in_text { start < length text.now }
     requires quote { slice_index text.now start ≡ 39 }
-    ensures { ReadsAt text.now start result }
-{
-    let Some(close) = closing_quote(text, start) else {
-        return Err(LexFault {
-            place: start,
-            kind: LexKind::OpenText,
-        });
-    };
-    if str::from_utf8(&text[start + 1..close]).is_err() {
-        return Err(LexFault {
-            place: start,
-            kind: LexKind::Utf8,
-        });
-    }
-    Ok(Token {
-        kind: TokenKind::Text,
-        start,
-        end: close + 1,
-    })
-}
-
-// The place of the quote that closes the text which begins at `start`.
-fn closing_quote(text: &[u8], start: usize) -> Option<usize>
-    requires in_text { start < length text.now }
-    ensures in_order { IfSome result (λ close. (start < close) × (close < length text.now)) }
-    ensures quote { IfSome result (λ close. slice_index text.now close ≡ 39) }
-    ensures alone { IfSome result (λ close. IsFalse (slice_index text.now (close + 1) == 39)) }
-    ensures inside { IfSome result (λ close. IsInside (slice_range text.now (start + 1) close)) }
-    ensures none { IfNone result (IsInside (drop (start + 1) text.now)) }
+    ensures whole { IfSome result (λ end. IsWhole text.now TokenKind.Text start end) }
+    ensures open { IfNone result
+        (StandsAt text.now start (Err (record { place = start; kind = LexKind.OpenText }))) }
 {
     let mut at = start + 1;
     while at < text.len() {
@@ -120,24 +71,21 @@ fn closing_quote(text: &[u8], start: usize) -> Option<usize>
         } else if byte_at(text, at + 1) == QUOTE {
             at += 2;
         } else {
-            return Some(at);
+            return Some(at + 1);
         }
     }
     None
 }
 
-// The comparison that begins at `start`.
-fn comparison_at(text: &[u8], start: usize) -> Token
+// The place after the comparison that begins at `start`.
+fn comparison_end(text: &[u8], start: usize) -> usize
     requires in_text { start < length text.now }
     requires first { IsTrue (starts_comparison (slice_index text.now start)) }
-    ensures start { result.start ≡ start }
-    ensures token { IsToken text.now result }
+    ensures { IsWhole text.now TokenKind.Comparison start result }
 {
-    let is_long = is_second(text[start], byte_at(text, start + 1));
-    let end = if is_long { start + 2 } else { start + 1 };
-    Token {
-        kind: TokenKind::Comparison,
-        start,
-        end,
+    if is_second(text[start], byte_at(text, start + 1)) {
+        start + 2
+    } else {
+        start + 1
     }
 }

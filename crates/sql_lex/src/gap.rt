@@ -1,12 +1,11 @@
+// White space and comments between tokens. It relies on the tests of bytes, and never looks into a token.
 ghost use Rattle.std.specs.Prelude.{◌≡◌, ◌<◌, ◌≤◌, length, slice_index};
 ghost use Rattle.std.specs.Bool.{IsFalse};
-ghost use Rattle.sql_lex.specs.Bytes.{is_white};
-ghost use Rattle.sql_lex.specs.Tokens.{IsGap, FollowsGap};
-ghost use Rattle.sql_lex.specs.Gap.{comment_begins};
+ghost use Rattle.sql_lex.specs.Gap.{IsGap, comment_begins, gap_begins};
 
 use crate::byte::{MINUS, Run, is_white};
 
-// The byte at a place, or 0 behind the script's end.
+// The byte at a place, or 0 after the script's end.
 pub(crate) fn byte_at(text: &[u8], place: usize) -> u8
     ensures { result ≡ slice_index text.now place }
 {
@@ -20,15 +19,12 @@ fn comment_begins(text: &[u8], place: usize) -> bool
     byte_at(text, place) == MINUS && byte_at(text, place + 1) == MINUS
 }
 
-// Where the white space and the comments end that stand from `from` on.
+// The place after the white space and the comments that stand from `from` on.
 pub(crate) fn gap_end(text: &[u8], from: usize) -> usize
     requires { from ≤ length text.now }
-    ensures in_order { from ≤ result }
     ensures in_text { result ≤ length text.now }
     ensures gap { IsGap text.now from result }
-    ensures follows { result < length text.now → FollowsGap text.now from result }
-    ensures no_white { result < length text.now → IsFalse (is_white (slice_index text.now result)) }
-    ensures no_comment { result < length text.now → IsFalse (comment_begins text.now result) }
+    ensures stops { result < length text.now → IsFalse (gap_begins text.now result) }
 {
     let mut end = from;
     while end < text.len() {

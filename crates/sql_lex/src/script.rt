@@ -1,8 +1,11 @@
-ghost use Rattle.std.specs.Prelude.{◌≡◌, ℕ, ◌≤◌, ◌⊎◌, List, length, IfOk, IfErr, MatchOption, MatchResult};
+// All tokens of a script, and the two laws of tokens. It relies on `gap` and `form` for one token, and never goes back
+// past the end of a token.
+ghost use Rattle.std.specs.Prelude.{◌≡◌, ℕ, ◌≤◌, ◌⊎◌, List, None, Result, length, IfOk, IfErr};
 ghost use Rattle.std.specs.List.{All};
-ghost use Rattle.sql_lex.specs.Tokens.{IsGap, FollowsGap, IsToken, Offends, Tokens, IsFirstFault};
+ghost use Rattle.sql_lex.specs.Tokens.{IsToken, ComesNext, Tokens, IsFirstFault, IsLexing};
 ghost use Rattle.sql_lex.specs.Written.{Written, MayBeWritten, written_text, written_tokens};
 ghost use Rattle.sql_lex.specs.declared.token.Token.{Token};
+ghost use Rattle.sql_lex.specs.declared.fault.LexFault.{LexFault};
 ghost use Rattle.sql_lex.specs.declared.fault.LexKind.{LexKind};
 
 use crate::fault::{LexFault, LexKind};
@@ -11,29 +14,16 @@ use crate::gap::gap_end;
 use crate::token::Token;
 use std::alloc::Global;
 
-/// All tokens of a script, in order, in one pass.
+/// All tokens of a script, in order.
 ///
 /// White space is space, tab, line feed and carriage return. A comment begins with `--` and ends before the next line
-/// feed or at the script's end, and may hold any bytes (SQL-92, 5.2). The longest token is taken. A refusal names the
-/// first offending token; only for want of memory may a script with tokens be refused.
+/// feed or at the script's end, and may hold any bytes (SQL-92, 5.2). The longest token is taken.
+///
+/// A refusal names the first fault; `NoMemory` alone may come at any time. By `one_lexing_is_due` no other tokens, and
+/// no other place or kind, fit the script.
 pub fn lex(alloc: Global, text: &[u8]) -> Result<Vec<Token>, LexFault>
-    ensures found { IfOk result (λ answer. Tokens text.now answer.items) }
-    ensures each { IfOk result (λ answer. All (IsToken text.now) answer.items) }
-    ensures only { (tokens : List Token) → Tokens text.now tokens →
-        MatchResult result (λ answer. answer.items ≡ tokens)
-        (λ fault. fault.kind ≡ LexKind.NoMemory) }
-
-    ensures offends { IfErr result (λ fault.
-        (fault.kind ≡ LexKind.NoMemory) ⊎ IsFirstFault text.now fault.place fault.kind) }
-    ensures first { (place : ℕ) (kind : LexKind) → IsFirstFault text.now place kind →
-        MatchResult result (λ _. ⊥) (λ fault.
-        (fault.kind ≡ LexKind.NoMemory) ⊎ ((fault.place ≡ place) × (fault.kind ≡ kind))) }
-{
-    read(alloc, text)
-}
-
-fn read(alloc: Global, text: &[u8]) -> Result<Vec<Token>, LexFault>
-    ensures found { IfOk result (λ answer. Tokens text.now answer.items) }
+    ensures found { IfOk result (λ tokens. Tokens text.now tokens.items) }
+    ensures each { IfOk result (λ tokens. All (IsToken text.now) tokens.items) }
     ensures offends { IfErr result (λ fault.
         (fault.kind ≡ LexKind.NoMemory) ⊎ IsFirstFault text.now fault.place fault.kind) }
 {
@@ -51,13 +41,10 @@ fn read(alloc: Global, text: &[u8]) -> Result<Vec<Token>, LexFault>
     Ok(tokens)
 }
 
-// The first token from `from` on, or none where a gap alone is left.
+// The next token from `from` on, or none where a gap alone is left.
 fn next_token(text: &[u8], from: usize) -> Result<Option<Token>, LexFault>
     requires { from ≤ length text.now }
-    ensures token { IfOk result (λ next. MatchOption next (IsGap text.now from (length text.now))
-        (λ token. FollowsGap text.now from token.start × IsToken text.now token)) }
-    ensures fault { IfErr result (λ fault.
-        FollowsGap text.now from fault.place × Offends text.now fault.kind fault.place) }
+    ensures { ComesNext text.now from result }
 {
     let start = gap_end(text, from);
     if start == text.len() {
@@ -67,8 +54,17 @@ fn next_token(text: &[u8], from: usize) -> Result<Option<Token>, LexFault>
     Ok(Some(token))
 }
 
-/// What is written is read: tokens one after another, with white space where one would go on into the next, are these
-/// tokens again. So `lex` answers them for that text, unless memory runs out.
+/// The law of lexing: every script has tokens or a first fault, and no script is read in two ways. A script with
+/// tokens has these alone and no first fault; one with a first fault has this one alone and no tokens.
+pub fn one_lexing_is_due()
+    ensures some { (script : List ℕ) →
+        (lexing : Result (List Token) LexFault) × IsLexing script lexing }
+    ensures one { (script : List ℕ) (one other : Result (List Token) LexFault) →
+        IsLexing script one → IsLexing script other → one ≡ other }
+{}
+
+/// The law of writing: tokens written one after another, with white space where one would go on into the next, are
+/// the tokens of that text. So `lex` returns them for it, or is out of memory.
 pub fn written_is_read()
     ensures { (tokens : List Written) → MayBeWritten tokens →
         Tokens (written_text tokens) (written_tokens 0 tokens) }

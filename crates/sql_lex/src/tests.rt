@@ -1,3 +1,5 @@
+// What no clause says: that each call succeeds where memory is ample. A table of scripts with a name each, whose
+// expected tokens and faults are those of the rules, written by hand.
 use super::*;
 use Want::{Fault, Tokens};
 use std::test::Fail;
@@ -36,7 +38,7 @@ static CASES: [(&str, &[u8], Want); 76] = [
     ("two comments", b"--a\n--b\nc", Tokens(&[(W, 8, 9)])),
     ("a carriage return ends no comment", b"--a\rb", Tokens(&[])),
     (
-        "a comment right behind a word",
+        "a comment right after a word",
         b"a--b\nc",
         Tokens(&[(W, 0, 1), (W, 5, 6)]),
     ),
@@ -104,7 +106,7 @@ static CASES: [(&str, &[u8], Want); 76] = [
         Fault(LexKind::Number, 0),
     ),
     (
-        "a faulty number behind a word",
+        "a faulty number after a word",
         b"a 9223372036854775808",
         Fault(LexKind::Number, 2),
     ),
@@ -147,11 +149,7 @@ static CASES: [(&str, &[u8], Want); 76] = [
         Fault(LexKind::OpenText, 0),
     ),
     ("three quotes", b"'''", Fault(LexKind::OpenText, 0)),
-    (
-        "one quote behind a sign",
-        b"('",
-        Fault(LexKind::OpenText, 1),
-    ),
+    ("one quote after a sign", b"('", Fault(LexKind::OpenText, 1)),
     (
         "an open text that is no UTF-8",
         b"'\xff",
@@ -273,11 +271,7 @@ static CASES: [(&str, &[u8], Want); 76] = [
         b"a ! 'b",
         Fault(LexKind::Byte, 2),
     ),
-    (
-        "a fault behind a comment",
-        b"--\n!",
-        Fault(LexKind::Byte, 3),
-    ),
+    ("a fault after a comment", b"--\n!", Fault(LexKind::Byte, 3)),
     (
         "a statement",
         b"SELECT a.b FROM t WHERE c<=5;",

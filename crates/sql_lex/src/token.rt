@@ -1,8 +1,4 @@
-/// The most bytes that a word has (SQL-92, 5.2, says 128 characters).
-pub const MAX_WORD_BYTES: usize = 128;
-
-/// The greatest value that a number has: the greatest INTEGER, 2^63 - 1.
-pub const MAX_NUMBER: u64 = 9_223_372_036_854_775_807;
+// A token: its kind and its place. It never holds the token's bytes or its value.
 
 /// What a token is (SQL-92, 5.2).
 #[derive(Clone, Copy, Debug, PartialEq, Eq)]
@@ -25,6 +21,6 @@ pub struct Token {
     pub kind: TokenKind,
     /// The place of its first byte, from 0.
     pub start: usize,
-    /// The place behind its last byte.
+    /// The place after its last byte.
     pub end: usize,
 }

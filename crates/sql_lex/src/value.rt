@@ -1,8 +1,9 @@
+// What a token stands for, read from its bytes. It relies on the form that `lex` found, and never tests it again.
 ghost use Rattle.std.specs.Prelude.{◌≡◌, ◌-◌, ◌^◌, ◌↔◌, min, IsTrue, IfOk};
 ghost use Rattle.std.specs.List.{AllPass};
 ghost use Rattle.std.specs.Char.{is_ascii_digit};
-ghost use Rattle.sql_lex.specs.Values.{word_value_of, number_value_of, text_value_of, quoted, comparison_text};
-ghost use Rattle.sql_lex.specs.Forms.{HasForm, IsWithinLimit};
+ghost use Rattle.sql_lex.specs.Values.{word_value_of, number_value_of, between_quotes, text_value_of, quoted, comparison_text};
+ghost use Rattle.sql_lex.specs.Forms.{HasForm, KeepsTokenLimit};
 ghost use Rattle.sql_lex.specs.declared.token.TokenKind.{TokenKind};
 
 use crate::byte::QUOTE;
@@ -39,7 +40,7 @@ pub fn is_word(word: &[u8], value: &[u8]) -> bool
 /// A number's value, at most `MAX_NUMBER`.
 pub fn number_value(number: &[u8]) -> u64
     requires form { HasForm TokenKind.Number number.now }
-    requires limit { IsWithinLimit TokenKind.Number number.now }
+    requires limit { KeepsTokenLimit TokenKind.Number number.now }
     ensures { result ≡ number_value_of number.now }
 {
     capped_number(number)
@@ -66,7 +67,7 @@ pub fn text_value(alloc: Global, text: &[u8]) -> Result<Text, AllocError>
     ensures value { IfOk result (λ value. value ≡ text_value_of text.now) }
     ensures spelling { IfOk result (λ value. text.now ≡ quoted value) }
 {
-    let inside = &text[1..text.len() - 1];
+    let inside = between_quotes(text);
     let mut value = Vec::with_capacity(alloc, inside.len())?;
     let mut is_second = false;
     for byte in inside {
@@ -80,7 +81,15 @@ pub fn text_value(alloc: Global, text: &[u8]) -> Result<Text, AllocError>
     Ok(Text::from(value))
 }
 
-// The value of digits, or the greatest `u64` where it is above that.
+// What stands between the quotes of a text literal.
+pub(crate) fn between_quotes(text: &[u8]) -> &[u8]
+    requires { HasForm TokenKind.Text text.now }
+    ensures { result.now ≡ between_quotes text.now }
+{
+    &text[1..text.len() - 1]
+}
+
+// The value of digits, or the greatest `u64` where the value is above that.
 pub(crate) fn capped_number(digits: &[u8]) -> u64
     requires { AllPass is_ascii_digit digits.now }
     ensures { result ≡ min (number_value_of digits.now) (2 ^ 64 - 1) }

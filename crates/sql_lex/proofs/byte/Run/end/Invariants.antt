@@ -5,7 +5,7 @@ use Rattle.sql_lex.proofs.byte.Run.end.Given as goal
 abbrev pub invariant-loop-end : goal.invariant-loop-end
 invariant-loop-end l = record {
   in_order : l.start ≤ l.end;
-  in_text : l.end ≤ length l.text;
+  in_script : l.end ≤ length l.text;
   inside : (k : ℕ) → l.start ≤ k → k < l.end → belongs l.self (get_or l.text k 0) ≡ true;
 }
 
