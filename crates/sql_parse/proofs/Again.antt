@@ -1,0 +1,159 @@
+-- What is written by the grammar is read again, whatever follows it.
+use Rattle.std.proofs.Common.{◌≡◌, ℕ, zero, suc, ◌≤◌, ◌⊎◌, inl, inr, true, false, List, [], ◌∷◌, ◌++◌, length, Option, Some, None, ℤ, refl, sym, ap, ◌∙◌, append_assoc, length-append, codes, bytes_eq, arith}
+use Rattle.std.proofs.lemmas.Slice.Eq.{bytes_eq-Decides}
+use Rattle.sql_lex.specs.declared.token.TokenKind.{TokenKind}
+use Rattle.sql_lex.specs.declared.token.TokenKind.TheVariants as kinds
+use Rattle.sql_parse.specs.declared.mark.Mark.{Mark}
+use Rattle.sql_parse.specs.declared.mark.Mark.TheVariants as m
+use Rattle.sql_parse.specs.declared.tree.Term.{Term}
+use Rattle.sql_parse.specs.declared.tree.Term.TheVariants as term
+use Rattle.sql_values.specs.declared.value.Value.TheVariants as value
+use Rattle.sql_parse.specs.Lexemes.{Lexeme, Word, mark, is_reserved}
+use Rattle.sql_parse.specs.Grammar.{Rule, IsName, Separated, InParentheses, IsColumnName, IsColRef, IsInteger, IsOperand}
+use Rattle.sql_parse.specs.Reading.{Reader, after_mark, name_at, number_at, text_at, more_at, list_with_first, list_at, in_parentheses_at, colref_at, unsigned_at, integer_at, kind_at, operand_at}
+use Rattle.sql_parse.proofs.Lists.{more_at-end}
+
+-- each form is read again where Follows holds of what follows it
+abbrev pub IsReadAgain : {A : Type 0} → Rule A → Reader A → (Follows : List Lexeme → Type 0) → Type 0
+IsReadAgain {A} IsForm read Follows =
+    (tokens : List Lexeme) (x : A) (rest : List Lexeme) → IsForm tokens x → Follows rest → read (tokens ++ rest) ≡ Some (x, rest)
+
+-- no dot follows
+abbrev pub NoDot : List Lexeme → Type 0
+NoDot rest = after_mark m.Dot rest ≡ None
+
+-- a name is no reserved word
+pub not_reserved : (word value : List ℕ) → IsName word → is_reserved value ≡ true → bytes_eq word value ≡ false
+not_reserved word value name reserved =
+    elim (bytes_eq word value) as (λ same. bytes_eq word value ≡ same → same ≡ false) [
+      | true ↦ λ is. let equal = (bytes_eq-Decides word value).0 is in
+          let wrong : true ≡ false = sym reserved ∙ (ap is_reserved (sym equal) ∙ name) in cc
+      | false ↦ λ is. refl
+    ] refl
+
+pub name_at-again : (word : List ℕ) (tokens : List Lexeme) → IsName word → name_at (Word word ∷ tokens) ≡ Some (word, tokens)
+unfolding name_at
+name_at-again word tokens name = rw name refl
+
+after_dot : (rest : List Lexeme) → after_mark m.Dot (mark m.Dot ∷ rest) ≡ Some rest
+unfolding after_mark
+after_dot rest = refl
+
+column_name-again : (alias : Option (List ℕ)) (column : List ℕ) (tokens rest : List Lexeme) → IsColumnName alias tokens column → NoDot rest
+    → colref_at (tokens ++ rest) ≡ Some (record { alias = alias; column = column }, rest)
+unfolding colref_at name_at
+column_name-again None column tokens rest form follows = rw (form.0, form.1, follows) refl
+column_name-again (Some alias) column tokens rest form follows = rw (form.0, form.1, after_dot (Word column ∷ rest), form.2) refl
+
+pub colref-again : IsReadAgain IsColRef colref_at NoDot
+colref-again tokens column rest form follows = column_name-again column.alias column.column tokens rest form follows
+
+integer_at-again : IsReadAgain IsInteger integer_at (λ rest. Unit {0})
+unfolding integer_at unsigned_at number_at after_mark
+integer_at-again tokens n rest form follows = elim form.1 [
+  | inl bare ↦ rw (bare.0, bare.1) refl
+  | inr (inl plus) ↦ rw (plus.0, plus.1) refl
+  | inr (inr minus) ↦ rw (minus.0, minus.1) refl
+]
+
+kind_at-column : (alias : Option (List ℕ)) (column : List ℕ) (tokens rest : List Lexeme) → IsColumnName alias tokens column
+    → kind_at (tokens ++ rest) ≡ Some kinds.Word
+kind_at-column None column tokens rest form = rw form.0 refl
+kind_at-column (Some alias) column tokens rest form = rw form.0 refl
+
+operand_of_kind-number : (kind : Option TokenKind) (tokens rest : List Lexeme) (n : ℤ) → kind_at tokens ≡ kind → (kind ≡ Some kinds.Word → ⊥) → (kind ≡ Some kinds.Text → ⊥)
+    → integer_at tokens ≡ Some (n, rest) → operand_at tokens ≡ Some (term.Literal (value.Int n), rest)
+unfolding operand_at
+operand_of_kind-number None tokens rest n is no_word no_text found = rw (is, found) refl
+operand_of_kind-number (Some kinds.Word) tokens rest n is no_word no_text found = absurd (no_word refl)
+operand_of_kind-number (Some kinds.Number) tokens rest n is no_word no_text found = rw (is, found) refl
+operand_of_kind-number (Some kinds.Text) tokens rest n is no_word no_text found = absurd (no_text refl)
+operand_of_kind-number (Some kinds.Sign) tokens rest n is no_word no_text found = rw (is, found) refl
+operand_of_kind-number (Some kinds.Comparison) tokens rest n is no_word no_text found = rw (is, found) refl
+
+integer-kind : (tokens rest : List Lexeme) (n : ℤ) → IsInteger tokens n → (kind_at (tokens ++ rest) ≡ Some kinds.Number) ⊎ (kind_at (tokens ++ rest) ≡ Some kinds.Sign)
+integer-kind tokens rest n form = elim form.1 [
+  | inl bare ↦ inl (rw bare.0 refl)
+  | inr (inl plus) ↦ inr (rw plus.0 refl)
+  | inr (inr minus) ↦ inr (rw minus.0 refl)
+]
+
+pub operand-again : IsReadAgain IsOperand operand_at NoDot
+unfolding operand_at text_at
+operand-again tokens (term.Column column) rest form follows =
+    rw (kind_at-column column.alias column.column tokens rest form, colref-again tokens column rest form follows) refl
+operand-again tokens (term.Literal (value.Int n)) rest form follows = elim (integer-kind tokens rest n form) [
+  | inl number ↦ operand_of_kind-number _ (tokens ++ rest) rest n number (λ is. cc) (λ is. cc) (integer_at-again tokens n rest form tt)
+  | inr sign ↦ operand_of_kind-number _ (tokens ++ rest) rest n sign (λ is. cc) (λ is. cc) (integer_at-again tokens n rest form tt)
+]
+operand-again tokens (term.Literal (value.Text text)) rest form follows = rw form refl
+operand-again tokens (term.Literal value.Null) rest form follows = absurd form
+
+-- neither a parenthesis nor NOT stands first
+abbrev pub BeginsOperand : List Lexeme → Type 0
+BeginsOperand tokens = (after_mark m.OpenParen tokens ≡ None) × (after_mark m.Not tokens ≡ None)
+
+column-begins : (alias : Option (List ℕ)) (column : List ℕ) (tokens rest : List Lexeme) → IsColumnName alias tokens column → BeginsOperand (tokens ++ rest)
+unfolding after_mark
+column-begins None column tokens rest form = rw (form.0, not_reserved column (codes "NOT") form.1 refl) (refl, refl)
+column-begins (Some alias) column tokens rest form = rw (form.0, not_reserved alias (codes "NOT") form.1 refl) (refl, refl)
+
+pub operand-begins : (tokens : List Lexeme) (operand : Term) (rest : List Lexeme) → IsOperand tokens operand → BeginsOperand (tokens ++ rest)
+unfolding after_mark
+operand-begins tokens (term.Column column) rest form = column-begins column.alias column.column tokens rest form
+operand-begins tokens (term.Literal (value.Int n)) rest form = elim form.1 [
+  | inl bare ↦ rw bare.0 (refl, refl)
+  | inr (inl plus) ↦ rw plus.0 (refl, refl)
+  | inr (inr minus) ↦ rw minus.0 (refl, refl)
+]
+operand-begins tokens (term.Literal (value.Text text)) rest form = rw form (refl, refl)
+operand-begins tokens (term.Literal value.Null) rest form = absurd form
+
+-- each separator is a token
+separators-counted : {A : Type 0} (separator : Mark) (IsPart : Rule A) (tokens : List Lexeme) (x : A) (xs : List A) → Separated separator IsPart tokens (x ∷ xs)
+    → length xs ≤ length tokens
+separators-counted separator IsPart tokens x [] form = omega arith
+separators-counted separator IsPart tokens x (y ∷ ys) form =
+    let counted = separators-counted separator IsPart form.1 y ys form.4 in
+    rw form.2 (omega (arith, counted, length-append form.0 (mark separator ∷ form.1)))
+
+more-again : {A : Type 0} (separator : Mark) (IsPart : Rule A) (part : Reader A) (Follows : List Lexeme → Type 0)
+    → ((rest : List Lexeme) → after_mark separator (mark separator ∷ rest) ≡ Some rest) → ((rest : List Lexeme) → Follows (mark separator ∷ rest)) → IsReadAgain IsPart part Follows
+    → (tokens : List Lexeme) (x : A) (xs : List A) (rest : List Lexeme) (most : ℕ) → length xs ≤ most → Separated separator IsPart tokens (x ∷ xs)
+    → Follows rest → after_mark separator rest ≡ None
+    → more_at part separator (suc most) (mark separator ∷ (tokens ++ rest)) ≡ Some (x ∷ xs, rest)
+unfolding more_at
+more-again separator IsPart part Follows it_follows parts_end again tokens x [] rest most room form follows ended =
+    rw (it_follows (tokens ++ rest), again tokens x rest form follows, more_at-end part separator most rest ended) refl
+more-again separator IsPart part Follows it_follows parts_end again tokens x (y ∷ ys) rest zero room form follows ended = absurd (omega arith)
+more-again separator IsPart part Follows it_follows parts_end again tokens x (y ∷ ys) rest (suc most) room form follows ended =
+    let next = mark separator ∷ (form.1 ++ rest) in
+    let first : part (tokens ++ rest) ≡ Some (x, next) =
+    ap (λ all. part (all ++ rest)) form.2 ∙ (ap part (append_assoc form.0 (mark separator ∷ form.1) rest) ∙ again form.0 x next form.3 (parts_end (form.1 ++ rest))) in
+    rw (it_follows (tokens ++ rest), first, more-again separator IsPart part Follows it_follows parts_end again form.1 y ys rest most (omega arith) form.4 follows ended) refl
+
+-- items with a separator between them are read again, where no further separator follows
+pub list-again : {A : Type 0} (separator : Mark) (IsPart : Rule A) (part : Reader A) (Follows : List Lexeme → Type 0)
+    → ((rest : List Lexeme) → after_mark separator (mark separator ∷ rest) ≡ Some rest) → ((rest : List Lexeme) → Follows (mark separator ∷ rest)) → IsReadAgain IsPart part Follows
+    → IsReadAgain (Separated separator IsPart) (list_at part separator) (λ rest. Follows rest × (after_mark separator rest ≡ None))
+unfolding list_at list_with_first
+list-again separator IsPart part Follows it_follows parts_end again tokens [] rest form follows = absurd form
+list-again separator IsPart part Follows it_follows parts_end again tokens (x ∷ []) rest form follows =
+    rw (again tokens x rest form follows.0, more_at-end part separator (length rest) rest follows.1) refl
+list-again separator IsPart part Follows it_follows parts_end again tokens (x ∷ y ∷ ys) rest form follows =
+    let next = mark separator ∷ (form.1 ++ rest) in
+    let first : part (tokens ++ rest) ≡ Some (x, next) =
+    ap (λ all. part (all ++ rest)) form.2 ∙ (ap part (append_assoc form.0 (mark separator ∷ form.1) rest) ∙ again form.0 x next form.3 (parts_end (form.1 ++ rest))) in
+    let counted = separators-counted separator IsPart form.1 y ys form.4 in
+    let room : length ys ≤ length (form.1 ++ rest) = omega (arith, counted, length-append form.1 rest) in
+    rw (first, more-again separator IsPart part Follows it_follows parts_end again form.1 y ys rest (length (form.1 ++ rest)) room form.4 follows.0 follows.1) refl
+
+-- a list in parentheses is read again, whatever follows it
+pub in_parentheses-again : {A : Type 0} (IsInside : Rule A) (inside : Reader A) (Follows : List Lexeme → Type 0) → ((rest : List Lexeme) → Follows (mark m.CloseParen ∷ rest))
+    → IsReadAgain IsInside inside Follows → IsReadAgain (InParentheses IsInside) (in_parentheses_at inside) (λ rest. Unit {0})
+unfolding in_parentheses_at after_mark
+in_parentheses-again IsInside inside Follows closes again tokens x rest form follows =
+    let later = mark m.CloseParen ∷ rest in
+    let found : inside ((form.0 ++ mark m.CloseParen ∷ []) ++ rest) ≡ Some (x, later) =
+    ap inside (append_assoc form.0 (mark m.CloseParen ∷ []) rest) ∙ again form.0 x later form.2 (closes rest) in
+    rw (form.1, found) refl

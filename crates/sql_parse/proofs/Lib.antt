@@ -1,0 +1,11 @@
+pub mod Lists
+pub mod Chains
+pub mod Again
+pub mod AgainConditions
+pub mod AgainStatements
+pub mod Read
+pub mod ReadConditions
+pub mod ReadStatements
+pub mod Pieces
+pub mod Scripts
+pub mod Counted

@@ -1,0 +1,223 @@
+-- The grammar: which tokens are written for which statement, production by production.
+use Rattle.std.specs.Prelude.{ℕ, zero, suc, ◌≡◌, ◌⊎◌, Bool, true, false, List, [], ◌∷◌, ◌++◌, map, Option, Some, None, ℤ, pos, neg_ℤ}
+use Rattle.std.specs.Bool.{IsFalse}
+use Rattle.sql_values.specs.declared.value.Value.TheVariants as value
+use Rattle.sql_values.specs.declared.column.ColumnDef.{ColumnDef}
+use Rattle.sql_values.specs.declared.column.ColumnType.{ColumnType}
+use Rattle.sql_values.specs.declared.column.ColumnType.TheVariants as kinds
+use Rattle.sql_parse.specs.declared.mark.Mark.{Mark}
+use Rattle.sql_parse.specs.declared.mark.Mark.TheVariants as m
+use Rattle.sql_parse.specs.declared.tree.Term.{Term}
+use Rattle.sql_parse.specs.declared.tree.Term.TheVariants as term
+use Rattle.sql_parse.specs.declared.tree.ColRef.{ColRef}
+use Rattle.sql_parse.specs.declared.tree.Item.{Item}
+use Rattle.sql_parse.specs.Limits.{nesting_limit}
+use Rattle.sql_parse.specs.Lexemes.{Lexeme, Word, Number, Text, Comparison, mark, is_reserved}
+use Rattle.sql_parse.specs.Trees.{ConditionTree, Compare, Between, OneOf, IsNull, Not, And, Or, operands, QueryTree, StatementTree, CreateTable, CreateIndex, Load, Select, Compile, Run, Explain, SaveFile, OpenFile, Audit}
+
+-- a rule: whether these tokens are written for this value
+abbrev pub Rule : Type 0 → Type 1
+Rule A = List Lexeme → A → Type 0
+
+-- a name: a word that isn't reserved
+abbrev pub IsName : List ℕ → Type 0
+IsName word = IsFalse (is_reserved word)
+
+-- the keywords, where they are written
+abbrev pub written_if : Bool → List Mark → List Lexeme
+written_if false marks = []
+written_if true marks = map mark marks
+
+-- a keyword and a number, where they are written
+abbrev pub option_of : Mark → Option ℕ → List Lexeme
+option_of keyword None = []
+option_of keyword (Some n) = mark keyword ∷ Number n ∷ []
+
+-- one or more parts, with the separator between each two
+abbrev pub Separated : {A : Type 0} → Mark → Rule A → Rule (List A)
+Separated separator IsPart tokens [] = ⊥
+Separated separator IsPart tokens (x ∷ []) = IsPart tokens x
+Separated separator IsPart tokens (x ∷ y ∷ xs) =
+    (part rest : List Lexeme) × (tokens ≡ part ++ mark separator ∷ rest)
+    × IsPart part x × Separated separator IsPart rest (y ∷ xs)
+
+-- a list in parentheses
+abbrev pub InParentheses : {A : Type 0} → Rule A → Rule A
+InParentheses IsInside tokens x =
+    (inside : List Lexeme) × (tokens ≡ mark m.OpenParen ∷ (inside ++ mark m.CloseParen ∷ [])) × IsInside inside x
+
+-- [ name "." ] name
+abbrev pub IsColumnName : (alias : Option (List ℕ)) → Rule (List ℕ)
+IsColumnName None tokens column = (tokens ≡ Word column ∷ []) × IsName column
+IsColumnName (Some alias) tokens column =
+    (tokens ≡ Word alias ∷ mark m.Dot ∷ Word column ∷ []) × IsName alias × IsName column
+
+-- colref = name [ "." name ]
+abbrev pub IsColRef : Rule ColRef
+IsColRef tokens column = IsColumnName column.alias tokens column.column
+
+-- [ "+" | "-" ] number
+abbrev pub IsInteger : Rule ℤ
+IsInteger tokens value =
+    (n : ℕ) × (
+    ((tokens ≡ Number n ∷ []) × (value ≡ pos n))
+    ⊎ ((tokens ≡ mark m.Plus ∷ Number n ∷ []) × (value ≡ pos n))
+    ⊎ ((tokens ≡ mark m.Minus ∷ Number n ∷ []) × (value ≡ neg_ℤ (pos n)))
+    )
+
+-- operand = colref | [ "+" | "-" ] number | text
+abbrev pub IsOperand : Rule Term
+IsOperand tokens (term.Column column) = IsColRef tokens column
+IsOperand tokens (term.Literal (value.Int n)) = IsInteger tokens n
+IsOperand tokens (term.Literal (value.Text text)) = tokens ≡ Text text ∷ []
+IsOperand tokens (term.Literal value.Null) = ⊥
+
+-- operand comparison operand, operand [ NOT ] BETWEEN operand AND operand,
+-- operand [ NOT ] IN "(" operand { "," operand } ")", colref IS [ NOT ] NULL
+abbrev pub IsPredicate : Rule ConditionTree
+IsPredicate tokens (Compare op left right) =
+    (a b : List Lexeme) × (tokens ≡ a ++ Comparison op ∷ b) × IsOperand a left × IsOperand b right
+IsPredicate tokens (Between negated of low high) =
+    (a b c : List Lexeme)
+    × (tokens ≡ a ++ (written_if negated (m.Not ∷ []) ++ mark m.Between ∷ (b ++ mark m.And ∷ c)))
+    × IsOperand a of × IsOperand b low × IsOperand c high
+IsPredicate tokens (OneOf negated of terms) =
+    (a b : List Lexeme) × (tokens ≡ a ++ (written_if negated (m.Not ∷ []) ++ mark m.In ∷ b))
+    × IsOperand a of × InParentheses (Separated m.Comma IsOperand) b terms
+IsPredicate tokens (IsNull negated column) =
+    (a : List Lexeme) × (tokens ≡ a ++ mark m.Is ∷ (written_if negated (m.Not ∷ []) ++ mark m.Null ∷ []))
+    × IsColRef a column
+IsPredicate tokens (Not inner) = ⊥
+IsPredicate tokens (And parts) = ⊥
+IsPredicate tokens (Or parts) = ⊥
+
+-- factor = [ NOT ] ( predicate | "(" cond ")" )
+abbrev pub IsFactor : (IsGroup : Rule ConditionTree) → Rule ConditionTree
+IsFactor IsGroup tokens tree =
+    IsPredicate tokens tree
+    ⊎ IsGroup tokens tree
+    ⊎ (
+    (rest : List Lexeme) × (inner : ConditionTree) × (tokens ≡ mark m.Not ∷ rest) × (tree ≡ Not inner)
+    × (IsPredicate rest inner ⊎ IsGroup rest inner)
+    )
+
+-- a chain: one part is itself, two or more are one node
+abbrev pub IsChain : Mark → (List ConditionTree → ConditionTree) → Rule ConditionTree → Rule ConditionTree
+IsChain separator node IsPart tokens tree =
+    IsPart tokens tree
+    ⊎ (
+    (first second : ConditionTree) × (more : List ConditionTree) × (tree ≡ node (first ∷ second ∷ more))
+    × Separated separator IsPart tokens (first ∷ second ∷ more)
+    )
+
+-- conj = factor { AND factor }
+abbrev pub IsConjunction : (IsGroup : Rule ConditionTree) → Rule ConditionTree
+IsConjunction IsGroup = IsChain m.And (λ parts. And (operands parts)) (IsFactor IsGroup)
+
+-- cond = conj { OR conj }
+abbrev pub IsDisjunction : (IsGroup : Rule ConditionTree) → Rule ConditionTree
+IsDisjunction IsGroup = IsChain m.Or (λ parts. Or (operands parts)) (IsConjunction IsGroup)
+
+-- a condition in parentheses, which nest at most so deep
+unfoldable pub IsGroup : (nesting : ℕ) → Rule ConditionTree
+IsGroup zero tokens tree = ⊥
+IsGroup (suc nesting) tokens tree = InParentheses (IsDisjunction (IsGroup nesting)) tokens tree
+
+-- a condition, whose parentheses nest within the limit
+abbrev pub IsCondition : Rule ConditionTree
+IsCondition = IsDisjunction (IsGroup nesting_limit)
+
+-- item = name [ [ AS ] name ]
+abbrev pub IsItem : Rule Item
+IsItem tokens item =
+    IsName item.table × IsName item.alias × (
+    ((tokens ≡ Word item.table ∷ []) × (item.alias ≡ item.table))
+    ⊎ (tokens ≡ Word item.table ∷ Word item.alias ∷ [])
+    ⊎ (tokens ≡ Word item.table ∷ mark m.As ∷ Word item.alias ∷ [])
+    )
+
+-- "*" | colref { "," colref }
+abbrev pub IsSelection : Rule (Option (List ColRef))
+IsSelection tokens None = tokens ≡ mark m.Star ∷ []
+IsSelection tokens (Some columns) = Separated m.Comma IsColRef tokens columns
+
+-- [ WHERE cond ]
+abbrev pub IsWhere : Rule (Option ConditionTree)
+IsWhere tokens None = tokens ≡ []
+IsWhere tokens (Some tree) = (rest : List Lexeme) × (tokens ≡ mark m.Where ∷ rest) × IsCondition rest tree
+
+-- select = SELECT ( "*" | colref { "," colref } ) FROM item { "," item } [ WHERE cond ]
+abbrev pub IsSelect : Rule QueryTree
+IsSelect tokens query =
+    (columns items condition : List Lexeme)
+    × (tokens ≡ mark m.Select ∷ (columns ++ mark m.From ∷ (items ++ condition)))
+    × IsSelection columns query.columns × Separated m.Comma IsItem items query.from
+    × IsWhere condition query.condition
+
+-- INTEGER | INT | VARCHAR "(" number ")"
+abbrev pub IsColumnType : Rule ColumnType
+IsColumnType tokens kinds.Integer = (tokens ≡ mark m.Integer ∷ []) ⊎ (tokens ≡ mark m.Int ∷ [])
+IsColumnType tokens (kinds.Varchar n) =
+    tokens ≡ mark m.Varchar ∷ mark m.OpenParen ∷ Number n ∷ mark m.CloseParen ∷ []
+
+-- column = name ( INTEGER | INT | VARCHAR "(" number ")" ) [ NOT NULL ]
+abbrev pub IsColumn : Rule ColumnDef
+IsColumn tokens column =
+    (kind : List Lexeme)
+    × (tokens ≡ Word column.name ∷ (kind ++ written_if column.not_null (m.Not ∷ m.Null ∷ [])))
+    × IsName column.name × IsColumnType kind column.kind
+
+-- a level of a point: a number
+abbrev pub IsLevel : Rule ℕ
+IsLevel tokens level = tokens ≡ Number level ∷ []
+
+-- [ AT number { "," number } ]
+abbrev pub IsPoint : Rule (List ℕ)
+IsPoint tokens [] = tokens ≡ []
+IsPoint tokens (n ∷ ns) =
+    (rest : List Lexeme) × (tokens ≡ mark m.At ∷ rest)
+    × Separated m.Comma IsLevel rest (n ∷ ns)
+
+-- a statement, by its form
+abbrev pub IsStatement : Rule StatementTree
+-- CREATE TABLE name "(" column { "," column } ")"
+IsStatement tokens (CreateTable table) =
+    (columns : List Lexeme) × (tokens ≡ mark m.Create ∷ mark m.Table ∷ Word table.name ∷ columns)
+    × IsName table.name × InParentheses (Separated m.Comma IsColumn) columns table.columns
+-- CREATE INDEX name ON name "(" name ")"
+IsStatement tokens (CreateIndex index) =
+    (
+    tokens
+    ≡ mark m.Create ∷ mark m.Index ∷ Word index.name ∷ mark m.On ∷ Word index.table
+    ∷ mark m.OpenParen ∷ Word index.column ∷ mark m.CloseParen ∷ []
+    )
+    × IsName index.name × IsName index.table × IsName index.column
+-- LOAD text INTO name
+IsStatement tokens (Load load) =
+    (tokens ≡ mark m.Load ∷ Text load.file ∷ mark m.Into ∷ Word load.table ∷ []) × IsName load.table
+IsStatement tokens (Select query) = IsSelect tokens query
+-- COMPILE name [ LEVELS number ] [ THRESHOLD number ] AS select
+IsStatement tokens (Compile name levels threshold query) =
+    (select : List Lexeme)
+    × (
+    tokens
+    ≡ mark m.Compile ∷ Word name
+    ∷ (option_of m.Levels levels ++ (option_of m.Threshold threshold ++ mark m.As ∷ select))
+    )
+    × IsName name × IsSelect select query
+-- RUN name
+IsStatement tokens (Run name) = (tokens ≡ mark m.Run ∷ Word name ∷ []) × IsName name
+-- EXPLAIN name
+IsStatement tokens (Explain name) = (tokens ≡ mark m.Explain ∷ Word name ∷ []) × IsName name
+-- SAVE name TO text
+IsStatement tokens (SaveFile save) =
+    (tokens ≡ mark m.Save ∷ Word save.name ∷ mark m.To ∷ Text save.file ∷ []) × IsName save.name
+-- OPEN name FROM text AS select
+IsStatement tokens (OpenFile name file query) =
+    (select : List Lexeme)
+    × (tokens ≡ mark m.Open ∷ Word name ∷ mark m.From ∷ Text file ∷ mark m.As ∷ select)
+    × IsName name × IsSelect select query
+-- AUDIT name [ AT number { "," number } ]
+IsStatement tokens (Audit audit) =
+    (point : List Lexeme) × (tokens ≡ mark m.Audit ∷ Word audit.name ∷ point)
+    × IsName audit.name × IsPoint point audit.levels

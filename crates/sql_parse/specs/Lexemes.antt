@@ -1,0 +1,94 @@
+-- Tokens with their values, as the grammar sees them.
+use Rattle.std.specs.Prelude.{ℕ, Bool, List, [], ◌∷◌, map, codes, slice_range, bytes_eq, if◌then◌else◌}
+use Rattle.std.specs.List.{list_any}
+use Rattle.sql_lex.specs.Values.{word_value_of, number_value_of, text_value_of}
+use Rattle.sql_lex.specs.declared.token.Token.{Token}
+use Rattle.sql_lex.specs.declared.token.TokenKind.{TokenKind}
+use Rattle.sql_lex.specs.declared.token.TokenKind.TheVariants as kinds
+use Rattle.sql_values.specs.declared.op.Op.{Op}
+use Rattle.sql_values.specs.declared.op.Op.TheVariants.{Eq, Ne, Lt, Le, Gt, Ge}
+use Rattle.sql_parse.specs.declared.mark.Mark.{Mark}
+use Rattle.sql_parse.specs.declared.mark.Mark.TheVariants as marks
+
+-- a token and what it stands for
+pub data Lexeme : Type 0 where
+  Word : (upper : List ℕ) → Lexeme
+  Number : (value : ℕ) → Lexeme
+  Text : (value : List ℕ) → Lexeme
+  Sign : (bytes : List ℕ) → Lexeme
+  Comparison : (op : Op) → Lexeme
+
+-- the operator that is spelled so
+abbrev pub comparison_of : List ℕ → Op
+comparison_of bytes =
+    if bytes_eq bytes (codes "=") then Eq else (
+    if bytes_eq bytes (codes "<>") then Ne else (
+    if bytes_eq bytes (codes "<") then Lt else (
+    if bytes_eq bytes (codes "<=") then Le else (
+    if bytes_eq bytes (codes ">") then Gt else Ge))))
+
+-- what bytes of a kind stand for
+abbrev pub lexeme_of : TokenKind → List ℕ → Lexeme
+lexeme_of kinds.Word bytes = Word (word_value_of bytes)
+lexeme_of kinds.Number bytes = Number (number_value_of bytes)
+lexeme_of kinds.Text bytes = Text (text_value_of bytes)
+lexeme_of kinds.Sign bytes = Sign bytes
+lexeme_of kinds.Comparison bytes = Comparison (comparison_of bytes)
+
+-- what a token of the script stands for
+abbrev pub lexeme : List ℕ → Token → Lexeme
+lexeme script token = lexeme_of token.kind (slice_range script token.start token.end)
+
+abbrev pub lexemes : List ℕ → List Token → List Lexeme
+lexemes script tokens = map (lexeme script) tokens
+
+-- the keywords and the signs of the grammar
+abbrev pub mark : Mark → Lexeme
+mark marks.And = Word (codes "AND")
+mark marks.As = Word (codes "AS")
+mark marks.At = Word (codes "AT")
+mark marks.Audit = Word (codes "AUDIT")
+mark marks.Between = Word (codes "BETWEEN")
+mark marks.Compile = Word (codes "COMPILE")
+mark marks.Create = Word (codes "CREATE")
+mark marks.Explain = Word (codes "EXPLAIN")
+mark marks.From = Word (codes "FROM")
+mark marks.In = Word (codes "IN")
+mark marks.Index = Word (codes "INDEX")
+mark marks.Int = Word (codes "INT")
+mark marks.Integer = Word (codes "INTEGER")
+mark marks.Into = Word (codes "INTO")
+mark marks.Is = Word (codes "IS")
+mark marks.Levels = Word (codes "LEVELS")
+mark marks.Load = Word (codes "LOAD")
+mark marks.Not = Word (codes "NOT")
+mark marks.Null = Word (codes "NULL")
+mark marks.On = Word (codes "ON")
+mark marks.Open = Word (codes "OPEN")
+mark marks.Or = Word (codes "OR")
+mark marks.Run = Word (codes "RUN")
+mark marks.Save = Word (codes "SAVE")
+mark marks.Select = Word (codes "SELECT")
+mark marks.Table = Word (codes "TABLE")
+mark marks.Threshold = Word (codes "THRESHOLD")
+mark marks.To = Word (codes "TO")
+mark marks.Varchar = Word (codes "VARCHAR")
+mark marks.Where = Word (codes "WHERE")
+mark marks.OpenParen = Sign (codes "(")
+mark marks.CloseParen = Sign (codes ")")
+mark marks.Star = Sign (codes "*")
+mark marks.Plus = Sign (codes "+")
+mark marks.Comma = Sign (codes ",")
+mark marks.Minus = Sign (codes "-")
+mark marks.Dot = Sign (codes ".")
+
+-- the words that can't be names
+abbrev pub reserved_words : List (List ℕ)
+reserved_words =
+    codes "AND" ∷ codes "AS" ∷ codes "BETWEEN" ∷ codes "CREATE" ∷ codes "FROM" ∷ codes "IN" ∷ codes "INT"
+    ∷ codes "INTEGER" ∷ codes "INTO" ∷ codes "IS" ∷ codes "NOT" ∷ codes "NULL" ∷ codes "ON" ∷ codes "OR"
+    ∷ codes "SELECT" ∷ codes "TABLE" ∷ codes "TO" ∷ codes "USING" ∷ codes "VARCHAR" ∷ codes "WHERE" ∷ []
+
+-- whether the word, in upper case, is one of them
+abbrev pub is_reserved : List ℕ → Bool
+is_reserved word = list_any (bytes_eq word) reserved_words

@@ -1,0 +1,90 @@
+-- Statements and conditions as trees, without where they lie in memory.
+use Rattle.std.specs.Prelude.{ℕ, Bool, List, [], ◌∷◌, Option, option_map}
+use Rattle.sql_values.specs.declared.op.Op.{Op}
+use Rattle.sql_parse.specs.declared.tree.Term.{Term}
+use Rattle.sql_parse.specs.declared.tree.ColRef.{ColRef}
+use Rattle.sql_parse.specs.declared.tree.Item.{Item}
+use Rattle.sql_parse.specs.declared.tree.TableDef.{TableDef}
+use Rattle.sql_parse.specs.declared.tree.IndexDef.{IndexDef}
+use Rattle.sql_parse.specs.declared.tree.LoadDef.{LoadDef}
+use Rattle.sql_parse.specs.declared.tree.FileDef.{FileDef}
+use Rattle.sql_parse.specs.declared.tree.AuditDef.{AuditDef}
+use Rattle.sql_parse.specs.declared.tree.Cond.{Cond}
+use Rattle.sql_parse.specs.declared.tree.Cond.TheOpen.{Cond-F}
+use Rattle.sql_parse.specs.declared.tree.Cond.TheOpen as layer
+use Rattle.sql_parse.specs.declared.tree.Cond.TheFolds.{fold-Cond}
+use Rattle.sql_parse.specs.declared.tree.Query.{Query}
+use Rattle.sql_parse.specs.declared.tree.Statement.{Statement}
+use Rattle.sql_parse.specs.declared.tree.Statement.TheVariants as code
+
+mutual
+  -- a condition
+  pub data ConditionTree : Type 0 where
+    Compare : Op → Term → Term → ConditionTree
+    Between : (negated : Bool) → Term → Term → Term → ConditionTree
+    OneOf : (negated : Bool) → Term → List Term → ConditionTree
+    IsNull : (negated : Bool) → ColRef → ConditionTree
+    Not : ConditionTree → ConditionTree
+    And : ConditionTrees → ConditionTree
+    Or : ConditionTrees → ConditionTree
+
+  -- the operands of a chain
+  pub data ConditionTrees : Type 0 where
+    NoMore : ConditionTrees
+    More : ConditionTree → ConditionTrees → ConditionTrees
+
+-- a list of operands
+abbrev pub operands : List ConditionTree → ConditionTrees
+operands [] = NoMore
+operands (tree ∷ trees) = More tree (operands trees)
+
+-- a query
+pub record QueryTree : Type 0 where
+  pub columns : Option (List ColRef)
+  pub from : List Item
+  pub condition : Option ConditionTree
+
+-- a statement
+pub data StatementTree : Type 0 where
+  CreateTable : TableDef → StatementTree
+  CreateIndex : IndexDef → StatementTree
+  Load : LoadDef → StatementTree
+  Select : QueryTree → StatementTree
+  Compile : (name : List ℕ) (levels threshold : Option ℕ) → QueryTree → StatementTree
+  Run : (name : List ℕ) → StatementTree
+  Explain : (name : List ℕ) → StatementTree
+  SaveFile : FileDef → StatementTree
+  OpenFile : (name file : List ℕ) → QueryTree → StatementTree
+  Audit : AuditDef → StatementTree
+
+-- one node, with the trees of its operands in their places
+abbrev pub node_tree : Cond-F ConditionTree → ConditionTree
+node_tree (layer.Compare op left right) = Compare op left right
+node_tree (layer.Between negated term low high) = Between negated term low high
+node_tree (layer.OneOf negated term terms) = OneOf negated term terms
+node_tree (layer.IsNull negated column) = IsNull negated column
+node_tree (layer.Not inner) = Not inner.value
+node_tree (layer.And parts) = And (operands parts.items)
+node_tree (layer.Or parts) = Or (operands parts.items)
+
+-- the tree of a condition
+abbrev pub condition_tree : Cond → ConditionTree
+condition_tree = fold-Cond ConditionTree node_tree
+
+abbrev pub query_tree : Query → QueryTree
+query_tree query =
+    record { columns = query.columns; from = query.from; condition = option_map condition_tree query.condition }
+
+-- the tree of a statement
+abbrev pub statement_tree : Statement → StatementTree
+statement_tree (code.CreateTable table) = CreateTable table
+statement_tree (code.CreateIndex index) = CreateIndex index
+statement_tree (code.Load load) = Load load
+statement_tree (code.Select query) = Select (query_tree query)
+statement_tree (code.Compile compile) =
+    Compile compile.name compile.levels compile.threshold (query_tree compile.query)
+statement_tree (code.Run name) = Run name
+statement_tree (code.Explain name) = Explain name
+statement_tree (code.SaveFile file) = SaveFile file
+statement_tree (code.OpenFile opened) = OpenFile opened.name opened.file (query_tree opened.query)
+statement_tree (code.Audit audit) = Audit audit

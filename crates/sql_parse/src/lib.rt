@@ -1,0 +1,31 @@
+//! The statements of a script, read from its tokens.
+//! It promises that `read_script` returns exactly one statement for each piece between semicolons that isn't empty, as
+//! the grammar relates them to their tokens, or the start of the first piece that is no statement; and that two
+//! statements of the same tokens are the same. Its depth on the stack is bounded by the nesting of parentheses.
+//! It never looks up a name, never compares kinds, and takes no memory but for the statements.
+#![tactic(auto)]
+
+mod condition;
+mod fault;
+mod mark;
+mod parse;
+mod piece;
+mod predicate;
+mod query;
+mod script;
+mod sequence;
+mod statement;
+mod table;
+mod tree;
+
+pub use fault::SyntaxFault;
+pub use mark::Mark;
+pub use script::{one_statement, read_script};
+pub use sequence::Sequence;
+pub use tree::{
+    AuditDef, ColRef, CompileDef, Cond, FileDef, IndexDef, Item, LoadDef, Name, OpenDef, Query,
+    Statement, TableDef, Term,
+};
+
+#[cfg(test)]
+mod tests;

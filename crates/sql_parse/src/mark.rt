@@ -1,0 +1,145 @@
+// The keywords and the signs of the grammar, and the words that can't be names.
+
+ghost use Rattle.std.specs.Prelude.{◌≡◌, map, bytes_eq};
+ghost use Rattle.std.specs.List.{list_any};
+ghost use Rattle.sql_lex.specs.Values.{word_value_of};
+ghost use Rattle.sql_parse.specs.Lexemes.{lexeme_of, mark, is_reserved};
+ghost use Rattle.sql_parse.specs.Reading.{same, mark_spelled};
+
+use sql_lex::{TokenKind, is_word};
+
+/// A keyword or a sign.
+#[derive(Clone, Copy)]
+pub enum Mark {
+    And,
+    As,
+    At,
+    Audit,
+    Between,
+    Compile,
+    Create,
+    Explain,
+    From,
+    In,
+    Index,
+    Int,
+    Integer,
+    Into,
+    Is,
+    Levels,
+    Load,
+    Not,
+    Null,
+    On,
+    Open,
+    Or,
+    Run,
+    Save,
+    Select,
+    Table,
+    Threshold,
+    To,
+    Varchar,
+    Where,
+    OpenParen,
+    CloseParen,
+    Star,
+    Plus,
+    Comma,
+    Minus,
+    Dot,
+}
+
+impl Mark {
+    // The kind of its token, and its bytes in upper case.
+    fn spelling(self) -> (TokenKind, &'static [u8])
+        ensures { mark_spelled result.0 result.1.now ≡ mark self }
+    {
+        match self {
+            Mark::And => (TokenKind::Word, b"AND"),
+            Mark::As => (TokenKind::Word, b"AS"),
+            Mark::At => (TokenKind::Word, b"AT"),
+            Mark::Audit => (TokenKind::Word, b"AUDIT"),
+            Mark::Between => (TokenKind::Word, b"BETWEEN"),
+            Mark::Compile => (TokenKind::Word, b"COMPILE"),
+            Mark::Create => (TokenKind::Word, b"CREATE"),
+            Mark::Explain => (TokenKind::Word, b"EXPLAIN"),
+            Mark::From => (TokenKind::Word, b"FROM"),
+            Mark::In => (TokenKind::Word, b"IN"),
+            Mark::Index => (TokenKind::Word, b"INDEX"),
+            Mark::Int => (TokenKind::Word, b"INT"),
+            Mark::Integer => (TokenKind::Word, b"INTEGER"),
+            Mark::Into => (TokenKind::Word, b"INTO"),
+            Mark::Is => (TokenKind::Word, b"IS"),
+            Mark::Levels => (TokenKind::Word, b"LEVELS"),
+            Mark::Load => (TokenKind::Word, b"LOAD"),
+            Mark::Not => (TokenKind::Word, b"NOT"),
+            Mark::Null => (TokenKind::Word, b"NULL"),
+            Mark::On => (TokenKind::Word, b"ON"),
+            Mark::Open => (TokenKind::Word, b"OPEN"),
+            Mark::Or => (TokenKind::Word, b"OR"),
+            Mark::Run => (TokenKind::Word, b"RUN"),
+            Mark::Save => (TokenKind::Word, b"SAVE"),
+            Mark::Select => (TokenKind::Word, b"SELECT"),
+            Mark::Table => (TokenKind::Word, b"TABLE"),
+            Mark::Threshold => (TokenKind::Word, b"THRESHOLD"),
+            Mark::To => (TokenKind::Word, b"TO"),
+            Mark::Varchar => (TokenKind::Word, b"VARCHAR"),
+            Mark::Where => (TokenKind::Word, b"WHERE"),
+            Mark::OpenParen => (TokenKind::Sign, b"("),
+            Mark::CloseParen => (TokenKind::Sign, b")"),
+            Mark::Star => (TokenKind::Sign, b"*"),
+            Mark::Plus => (TokenKind::Sign, b"+"),
+            Mark::Comma => (TokenKind::Sign, b","),
+            Mark::Minus => (TokenKind::Sign, b"-"),
+            Mark::Dot => (TokenKind::Sign, b"."),
+        }
+    }
+
+    // Whether a token of this kind and these bytes is the mark.
+    pub(crate) fn is_written(self, kind: TokenKind, bytes: &[u8]) -> bool
+        ensures { result ≡ same (lexeme_of kind bytes.now) (mark self) }
+    {
+        let (own_kind, spelling) = self.spelling();
+        is_same(kind, bytes, own_kind, spelling)
+    }
+}
+
+// Whether the token is the word or the sign that is spelled so.
+fn is_same(kind: TokenKind, bytes: &[u8], other_kind: TokenKind, other: &[u8]) -> bool
+    ensures { result ≡ same (lexeme_of kind bytes.now) (mark_spelled other_kind other.now) }
+{
+    match (kind, other_kind) {
+        (TokenKind::Word, TokenKind::Word) => is_same_word(bytes, other),
+        (TokenKind::Word, _) => false,
+        (TokenKind::Sign, TokenKind::Word) => false,
+        (TokenKind::Sign, _) => bytes == other,
+        _ => false,
+    }
+}
+
+// Whether the word has this value.
+fn is_same_word(word: &[u8], value: &[u8]) -> bool
+    ensures { result ≡ bytes_eq (word_value_of word.now) value.now }
+{
+    is_word(word, value)
+}
+
+// The words that can't be names (SQL-92, 5.2).
+static RESERVED: [&[u8]; 20] = [
+    b"AND", b"AS", b"BETWEEN", b"CREATE", b"FROM", b"IN", b"INT", b"INTEGER", b"INTO", b"IS",
+    b"NOT", b"NULL", b"ON", b"OR", b"SELECT", b"TABLE", b"TO", b"USING", b"VARCHAR", b"WHERE",
+];
+
+fn is_among(word: &[u8], values: &[&[u8]]) -> bool
+    ensures { result ≡ list_any (λ value. bytes_eq (word_value_of word.now) value.now) values.now }
+{
+    values.iter().any(|value| is_same_word(word, value))
+}
+
+/// Whether the word can't be a name.
+pub(crate) fn is_reserved(word: &[u8]) -> bool
+    ensures { result ≡ is_reserved (word_value_of word.now) }
+{
+    is_among(word, &RESERVED)
+}

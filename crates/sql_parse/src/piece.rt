@@ -1,0 +1,156 @@
+// The tokens that are still to be read, and the tokens that the grammar ends in.
+
+ghost use Rattle.std.specs.Prelude.{◌≡◌, ◌<◌, ◌^◌, [], ◌∷◌, length, IfOk, IfSome, MatchOption};
+ghost use Rattle.std.specs.List.{All};
+ghost use Rattle.sql_lex.specs.Forms.{HasForm, KeepsTokenLimit};
+ghost use Rattle.sql_lex.specs.Tokens.{IsToken};
+ghost use Rattle.sql_parse.specs.Lexemes.{lexeme_of, lexemes};
+ghost use Rattle.sql_parse.specs.Reading.{GivesValue, after_mark, name_at, number_at, text_at, comparison_at, kind_at};
+
+use crate::fault::ReadFault;
+use crate::mark::{Mark, is_reserved};
+use crate::tree::Name;
+use sql_lex::{Token, TokenKind, comparison_value, number_value, text_value, word_value};
+use sql_values::{Op, Text};
+use std::alloc::Global;
+use std::marker::Model;
+
+// The tokens of a script that are still to be read. Each of them is one, so its value is read without a test.
+#[derive(Drop)]
+pub(crate) struct Piece<'s> {
+    script: &'s [u8],
+    tokens: &'s [Token],
+}
+
+impl<'s> Model for Piece<'s> {
+    ghost use Rattle.std.specs.Prelude.{List};
+    ghost use Rattle.std.specs.List.{All};
+    ghost use Rattle.sql_lex.specs.Tokens.{IsToken};
+    ghost use Rattle.sql_parse.specs.Lexemes.{Lexeme, lexemes};
+
+    ghost Value = { List Lexeme };
+
+    ghost view = { λ p. lexemes p.script.now p.tokens.now };
+
+    ghost invariant = { λ p. All (IsToken p.script.now) p.tokens.now };
+}
+
+// The first token, and what follows it.
+#[derive(Drop)]
+struct Lead<'s> {
+    kind: TokenKind,
+    bytes: &'s [u8],
+    rest: Piece<'s>,
+}
+
+impl<'s> Piece<'s> {
+    pub(crate) fn new(script: &'s [u8], tokens: &'s [Token]) -> Self
+        requires { All (IsToken script.now) tokens.now }
+        ensures { result ≡ lexemes script.now tokens.now }
+    {
+        Piece { script, tokens }
+    }
+
+    pub(crate) fn len(&self) -> usize
+        ensures { result ≡ length self.now }
+    {
+        self.tokens.len()
+    }
+
+    fn lead(&self) -> Option<Lead<'s>>
+        ensures first { MatchOption result (self.now ≡ [])
+            (λ lead. self.now ≡ lexeme_of lead.kind lead.bytes.now ∷ lead.rest) }
+        ensures form { IfSome result (λ lead. HasForm lead.kind lead.bytes.now) }
+        ensures limit { IfSome result (λ lead. KeepsTokenLimit lead.kind lead.bytes.now) }
+    {
+        let [first, rest @ ..] = self.tokens else {
+            return None;
+        };
+        Some(Lead {
+            kind: first.kind,
+            bytes: &self.script[first.start..first.end],
+            rest: Piece {
+                script: self.script,
+                tokens: rest,
+            },
+        })
+    }
+
+    // The kind of the first token.
+    pub(crate) fn kind(&self) -> Option<TokenKind>
+        ensures { result ≡ kind_at self.now }
+    {
+        Some(self.lead()?.kind)
+    }
+
+    // What follows the mark, where it stands first.
+    #[tactic(auto, unfolding(crate::specs::Reading::after_mark))]
+    pub(crate) fn after(&self, mark: Mark) -> Option<Piece<'s>>
+        ensures { result ≡ after_mark mark self.now }
+    {
+        let lead = self.lead()?;
+        if mark.is_written(lead.kind, lead.bytes) {
+            Some(lead.rest)
+        } else {
+            None
+        }
+    }
+
+    // What follows the mark, which has to stand first.
+    pub(crate) fn expect(&self, mark: Mark) -> Result<Piece<'s>, ReadFault>
+        ensures { GivesValue result (after_mark mark self.now) }
+    {
+        self.after(mark).ok_or(ReadFault::NotAStatement)
+    }
+
+    #[tactic(auto, unfolding(crate::specs::Reading::name_at))]
+    pub(crate) fn name(&self, alloc: Global) -> Result<(Name, Piece<'s>), ReadFault>
+        ensures { GivesValue result (name_at self.now) }
+    {
+        let Some(lead) = self.lead() else {
+            return Err(ReadFault::NotAStatement);
+        };
+        if lead.kind != TokenKind::Word || is_reserved(lead.bytes) {
+            return Err(ReadFault::NotAStatement);
+        }
+        Ok((word_value(alloc, lead.bytes)?, lead.rest))
+    }
+
+    #[tactic(auto, unfolding(crate::specs::Reading::number_at))]
+    pub(crate) fn number(&self) -> Result<(u64, Piece<'s>), ReadFault>
+        ensures value { GivesValue result (number_at self.now) }
+        ensures limit { IfOk result (λ found. found.0 < 2 ^ 63) }
+    {
+        let Some(lead) = self.lead() else {
+            return Err(ReadFault::NotAStatement);
+        };
+        match lead.kind {
+            TokenKind::Number => Ok((number_value(lead.bytes), lead.rest)),
+            _ => Err(ReadFault::NotAStatement),
+        }
+    }
+
+    #[tactic(auto, unfolding(crate::specs::Reading::text_at))]
+    pub(crate) fn text(&self, alloc: Global) -> Result<(Text, Piece<'s>), ReadFault>
+        ensures { GivesValue result (text_at self.now) }
+    {
+        let Some(lead) = self.lead() else {
+            return Err(ReadFault::NotAStatement);
+        };
+        match lead.kind {
+            TokenKind::Text => Ok((text_value(alloc, lead.bytes)?, lead.rest)),
+            _ => Err(ReadFault::NotAStatement),
+        }
+    }
+
+    #[tactic(auto, unfolding(crate::specs::Reading::comparison_at))]
+    pub(crate) fn comparison(&self) -> Option<(Op, Piece<'s>)>
+        ensures { result ≡ comparison_at self.now }
+    {
+        let lead = self.lead()?;
+        match lead.kind {
+            TokenKind::Comparison => Some((comparison_value(lead.bytes), lead.rest)),
+            _ => None,
+        }
+    }
+}

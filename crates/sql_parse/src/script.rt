@@ -1,0 +1,137 @@
+// The statements of a script.
+
+ghost use Rattle.std.specs.Prelude.{◌≡◌, ℕ, ◌≤◌, ◌+◌, ◌⊎◌, List, ◌∷◌, length, map, take, drop, IfOk, IfErr, MatchResult};
+ghost use Rattle.std.specs.List.{All};
+ghost use Rattle.sql_lex.specs.Tokens.{IsToken, Tokens};
+ghost use Rattle.sql_parse.specs.Limits.{script_limit};
+ghost use Rattle.sql_parse.specs.Lexemes.{Lexeme, lexeme, lexemes};
+ghost use Rattle.sql_parse.specs.Trees.{StatementTree, statement_tree};
+ghost use Rattle.sql_parse.specs.Grammar.{IsStatement};
+ghost use Rattle.sql_parse.specs.Script.{is_semicolon, split, AreStatements, IsFirstRefused, IsCause};
+ghost use Rattle.sql_parse.specs.Counts.{predicates_of, operands_of};
+ghost use Rattle.sql_parse.specs.Reading.{Gives, statement_of, with_statement, split_after};
+ghost use Rattle.sql_parse.specs.declared.fault.SyntaxFault.TheVariants as faults;
+
+use crate::fault::{ReadFault, SyntaxFault};
+use crate::piece::Piece;
+use crate::statement::whole_statement;
+use crate::tree::Statement;
+use sql_lex::{Token, TokenKind};
+use std::alloc::Global;
+
+/// The grammar is unambiguous: two statements of the same tokens are the same.
+pub fn one_statement()
+    ensures { (tokens : List Lexeme) (one other : StatementTree) →
+        IsStatement tokens one → IsStatement tokens other → one ≡ other }
+{}
+
+/// The statements of a script, in order: one for each piece between semicolons that isn't empty.
+///
+/// Keywords and names are in any case; names come out in upper case (SQL-92, 5.2). Parentheses around conditions nest
+/// at most 32 deep. `Syntax` names the start of the first piece that is no statement. A script all of whose pieces are
+/// statements is refused only where memory runs out. It takes time in proportion to the tokens, and its depth on the
+/// stack is bounded by the nesting of parentheses.
+pub fn read_script(
+    alloc: Global,
+    text: &[u8],
+    tokens: &[Token],
+) -> Result<Vec<Statement>, SyntaxFault>
+    requires limit { length text.now ≤ script_limit }
+    requires tokens { Tokens text.now tokens.now }
+    ensures found { IfOk result (λ statements.
+        AreStatements text.now tokens.now (map statement_tree statements.items)) }
+    ensures only { (trees : List StatementTree) → AreStatements text.now tokens.now trees →
+        MatchResult result (λ statements. map statement_tree statements.items ≡ trees)
+        (λ fault. fault ≡ faults.NoMemory) }
+    ensures predicates { IfOk result (λ statements.
+        All (λ statement. predicates_of (statement_tree statement) ≤ length tokens.now)
+        statements.items) }
+    ensures operands { IfOk result (λ statements.
+        All (λ statement. operands_of (statement_tree statement) ≤ length tokens.now)
+        statements.items) }
+
+    ensures refused { IfErr result (IsCause text.now tokens.now) }
+    ensures first { (place : ℕ) → IsFirstRefused text.now tokens.now place →
+        MatchResult result (λ _. ⊥)
+        (λ fault. (fault ≡ faults.NoMemory) ⊎ (fault ≡ faults.Syntax place)) }
+{
+    read(alloc, text, tokens)
+}
+
+fn read(alloc: Global, text: &[u8], tokens: &[Token]) -> Result<Vec<Statement>, SyntaxFault>
+    requires { All (IsToken text.now) tokens.now }
+    ensures found { IfOk result (λ statements.
+        AreStatements text.now tokens.now (map statement_tree statements.items)) }
+    ensures refused { IfErr result (IsCause text.now tokens.now) }
+{
+    let mut statements = Vec::new(alloc);
+    let mut rest = tokens;
+    while !rest.is_empty() {
+        let end = piece_end(text, rest);
+        if end > 0 {
+            match add_statement(alloc, &mut statements, text, &rest[..end]) {
+                Ok(()) => {}
+                Err(ReadFault::NotAStatement) => {
+                    let place = rest[0].start;
+                    return Err(SyntaxFault::Syntax { place });
+                }
+                Err(ReadFault::NoMemory) => return Err(SyntaxFault::NoMemory),
+            }
+        }
+        rest = tokens_after(rest, end);
+    }
+    Ok(statements)
+}
+
+// Adds the statement of a piece.
+fn add_statement(
+    alloc: Global,
+    statements: &mut Vec<Statement>,
+    text: &[u8],
+    piece: &[Token],
+) -> Result<(), ReadFault>
+    requires { All (IsToken text.now) piece.now }
+    ensures { Gives (λ _. map statement_tree statements.new.items) result
+        (with_statement (map statement_tree statements.old.items)
+        (statement_of (lexemes text.now piece.now))) }
+{
+    let statement = whole_statement(alloc, Piece::new(text, piece))?;
+    statements.push(statement)?;
+    Ok(())
+}
+
+// The tokens after the one at a place, or none where the place is their end.
+fn tokens_after(tokens: &[Token], place: usize) -> &[Token]
+    requires { place ≤ length tokens.now }
+    ensures { result.now ≡ drop (place + 1) tokens.now }
+{
+    if place < tokens.len() {
+        &tokens[place + 1..]
+    } else {
+        &tokens[place..]
+    }
+}
+
+// The place of the first semicolon, or the number of the tokens.
+fn piece_end(text: &[u8], tokens: &[Token]) -> usize
+    requires { All (IsToken text.now) tokens.now }
+    ensures within { result ≤ length tokens.now }
+    ensures split { split text.now tokens.now
+        ≡ take result tokens.now ∷ split_after text.now (drop result tokens.now) }
+{
+    let mut end = 0;
+    while end < tokens.len() && !is_semicolon(text, &tokens[end]) {
+        end += 1;
+    }
+    end
+}
+
+fn is_semicolon(text: &[u8], token: &Token) -> bool
+    requires { IsToken text.now token.now }
+    ensures { result ≡ is_semicolon (lexeme text.now token.now) }
+{
+    match token.kind {
+        TokenKind::Sign => &text[token.start..token.end] == b";".as_slice(),
+        _ => false,
+    }
+}

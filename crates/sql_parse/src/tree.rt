@@ -1,0 +1,127 @@
+// What statements and conditions are made of. The definitions see them as the trees of `specs/Trees.antt`.
+
+use crate::sequence::Sequence;
+use sql_values::{ColumnDef, Op, Text, Value};
+
+/// A name, in upper case.
+pub type Name = Text;
+
+/// A statement of a script.
+#[derive(Debug, Drop)]
+pub enum Statement {
+    CreateTable(TableDef),
+    CreateIndex(IndexDef),
+    Load(LoadDef),
+    Select(Query),
+    Compile(CompileDef),
+    /// RUN of a bouquet.
+    Run(Name),
+    /// EXPLAIN of a bouquet.
+    Explain(Name),
+    SaveFile(FileDef),
+    OpenFile(OpenDef),
+    Audit(AuditDef),
+}
+
+/// CREATE TABLE.
+#[derive(Debug, Drop)]
+pub struct TableDef {
+    pub name: Name,
+    /// At least one.
+    pub columns: Sequence<ColumnDef>,
+}
+
+/// CREATE INDEX.
+#[derive(Debug, Drop)]
+pub struct IndexDef {
+    pub name: Name,
+    pub table: Name,
+    pub column: Name,
+}
+
+/// LOAD.
+#[derive(Debug, Drop)]
+pub struct LoadDef {
+    pub file: Text,
+    pub table: Name,
+}
+
+/// COMPILE. Levels and threshold are none where they aren't written.
+#[derive(Debug, Drop)]
+pub struct CompileDef {
+    pub name: Name,
+    pub levels: Option<u64>,
+    pub threshold: Option<u64>,
+    pub query: Query,
+}
+
+/// SAVE.
+#[derive(Debug, Drop)]
+pub struct FileDef {
+    pub name: Name,
+    pub file: Text,
+}
+
+/// OPEN.
+#[derive(Debug, Drop)]
+pub struct OpenDef {
+    pub name: Name,
+    pub file: Text,
+    pub query: Query,
+}
+
+/// AUDIT. Without AT there are no levels.
+#[derive(Debug, Drop)]
+pub struct AuditDef {
+    pub name: Name,
+    pub levels: Sequence<u64>,
+}
+
+/// A query (SQL-92, 7.9).
+#[derive(Debug, Drop)]
+pub struct Query {
+    /// The columns in the order in which they are written, at least one; none for `*`.
+    pub columns: Option<Sequence<ColRef>>,
+    /// The tables, at least one.
+    pub from: Sequence<Item>,
+    /// The condition after WHERE.
+    pub condition: Option<Cond>,
+}
+
+/// A table of FROM. Where no alias is written, it is the table's name.
+#[derive(Debug, Drop)]
+pub struct Item {
+    pub table: Name,
+    pub alias: Name,
+}
+
+/// A column as a query writes it.
+#[derive(Debug, Drop)]
+pub struct ColRef {
+    pub alias: Option<Name>,
+    pub column: Name,
+}
+
+/// An operand of a predicate.
+#[derive(Debug, Drop)]
+pub enum Term {
+    Column(ColRef),
+    /// A number or a text; never NULL.
+    Literal(Value),
+}
+
+/// A condition (SQL-92, 8.12). In a predicate, true stands for the predicate's own NOT.
+#[derive(Debug, Drop)]
+pub enum Cond {
+    Compare(Op, Term, Term),
+    /// The first term lies between the second and the third.
+    Between(bool, Term, Term, Term),
+    /// The first term is one of the others, of which there is at least one.
+    OneOf(bool, Term, Sequence<Term>),
+    IsNull(bool, ColRef),
+    Not(Box<Cond>),
+    /// A chain of two or more operands of AND.
+    And(Vec<Cond>),
+    /// A chain of two or more operands of OR.
+    Or(Vec<Cond>),
+}
