@@ -2,6 +2,7 @@
 //! It gathers the arguments, makes the adapters and calls `serve`, whose status is the one that it ends with. It never
 //! looks at a byte of a script, a file or an answer.
 #![tactic(auto)]
+
 ghost use Rattle.std.specs.Prelude.{◌≡◌};
 ghost use Rattle.std.specs.Process.{exit_status};
 ghost use Rattle.shell.specs.Serve.{exit_number};
