@@ -1,4 +1,4 @@
-// Prints rows as CSV (RFC 4180), as the csv crate writes it. Each error of the csv crate is want of memory, since nothing
+// Prints rows as CSV (RFC 4180), as the csv crate writes it. Each error of the csv crate is out of memory, since nothing
 // else can fail where a vector is written to and each row is as wide as the header.
 ghost use Rattle.std.specs.Prelude.{◌≡◌, [], ◌∷◌, ◌++◌, IfOk, OnOk, flat_map};
 ghost use Rattle.csv.specs.Writing.{row_text, default_writer};

@@ -9,3 +9,11 @@ pub mod ReadStatements
 pub mod Pieces
 pub mod Scripts
 pub mod Counted
+pub mod Written
+pub mod PrintedForms
+pub mod PrintedConditions
+pub mod PrintedStatements
+pub mod Sound
+pub mod WrittenParts
+pub mod SoundForms
+pub mod CanonicalText

@@ -5,3 +5,5 @@ pub mod Grammar
 pub mod Script
 pub mod Counts
 pub mod Reading
+pub mod Canonical
+pub mod Printing

@@ -1,6 +1,7 @@
 -- The statements of a script.
 use Rattle.std.specs.Prelude.{ℕ, ◌≡◌, Bool, false, List, [], ◌∷◌, ◌++◌, codes, bytes_eq, if◌then◌else◌}
 use Rattle.std.specs.List.{AllZip}
+use Rattle.sql_lex.specs.Tokens.{Tokens}
 use Rattle.sql_lex.specs.declared.token.Token.{Token}
 use Rattle.sql_parse.specs.declared.fault.SyntaxFault.{SyntaxFault}
 use Rattle.sql_parse.specs.declared.fault.SyntaxFault.TheVariants.{Syntax, NoMemory}
@@ -53,3 +54,7 @@ IsFirstRefused script tokens place =
 abbrev pub IsCause : List ℕ → List Token → SyntaxFault → Type 0
 IsCause script tokens (Syntax place) = IsFirstRefused script tokens place
 IsCause script tokens NoMemory = Unit {0}
+
+-- the text of one statement: its tokens are written for the statement
+abbrev pub IsTextOf : List ℕ → StatementTree → Type 0
+IsTextOf text tree = (tokens : List Token) × Tokens text tokens × IsStatement (lexemes text tokens) tree

@@ -1,10 +1,13 @@
 //! The statements of a script, read from its tokens.
 //! It promises that `read_script` returns exactly one statement for each piece between semicolons that isn't empty, as
 //! the grammar relates them to their tokens, or the start of the first piece that is no statement; and that two
-//! statements of the same tokens are the same. Its depth on the stack is bounded by the nesting of parentheses.
-//! It never looks up a name, never compares kinds, and takes no memory but for the statements.
+//! statements of the same tokens are the same. Its depth on the stack is bounded by the nesting of parentheses. `print`
+//! returns exactly a statement's canonical text, which is read as that statement and as no other.
+//! It never looks up a name, never compares kinds, and takes no memory but for statements and texts.
 #![tactic(auto)]
 
+mod canonical;
+mod canonical_condition;
 mod condition;
 mod fault;
 mod mark;
@@ -17,7 +20,9 @@ mod sequence;
 mod statement;
 mod table;
 mod tree;
+mod writer;
 
+pub use canonical::{canonical_text_is_read, print, print_query};
 pub use fault::SyntaxFault;
 pub use mark::Mark;
 pub use script::{one_statement, read_script};
@@ -27,5 +32,7 @@ pub use tree::{
     Statement, TableDef, Term,
 };
 
+#[cfg(test)]
+mod canonical_tests;
 #[cfg(test)]
 mod tests;

@@ -4,6 +4,7 @@ ghost use Rattle.std.specs.Prelude.{◌≡◌, map, bytes_eq};
 ghost use Rattle.std.specs.List.{list_any};
 ghost use Rattle.sql_lex.specs.Values.{word_value_of};
 ghost use Rattle.sql_parse.specs.Lexemes.{lexeme_of, mark, is_reserved};
+ghost use Rattle.sql_parse.specs.Canonical.{Fixed, spelled, joins_previous, joins_next};
 ghost use Rattle.sql_parse.specs.Reading.{same, mark_spelled};
 
 use sql_lex::{TokenKind, is_word};
@@ -93,6 +94,33 @@ impl Mark {
             Mark::Comma => (TokenKind::Sign, b","),
             Mark::Minus => (TokenKind::Sign, b"-"),
             Mark::Dot => (TokenKind::Sign, b"."),
+        }
+    }
+
+    // Its bytes in upper case.
+    pub(crate) fn bytes(self) -> &'static [u8]
+        ensures { result.now ≡ spelled (mark self) }
+    {
+        self.spelling().1
+    }
+
+    // Whether no space stands before it in canonical text.
+    pub(crate) fn joins_previous(self) -> bool
+        ensures { result ≡ joins_previous (Fixed self) }
+    {
+        match self {
+            Mark::CloseParen | Mark::Comma | Mark::Dot => true,
+            _ => false,
+        }
+    }
+
+    // Whether no space stands after it in canonical text.
+    pub(crate) fn joins_next(self) -> bool
+        ensures { result ≡ joins_next (Fixed self) }
+    {
+        match self {
+            Mark::OpenParen | Mark::Dot | Mark::Minus | Mark::Varchar => true,
+            _ => false,
         }
     }
 

@@ -1,0 +1,40 @@
+-- Canonical text is read as its statement.
+use Rattle.std.proofs.Common.{◌≡◌, ◌∙◌, ℕ, true, List, sym, ap, subst}
+use Rattle.std.specs.Prelude.{Result, Ok}
+use Rattle.sql_lex.specs.Tokens.{Tokens}
+use Rattle.sql_lex.specs.Written.{written_tokens}
+use Rattle.sql_lex.proofs.Lexings.{lexing_once}
+use Rattle.sql_lex.specs.declared.fault.LexFault.{LexFault}
+use Rattle.sql_lex.specs.declared.token.Token.{Token}
+use Rattle.sql_parse.specs.Lexemes.{lexemes}
+use Rattle.sql_parse.specs.Trees.{StatementTree}
+use Rattle.sql_parse.specs.Grammar.{IsStatement}
+use Rattle.sql_parse.specs.Canonical.{spaced, statement_parts, canonical}
+use Rattle.sql_parse.specs.Script.{IsTextOf}
+use Rattle.sql_parse.proofs.Scripts.{tokens-each}
+use Rattle.sql_parse.proofs.AgainStatements.{statements-same}
+use Rattle.sql_parse.proofs.ReadStatements.{statement_of-reads}
+use Rattle.sql_parse.proofs.Sound.{tokens-sound}
+use Rattle.sql_parse.proofs.SoundForms.{statement-writable}
+use Rattle.sql_parse.proofs.PrintedStatements.{statement-printed}
+use Rattle.sql_parse.proofs.WrittenParts.{Writable, text-tokens, text-lexemes}
+
+pub canonical-read : (text : List ℕ) (tree : StatementTree) → IsTextOf text tree → IsTextOf (canonical tree) tree
+canonical-read text tree written =
+    let sound = tokens-sound text written.0 (tokens-each text written.0 written.1) in
+    let writable : Writable (statement_parts tree) = statement-writable (lexemes text written.0) tree sound written.2 in (
+      written_tokens 0 (spaced true (statement_parts tree)),
+      text-tokens (statement_parts tree) writable,
+      subst (λ tokens. IsStatement tokens tree) (sym (text-lexemes (statement_parts tree) writable)) (statement-printed (lexemes text written.0) tree written.2),
+    )
+
+tokens_in : Result (List Token) LexFault → List Token → List Token
+tokens_in (Ok tokens) other = tokens
+tokens_in fault other = other
+
+-- a text is the text of one statement at the most
+pub text-once : (text : List ℕ) (one other : StatementTree) → IsTextOf text one → IsTextOf text other → one ≡ other
+unfolding tokens_in
+text-once text one other first second =
+    let same : first.0 ≡ second.0 = ap (λ lexing. tokens_in lexing first.0) (lexing_once text (Ok first.0) (Ok second.0) first.1 second.1) in
+    statements-same (lexemes text second.0) one other (subst (λ (tokens : List Token). IsStatement (lexemes text tokens) one) same first.2) second.2

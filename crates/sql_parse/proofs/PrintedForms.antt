@@ -1,0 +1,147 @@
+-- What is printed for a value is written for it by the grammar, wherever anything is.
+use Rattle.std.proofs.Common.{◌≡◌, ◌∙◌, ℕ, zero, suc, ◌⊎◌, inl, inr, Bool, true, false, cond, List, [], ◌∷◌, ◌++◌, map, flat_map, Option, Some, None, ℤ, pos, negsuc, int_lt, bytes_eq, refl, sym, ap, subst, append-nil, rules}
+use Rattle.std.proofs.lemmas.List.{map-append}
+use Rattle.std.proofs.lemmas.Slice.Eq.{bytes_eq-Decides}
+use Rattle.sql_values.specs.declared.value.Value.TheVariants as value
+use Rattle.sql_values.specs.declared.column.ColumnType.TheVariants as types
+use Rattle.sql_parse.specs.declared.mark.Mark.{Mark}
+use Rattle.sql_parse.specs.declared.mark.Mark.TheVariants as m
+use Rattle.sql_parse.specs.declared.tree.Term.TheVariants as term
+use Rattle.sql_parse.specs.Lexemes.{Lexeme, Word, mark}
+use Rattle.sql_parse.specs.Trees.{ConditionTree, Compare, Between, OneOf, IsNull, Not, And, Or}
+use Rattle.sql_parse.specs.Grammar.{Rule, written_if, option_of, Separated, InParentheses, IsColumnName, IsColRef, IsInteger, IsOperand, IsPredicate, IsItem, IsSelection, IsColumnType, IsColumn, IsLevel, IsPoint}
+use Rattle.sql_parse.specs.Canonical.{Part, Fixed, Name, Number, Operator, part_lexeme, listed, in_parentheses, kept_if, column_name_parts, column_parts, integer_parts, operand_parts, condition_parts, item_parts, selection_parts, type_parts, definition_parts, option_parts, point_parts}
+
+abbrev pub tokens_of : List Part → List Lexeme
+tokens_of parts = map part_lexeme parts
+
+pub tokens-append : (xs ys : List Part) → tokens_of (xs ++ ys) ≡ tokens_of xs ++ tokens_of ys
+tokens-append xs ys = map-append part_lexeme xs ys
+
+-- whatever tokens the rule has for a value, it also has those that are printed for it
+abbrev pub IsPrintedBy : {A : Type 0} → Rule A → (A → List Part) → Type 0
+IsPrintedBy {A} IsForm parts = (tokens : List Lexeme) (x : A) → IsForm tokens x → IsForm (tokens_of (parts x)) x
+
+fixed-printed : (marks : List Mark) → tokens_of (map Fixed marks) ≡ map mark marks
+fixed-printed [] = refl
+fixed-printed (keyword ∷ marks) = ap (λ tokens. mark keyword ∷ tokens) (fixed-printed marks)
+
+pub kept-printed : (kept : Bool) (marks : List Mark) → tokens_of (kept_if kept marks) ≡ written_if kept marks
+kept-printed false marks = refl
+kept-printed true marks = fixed-printed marks
+
+kept-before : (kept : Bool) (marks : List Mark) (parts : List Part) → tokens_of (kept_if kept marks ++ parts) ≡ written_if kept marks ++ tokens_of parts
+kept-before kept marks parts = tokens-append (kept_if kept marks) parts ∙ ap (λ tokens. tokens ++ tokens_of parts) (kept-printed kept marks)
+
+pub separated-printed : {A : Type 0} (IsPart : Rule A) (parts : A → List Part) → IsPrintedBy IsPart parts → IsPrintedBy (Separated m.Comma IsPart) (listed parts)
+separated-printed IsPart parts printed tokens [] form = absurd form
+separated-printed IsPart parts printed tokens (x ∷ []) form = subst (λ ps. IsPart (tokens_of ps) x) (sym (append-nil (parts x))) (printed tokens x form)
+separated-printed IsPart parts printed tokens (x ∷ y ∷ ys) form = (
+  tokens_of (parts x),
+  tokens_of (listed parts (y ∷ ys)),
+  tokens-append (parts x) (Fixed m.Comma ∷ listed parts (y ∷ ys)),
+  printed form.0 x form.3,
+  separated-printed IsPart parts printed form.1 (y ∷ ys) form.4,
+)
+
+pub in_parentheses-printed : {A : Type 0} (IsInside : Rule A) (parts : A → List Part) → IsPrintedBy IsInside parts → IsPrintedBy (InParentheses IsInside) (λ x. in_parentheses (parts x))
+in_parentheses-printed IsInside parts printed tokens x form =
+    (tokens_of (parts x), ap (λ ts. mark m.OpenParen ∷ ts) (tokens-append (parts x) (Fixed m.CloseParen ∷ [])), printed form.0 x form.2)
+
+column_name-printed : (alias : Option (List ℕ)) → IsPrintedBy (IsColumnName alias) (column_name_parts alias)
+column_name-printed None tokens column form = (refl, form.1)
+column_name-printed (Some alias) tokens column form = (refl, form.1, form.2)
+
+pub colref-printed : IsPrintedBy IsColRef column_parts
+colref-printed tokens column form = column_name-printed column.alias tokens column.column form
+
+pub integer-printed : (n : ℤ) → IsInteger (tokens_of (integer_parts n)) n
+integer-printed (pos n) = let not_below : int_lt (pos n) (pos 0) ≡ false = search rules in (n, inl (rw not_below refl, refl))
+integer-printed (negsuc n) = (suc n, inr (inr (refl, refl)))
+
+pub operand-printed : IsPrintedBy IsOperand operand_parts
+operand-printed tokens (term.Column column) form = colref-printed tokens column form
+operand-printed tokens (term.Literal (value.Int n)) form = integer-printed n
+operand-printed tokens (term.Literal (value.Text text)) form = refl
+operand-printed tokens (term.Literal value.Null) form = absurd form
+
+pub predicate-printed : IsPrintedBy IsPredicate condition_parts
+predicate-printed tokens (Compare op left right) form = (
+  tokens_of (operand_parts left),
+  tokens_of (operand_parts right),
+  tokens-append (operand_parts left) (Operator op ∷ operand_parts right),
+  operand-printed form.0 left form.3,
+  operand-printed form.1 right form.4,
+)
+predicate-printed tokens (Between negated of low high) form =
+    let range = Fixed m.Between ∷ (operand_parts low ++ Fixed m.And ∷ operand_parts high) in (
+      tokens_of (operand_parts of),
+      tokens_of (operand_parts low),
+      tokens_of (operand_parts high),
+      tokens-append (operand_parts of) (kept_if negated (m.Not ∷ []) ++ range)
+          ∙ ap (λ ts. tokens_of (operand_parts of) ++ ts) (kept-before negated (m.Not ∷ []) range
+          ∙ ap (λ ts. written_if negated (m.Not ∷ []) ++ mark m.Between ∷ ts) (tokens-append (operand_parts low) (Fixed m.And ∷ operand_parts high))),
+      operand-printed form.0 of form.4,
+      operand-printed form.1 low form.5,
+      operand-printed form.2 high form.6,
+    )
+predicate-printed tokens (OneOf negated of terms) form =
+    let values = Fixed m.In ∷ in_parentheses (listed operand_parts terms) in (
+      tokens_of (operand_parts of),
+      tokens_of (in_parentheses (listed operand_parts terms)),
+      tokens-append (operand_parts of) (kept_if negated (m.Not ∷ []) ++ values)
+          ∙ ap (λ ts. tokens_of (operand_parts of) ++ ts) (kept-before negated (m.Not ∷ []) values),
+      operand-printed form.0 of form.3,
+      in_parentheses-printed (Separated m.Comma IsOperand) (listed operand_parts) (separated-printed IsOperand operand_parts operand-printed) form.1 terms form.4,
+    )
+predicate-printed tokens (IsNull negated column) form = (
+  tokens_of (column_parts column),
+  tokens-append (column_parts column) (Fixed m.Is ∷ (kept_if negated (m.Not ∷ []) ++ Fixed m.Null ∷ []))
+      ∙ ap (λ ts. tokens_of (column_parts column) ++ mark m.Is ∷ ts) (kept-before negated (m.Not ∷ []) (Fixed m.Null ∷ [])),
+  colref-printed form.0 column form.2,
+)
+predicate-printed tokens (Not inner) form = absurd form
+predicate-printed tokens (And parts) form = absurd form
+predicate-printed tokens (Or parts) form = absurd form
+
+pub item-printed : IsPrintedBy IsItem item_parts
+item-printed tokens item form = (
+  form.0,
+  form.1,
+  elim (bytes_eq item.alias item.table) as (λ same. bytes_eq item.alias item.table ≡ same →
+      ((tokens_of (Name item.table ∷ cond same [] (Fixed m.As ∷ Name item.alias ∷ [])) ≡ Word item.table ∷ []) × (item.alias ≡ item.table))
+      ⊎ (tokens_of (Name item.table ∷ cond same [] (Fixed m.As ∷ Name item.alias ∷ [])) ≡ Word item.table ∷ Word item.alias ∷ [])
+      ⊎ (tokens_of (Name item.table ∷ cond same [] (Fixed m.As ∷ Name item.alias ∷ [])) ≡ Word item.table ∷ mark m.As ∷ Word item.alias ∷ [])) [
+        | true ↦ λ is. inl (refl, (bytes_eq-Decides item.alias item.table).0 is)
+        | false ↦ λ is. inr (inr refl)
+      ] refl,
+)
+
+pub selection-printed : IsPrintedBy IsSelection selection_parts
+selection-printed tokens None form = refl
+selection-printed tokens (Some columns) form = separated-printed IsColRef column_parts colref-printed tokens columns form
+
+type-printed : IsPrintedBy IsColumnType type_parts
+type-printed tokens types.Integer form = inl refl
+type-printed tokens (types.Varchar n) form = refl
+
+pub definition-printed : IsPrintedBy IsColumn definition_parts
+definition-printed tokens column form = (
+  tokens_of (type_parts column.kind),
+  ap (λ ts. Word column.name ∷ ts) (tokens-append (type_parts column.kind) (kept_if column.not_null (m.Not ∷ m.Null ∷ []))
+      ∙ ap (λ ts. tokens_of (type_parts column.kind) ++ ts) (kept-printed column.not_null (m.Not ∷ m.Null ∷ []))),
+  form.2,
+  type-printed form.0 column.kind form.3,
+)
+
+pub option-printed : (keyword : Mark) (number : Option ℕ) → tokens_of (option_parts keyword number) ≡ option_of keyword number
+option-printed keyword None = refl
+option-printed keyword (Some n) = refl
+
+pub point-printed : IsPrintedBy IsPoint point_parts
+point-printed tokens [] form = refl
+point-printed tokens (n ∷ ns) form = (
+  tokens_of (listed (λ level. Number level ∷ []) (n ∷ ns)),
+  refl,
+  separated-printed IsLevel (λ level. Number level ∷ []) (λ ts level is. refl) form.0 (n ∷ ns) form.2,
+)

@@ -1,0 +1,310 @@
+-- What is printed for a value that tokens of a script are written for is sound.
+use Rattle.std.proofs.Common.{◌≡◌, ℕ, zero, suc, ◌≤◌, ◌⊎◌, inl, inr, Bool, true, false, cond, List, [], ◌∷◌, ◌++◌, Option, Some, None, ℤ, pos, negsuc, int_lt, neg_ℤ, bytes_eq, sym, subst, rules, arith}
+use Rattle.sql_lex.specs.Limits.{max_number}
+use Rattle.sql_values.specs.declared.value.Value.TheVariants as value
+use Rattle.sql_values.specs.declared.column.ColumnType.TheVariants as types
+use Rattle.sql_parse.specs.declared.mark.Mark.{Mark}
+use Rattle.sql_parse.specs.declared.mark.Mark.TheVariants as m
+use Rattle.sql_parse.specs.declared.tree.Item.{Item}
+use Rattle.sql_parse.specs.declared.tree.Term.TheVariants as term
+use Rattle.sql_parse.specs.Limits.{nesting_limit}
+use Rattle.sql_parse.specs.Lexemes.{Lexeme, Word, mark}
+use Rattle.sql_parse.specs.Lexemes as lexeme
+use Rattle.sql_parse.specs.Trees.{ConditionTree, ConditionTrees, Compare, Between, OneOf, IsNull, Not, And, Or, NoMore, More, operands, StatementTree, CreateTable, CreateIndex, Load, Select, Compile, Run, Explain, SaveFile, OpenFile, Audit}
+use Rattle.sql_parse.specs.Grammar.{Rule, written_if, option_of, Separated, InParentheses, IsColumnName, IsColRef, IsInteger, IsOperand, IsPredicate, IsFactor, IsConjunction, IsDisjunction, IsGroup, IsCondition, IsItem, IsSelection, IsWhere, IsSelect, IsColumnType, IsColumn, IsLevel, IsPoint, IsStatement}
+use Rattle.sql_parse.specs.Canonical.{Part, Fixed, Name, Number, Operator, listed, in_parentheses, kept_if, column_name_parts, column_parts, integer_parts, operand_parts, is_or, is_chain, is_no_predicate, grouped_if, condition_parts, and_parts, or_parts, item_parts, selection_parts, where_parts, query_parts, type_parts, definition_parts, option_parts, point_parts, statement_parts}
+use Rattle.sql_parse.proofs.Sound.{IsSound, EachSound, mark-sound}
+use Rattle.sql_parse.proofs.WrittenParts.{Writable, writable-append}
+
+sound-front : (front back : List Lexeme) → EachSound (front ++ back) → EachSound front
+sound-front [] back sound = tt
+sound-front (token ∷ front) back sound = (sound.0, sound-front front back sound.1)
+
+sound-back : (front back : List Lexeme) → EachSound (front ++ back) → EachSound back
+sound-back [] back sound = sound
+sound-back (token ∷ front) back sound = sound-back front back sound.1
+
+-- what is printed for a value is sound where the tokens of the value are
+abbrev pub IsWritable : {A : Type 0} → Rule A → (A → List Part) → Type 0
+IsWritable {A} IsForm parts = (tokens : List Lexeme) (x : A) → EachSound tokens → IsForm tokens x → Writable (parts x)
+
+listed-writable : {A : Type 0} (IsPart : Rule A) (parts : A → List Part) → IsWritable IsPart parts → IsWritable (Separated m.Comma IsPart) (listed parts)
+listed-writable IsPart parts writable tokens [] sound form = absurd form
+listed-writable IsPart parts writable tokens (x ∷ []) sound form = writable-append (parts x) [] (writable tokens x sound form) tt
+listed-writable IsPart parts writable tokens (x ∷ y ∷ ys) sound form =
+    let all = subst EachSound form.2 sound in
+    let later : EachSound (mark m.Comma ∷ form.1) = sound-back form.0 (mark m.Comma ∷ form.1) all in
+    writable-append (parts x) (Fixed m.Comma ∷ listed parts (y ∷ ys)) (writable form.0 x (sound-front form.0 (mark m.Comma ∷ form.1) all) form.3)
+    (mark-sound m.Comma, tt, listed-writable IsPart parts writable form.1 (y ∷ ys) later.1 form.4)
+
+group-writable : (parts : List Part) → Writable parts → Writable (in_parentheses parts)
+group-writable parts writable =
+    (mark-sound m.OpenParen, tt, writable-append parts (Fixed m.CloseParen ∷ []) writable (mark-sound m.CloseParen, tt, tt))
+
+in_parentheses-writable : {A : Type 0} (IsInside : Rule A) (parts : A → List Part) → IsWritable IsInside parts → IsWritable (InParentheses IsInside) (λ x. in_parentheses (parts x))
+in_parentheses-writable IsInside parts writable tokens x sound form =
+    let all : EachSound (mark m.OpenParen ∷ (form.0 ++ mark m.CloseParen ∷ [])) = subst EachSound form.1 sound in
+    group-writable (parts x) (writable form.0 x (sound-front form.0 (mark m.CloseParen ∷ []) all.1) form.2)
+
+column_name-writable : (alias : Option (List ℕ)) → IsWritable (IsColumnName alias) (column_name_parts alias)
+column_name-writable None tokens column sound form = let all = subst EachSound form.0 sound in (all.0, tt, tt)
+column_name-writable (Some alias) tokens column sound form =
+    let all = subst EachSound form.0 sound in (all.0, tt, (mark-sound m.Dot, tt, (all.1.1.0, tt, tt)))
+
+colref-writable : IsWritable IsColRef column_parts
+colref-writable tokens column sound form = column_name-writable column.alias tokens column.column sound form
+
+not_negative-writable : (n : ℕ) → n ≤ max_number → Writable (integer_parts (pos n))
+not_negative-writable n limit = let not_below : int_lt (pos n) (pos 0) ≡ false = search rules in rw not_below (limit, tt, tt)
+
+negated-number : (n : ℕ) → n ≤ max_number → Writable (integer_parts (neg_ℤ (pos n)))
+negated-number zero limit = not_negative-writable 0 limit
+negated-number (suc n) limit = (mark-sound m.Minus, tt, (limit, tt, tt))
+
+integer-writable : IsWritable IsInteger integer_parts
+integer-writable tokens n sound form = elim form.1 [
+  | inl bare ↦ let all = subst EachSound bare.0 sound in subst (λ k. Writable (integer_parts k)) (sym bare.1) (not_negative-writable form.0 all.0)
+  | inr (inl plus) ↦ let all = subst EachSound plus.0 sound in subst (λ k. Writable (integer_parts k)) (sym plus.1) (not_negative-writable form.0 all.1.0)
+  | inr (inr minus) ↦ let all = subst EachSound minus.0 sound in subst (λ k. Writable (integer_parts k)) (sym minus.1) (negated-number form.0 all.1.0)
+]
+
+operand-writable : IsWritable IsOperand operand_parts
+operand-writable tokens (term.Column column) sound form = colref-writable tokens column sound form
+operand-writable tokens (term.Literal (value.Int n)) sound form = integer-writable tokens n sound form
+operand-writable tokens (term.Literal (value.Text text)) sound form = let all = subst EachSound form sound in (all.0, tt, tt)
+operand-writable tokens (term.Literal value.Null) sound form = absurd form
+
+negated-writable : (negated : Bool) (parts : List Part) → Writable parts → Writable (kept_if negated (m.Not ∷ []) ++ parts)
+negated-writable false parts writable = writable
+negated-writable true parts writable = (mark-sound m.Not, tt, writable)
+
+predicate-writable : IsWritable IsPredicate condition_parts
+predicate-writable tokens (Compare op left right) sound form =
+    let all = subst EachSound form.2 sound in
+    let later = sound-back form.0 _ all in
+    writable-append (operand_parts left) (Operator op ∷ operand_parts right) (operand-writable form.0 left (sound-front form.0 _ all) form.3)
+    (tt, tt, operand-writable form.1 right later.1 form.4)
+predicate-writable tokens (Between negated of low high) sound form =
+    let range = mark m.Between ∷ (form.1 ++ mark m.And ∷ form.2) in
+    let all = subst EachSound form.3 sound in
+    let later : EachSound range = sound-back (written_if negated (m.Not ∷ [])) range (sound-back form.0 (written_if negated (m.Not ∷ []) ++ range) all) in
+    let last : EachSound (mark m.And ∷ form.2) = sound-back form.1 (mark m.And ∷ form.2) later.1 in
+    writable-append (operand_parts of) (kept_if negated (m.Not ∷ []) ++ Fixed m.Between ∷ (operand_parts low ++ Fixed m.And ∷ operand_parts high))
+    (operand-writable form.0 of (sound-front form.0 (written_if negated (m.Not ∷ []) ++ range) all) form.4)
+    (negated-writable negated (Fixed m.Between ∷ (operand_parts low ++ Fixed m.And ∷ operand_parts high)) (
+      mark-sound m.Between,
+      tt,
+      writable-append (operand_parts low) (Fixed m.And ∷ operand_parts high)
+          (operand-writable form.1 low (sound-front form.1 (mark m.And ∷ form.2) later.1) form.5) (mark-sound m.And, tt, operand-writable form.2 high last.1 form.6),
+    ))
+predicate-writable tokens (OneOf negated of terms) sound form =
+    let values = mark m.In ∷ form.1 in
+    let all = subst EachSound form.2 sound in
+    let later : EachSound values = sound-back (written_if negated (m.Not ∷ [])) values (sound-back form.0 (written_if negated (m.Not ∷ []) ++ values) all) in
+    writable-append (operand_parts of) (kept_if negated (m.Not ∷ []) ++ Fixed m.In ∷ in_parentheses (listed operand_parts terms))
+    (operand-writable form.0 of (sound-front form.0 (written_if negated (m.Not ∷ []) ++ values) all) form.3)
+    (negated-writable negated (Fixed m.In ∷ in_parentheses (listed operand_parts terms)) (
+      mark-sound m.In,
+      tt,
+      in_parentheses-writable (Separated m.Comma IsOperand) (listed operand_parts) (listed-writable IsOperand operand_parts operand-writable) form.1 terms later.1 form.4,
+    ))
+predicate-writable tokens (IsNull negated column) sound form =
+    let all = subst EachSound form.1 sound in
+    writable-append (column_parts column) (Fixed m.Is ∷ (kept_if negated (m.Not ∷ []) ++ Fixed m.Null ∷ [])) (colref-writable form.0 column (sound-front form.0 _ all) form.2)
+    (mark-sound m.Is, tt, negated-writable negated (Fixed m.Null ∷ []) (mark-sound m.Null, tt, tt))
+predicate-writable tokens (Not inner) sound form = absurd form
+predicate-writable tokens (And parts) sound form = absurd form
+predicate-writable tokens (Or parts) sound form = absurd form
+
+grouped-writable : (grouped : Bool) (parts : List Part) → Writable parts → Writable (grouped_if grouped parts)
+grouped-writable false parts writable = writable
+grouped-writable true parts writable = group-writable parts writable
+
+and-writable : (IsPart : Rule ConditionTree) → IsWritable IsPart condition_parts → IsWritable (Separated m.And IsPart) (λ trees. and_parts (operands trees))
+and-writable IsPart writable tokens [] sound form = absurd form
+and-writable IsPart writable tokens (x ∷ []) sound form =
+    writable-append (grouped_if (is_chain x) (condition_parts x)) [] (grouped-writable (is_chain x) (condition_parts x) (writable tokens x sound form)) tt
+and-writable IsPart writable tokens (x ∷ y ∷ ys) sound form =
+    let all = subst EachSound form.2 sound in
+    let later : EachSound (mark m.And ∷ form.1) = sound-back form.0 (mark m.And ∷ form.1) all in
+    writable-append (grouped_if (is_chain x) (condition_parts x)) (Fixed m.And ∷ and_parts (operands (y ∷ ys)))
+    (grouped-writable (is_chain x) (condition_parts x) (writable form.0 x (sound-front form.0 (mark m.And ∷ form.1) all) form.3))
+    (mark-sound m.And, tt, and-writable IsPart writable form.1 (y ∷ ys) later.1 form.4)
+
+or-writable : (IsPart : Rule ConditionTree) → IsWritable IsPart condition_parts → IsWritable (Separated m.Or IsPart) (λ trees. or_parts (operands trees))
+or-writable IsPart writable tokens [] sound form = absurd form
+or-writable IsPart writable tokens (x ∷ []) sound form =
+    writable-append (grouped_if (is_or x) (condition_parts x)) [] (grouped-writable (is_or x) (condition_parts x) (writable tokens x sound form)) tt
+or-writable IsPart writable tokens (x ∷ y ∷ ys) sound form =
+    let all = subst EachSound form.2 sound in
+    let later : EachSound (mark m.Or ∷ form.1) = sound-back form.0 (mark m.Or ∷ form.1) all in
+    writable-append (grouped_if (is_or x) (condition_parts x)) (Fixed m.Or ∷ or_parts (operands (y ∷ ys)))
+    (grouped-writable (is_or x) (condition_parts x) (writable form.0 x (sound-front form.0 (mark m.Or ∷ form.1) all) form.3))
+    (mark-sound m.Or, tt, or-writable IsPart writable form.1 (y ∷ ys) later.1 form.4)
+
+factor-writable : (n : ℕ) → IsWritable (IsGroup n) condition_parts → IsWritable (IsFactor (IsGroup n)) condition_parts
+factor-writable n groups tokens tree sound form = elim form [
+  | inl predicate ↦ predicate-writable tokens tree sound predicate
+  | inr (inl group) ↦ groups tokens tree sound group
+  | inr (inr not) ↦
+      let all : EachSound (mark m.Not ∷ not.0) = subst EachSound not.2 sound in
+      subst (λ t. Writable (condition_parts t)) (sym not.3) (
+        mark-sound m.Not,
+        tt,
+        grouped-writable (is_no_predicate not.1) (condition_parts not.1) (elim not.4 [
+          | inl predicate ↦ predicate-writable not.0 not.1 all.1 predicate
+          | inr group ↦ groups not.0 not.1 all.1 group
+        ]),
+      )
+]
+
+conjunction-writable : (n : ℕ) → IsWritable (IsGroup n) condition_parts → IsWritable (IsConjunction (IsGroup n)) condition_parts
+conjunction-writable n groups tokens tree sound form = elim form [
+  | inl factor ↦ factor-writable n groups tokens tree sound factor
+  | inr chain ↦ subst (λ t. Writable (condition_parts t)) (sym chain.3)
+      (and-writable (IsFactor (IsGroup n)) (factor-writable n groups) tokens (chain.0 ∷ chain.1 ∷ chain.2) sound chain.4)
+]
+
+disjunction-writable : (n : ℕ) → IsWritable (IsGroup n) condition_parts → IsWritable (IsDisjunction (IsGroup n)) condition_parts
+disjunction-writable n groups tokens tree sound form = elim form [
+  | inl conjunction ↦ conjunction-writable n groups tokens tree sound conjunction
+  | inr chain ↦ subst (λ t. Writable (condition_parts t)) (sym chain.3)
+      (or-writable (IsConjunction (IsGroup n)) (conjunction-writable n groups) tokens (chain.0 ∷ chain.1 ∷ chain.2) sound chain.4)
+]
+
+groups-writable : (n : ℕ) → IsWritable (IsGroup n) condition_parts
+unfolding IsGroup
+groups-writable zero tokens tree sound form = absurd form
+groups-writable (suc n) tokens tree sound form =
+    let all : EachSound (mark m.OpenParen ∷ (form.0 ++ mark m.CloseParen ∷ [])) = subst EachSound form.1 sound in
+    disjunction-writable n (groups-writable n) form.0 tree (sound-front form.0 (mark m.CloseParen ∷ []) all.1) form.2
+
+where-writable : IsWritable IsWhere where_parts
+where-writable tokens None sound form = tt
+where-writable tokens (Some tree) sound form =
+    let all : EachSound (mark m.Where ∷ form.0) = subst EachSound form.1 sound in
+    (mark-sound m.Where, tt, disjunction-writable nesting_limit (groups-writable nesting_limit) form.0 tree all.1 form.2)
+
+alias-writable : (table alias : List ℕ) (same : Bool) → IsSound (Word table) → IsSound (Word alias) → Writable (Name table ∷ cond same [] (Fixed m.As ∷ Name alias ∷ []))
+alias-writable table alias true one other = (one, tt, tt)
+alias-writable table alias false one other = (one, tt, (mark-sound m.As, tt, (other, tt, tt)))
+
+item-writable : IsWritable IsItem item_parts
+item-writable tokens item sound form =
+    let same = bytes_eq item.alias item.table in
+    elim form.2 [
+      | inl bare ↦ let all : EachSound (Word item.table ∷ []) = subst EachSound bare.0 sound in
+          alias-writable item.table item.alias same all.0 (subst (λ (name : List ℕ). IsSound (Word name)) (sym bare.1) all.0)
+      | inr (inl short) ↦ let all : EachSound (Word item.table ∷ Word item.alias ∷ []) = subst EachSound short sound in
+          alias-writable item.table item.alias same all.0 all.1.0
+      | inr (inr full) ↦ let all : EachSound (Word item.table ∷ mark m.As ∷ Word item.alias ∷ []) = subst EachSound full sound in
+          alias-writable item.table item.alias same all.0 all.1.1.0
+    ]
+
+selection-writable : IsWritable IsSelection selection_parts
+selection-writable tokens None sound form = (mark-sound m.Star, tt, tt)
+selection-writable tokens (Some columns) sound form = listed-writable IsColRef column_parts colref-writable tokens columns sound form
+
+select-writable : IsWritable IsSelect query_parts
+select-writable tokens query sound form =
+    let all : EachSound (mark m.Select ∷ (form.0 ++ mark m.From ∷ (form.1 ++ form.2))) = subst EachSound form.3 sound in
+    let later : EachSound (mark m.From ∷ (form.1 ++ form.2)) = sound-back form.0 (mark m.From ∷ (form.1 ++ form.2)) all.1 in (
+      mark-sound m.Select,
+      tt,
+      writable-append (selection_parts query.columns) (Fixed m.From ∷ (listed item_parts query.from ++ where_parts query.condition))
+          (selection-writable form.0 query.columns (sound-front form.0 (mark m.From ∷ (form.1 ++ form.2)) all.1) form.4) (
+            mark-sound m.From,
+            tt,
+            writable-append (listed item_parts query.from) (where_parts query.condition)
+                (listed-writable IsItem item_parts item-writable form.1 query.from (sound-front form.1 form.2 later.1) form.5)
+                (where-writable form.2 query.condition (sound-back form.1 form.2 later.1) form.6),
+          ),
+    )
+
+type-writable : IsWritable IsColumnType type_parts
+type-writable tokens types.Integer sound form = (mark-sound m.Integer, tt, tt)
+type-writable tokens (types.Varchar n) sound form =
+    let all = subst EachSound form sound in
+    (mark-sound m.Varchar, tt, (mark-sound m.OpenParen, tt, (all.1.1.0, tt, (mark-sound m.CloseParen, tt, tt))))
+
+nulls-writable : (kept : Bool) → Writable (kept_if kept (m.Not ∷ m.Null ∷ []))
+nulls-writable false = tt
+nulls-writable true = (mark-sound m.Not, tt, (mark-sound m.Null, tt, tt))
+
+definition-writable : IsWritable IsColumn definition_parts
+definition-writable tokens column sound form =
+    let nulls = written_if column.not_null (m.Not ∷ m.Null ∷ []) in
+    let all : EachSound (Word column.name ∷ (form.0 ++ nulls)) = subst EachSound form.1 sound in (
+      all.0,
+      tt,
+      writable-append (type_parts column.kind) (kept_if column.not_null (m.Not ∷ m.Null ∷ []))
+          (type-writable form.0 column.kind (sound-front form.0 nulls all.1) form.3) (nulls-writable column.not_null),
+    )
+
+levels-writable : (number : Option ℕ) → EachSound (option_of m.Levels number) → Writable (option_parts m.Levels number)
+levels-writable None sound = tt
+levels-writable (Some n) sound = (mark-sound m.Levels, tt, (sound.1.0, tt, tt))
+
+threshold-writable : (number : Option ℕ) → EachSound (option_of m.Threshold number) → Writable (option_parts m.Threshold number)
+threshold-writable None sound = tt
+threshold-writable (Some n) sound = (mark-sound m.Threshold, tt, (sound.1.0, tt, tt))
+
+level-writable : IsWritable IsLevel (λ level. Number level ∷ [])
+level-writable tokens level sound form = let all = subst EachSound form sound in (all.0, tt, tt)
+
+point-writable : IsWritable IsPoint point_parts
+point-writable tokens [] sound form = tt
+point-writable tokens (n ∷ ns) sound form =
+    let all : EachSound (mark m.At ∷ form.0) = subst EachSound form.1 sound in
+    (mark-sound m.At, tt, listed-writable IsLevel (λ level. Number level ∷ []) level-writable form.0 (n ∷ ns) all.1 form.2)
+
+pub statement-writable : IsWritable IsStatement statement_parts
+statement-writable tokens (CreateTable table) sound form =
+    let all : EachSound (mark m.Create ∷ mark m.Table ∷ Word table.name ∷ form.0) = subst EachSound form.1 sound in (
+      mark-sound m.Create,
+      tt,
+      (
+        mark-sound m.Table,
+        tt,
+        (
+          all.1.1.0,
+          tt,
+          in_parentheses-writable (Separated m.Comma IsColumn) (listed definition_parts) (listed-writable IsColumn definition_parts definition-writable) form.0 table.columns all.1.1.1 form.3,
+        ),
+      ),
+    )
+statement-writable tokens (CreateIndex index) sound form =
+    let all = subst EachSound form.0 sound in
+    (mark-sound m.Create, tt, (mark-sound m.Index, tt, (all.1.1.0, tt, (mark-sound m.On, tt, (all.1.1.1.1.0, tt, group-writable (Name index.column ∷ []) (all.1.1.1.1.1.1.0, tt, tt))))))
+statement-writable tokens (Load load) sound form =
+    let all = subst EachSound form.0 sound in
+    (mark-sound m.Load, tt, (all.1.0, tt, (mark-sound m.Into, tt, (all.1.1.1.0, tt, tt))))
+statement-writable tokens (Select query) sound form = select-writable tokens query sound form
+statement-writable tokens (Compile name levels threshold query) sound form =
+    let rest = option_of m.Threshold threshold ++ mark m.As ∷ form.0 in
+    let all : EachSound (mark m.Compile ∷ Word name ∷ (option_of m.Levels levels ++ rest)) = subst EachSound form.1 sound in
+    let later : EachSound rest = sound-back (option_of m.Levels levels) rest all.1.1 in
+    let last : EachSound (mark m.As ∷ form.0) = sound-back (option_of m.Threshold threshold) (mark m.As ∷ form.0) later in (
+      mark-sound m.Compile,
+      tt,
+      (
+        all.1.0,
+        tt,
+        writable-append (option_parts m.Levels levels) (option_parts m.Threshold threshold ++ Fixed m.As ∷ query_parts query)
+            (levels-writable levels (sound-front (option_of m.Levels levels) rest all.1.1))
+            (writable-append (option_parts m.Threshold threshold) (Fixed m.As ∷ query_parts query)
+            (threshold-writable threshold (sound-front (option_of m.Threshold threshold) (mark m.As ∷ form.0) later))
+            (mark-sound m.As, tt, select-writable form.0 query last.1 form.3)),
+      ),
+    )
+statement-writable tokens (Run name) sound form = let all = subst EachSound form.0 sound in (mark-sound m.Run, tt, (all.1.0, tt, tt))
+statement-writable tokens (Explain name) sound form = let all = subst EachSound form.0 sound in (mark-sound m.Explain, tt, (all.1.0, tt, tt))
+statement-writable tokens (SaveFile save) sound form =
+    let all = subst EachSound form.0 sound in
+    (mark-sound m.Save, tt, (all.1.0, tt, (mark-sound m.To, tt, (all.1.1.1.0, tt, tt))))
+statement-writable tokens (OpenFile name file query) sound form =
+    let all : EachSound (mark m.Open ∷ Word name ∷ mark m.From ∷ lexeme.Text file ∷ mark m.As ∷ form.0) = subst EachSound form.1 sound in
+    (mark-sound m.Open, tt, (all.1.0, tt, (mark-sound m.From, tt, (all.1.1.1.0, tt, (mark-sound m.As, tt, select-writable form.0 query all.1.1.1.1.1 form.3)))))
+statement-writable tokens (Audit audit) sound form =
+    let all : EachSound (mark m.Audit ∷ Word audit.name ∷ form.0) = subst EachSound form.1 sound in
+    (mark-sound m.Audit, tt, (all.1.0, tt, point-writable form.0 audit.levels all.1.1 form.3))

@@ -1,0 +1,232 @@
+-- The canonical text of a statement: the one text in which it is written.
+use Rattle.std.specs.Prelude.{ℕ, ℤ, pos, int_lt, unsigned_abs, Bool, true, false, ◌||◌, List, [], ◌∷◌, ◌++◌, map, flat_map, codes, bytes_eq, decimal, Option, Some, None, if◌then◌else◌}
+use Rattle.sql_lex.specs.Values.{quoted, comparison_text}
+use Rattle.sql_lex.specs.Written.{Written, written_text}
+use Rattle.sql_lex.specs.declared.token.TokenKind.{TokenKind}
+use Rattle.sql_lex.specs.declared.token.TokenKind.TheVariants as kinds
+use Rattle.sql_values.specs.declared.op.Op.{Op}
+use Rattle.sql_values.specs.declared.value.Value.{Value}
+use Rattle.sql_values.specs.declared.value.Value.TheVariants as value
+use Rattle.sql_values.specs.declared.column.ColumnDef.{ColumnDef}
+use Rattle.sql_values.specs.declared.column.ColumnType.{ColumnType}
+use Rattle.sql_values.specs.declared.column.ColumnType.TheVariants as types
+use Rattle.sql_parse.specs.declared.mark.Mark.{Mark}
+use Rattle.sql_parse.specs.declared.mark.Mark.TheVariants as m
+use Rattle.sql_parse.specs.declared.tree.Term.{Term}
+use Rattle.sql_parse.specs.declared.tree.Term.TheVariants as term
+use Rattle.sql_parse.specs.declared.tree.ColRef.{ColRef}
+use Rattle.sql_parse.specs.declared.tree.Item.{Item}
+use Rattle.sql_parse.specs.Lexemes as lexeme
+use Rattle.sql_parse.specs.Lexemes.{Lexeme, mark}
+use Rattle.sql_parse.specs.Trees.{ConditionTree, ConditionTrees, Compare, Between, OneOf, IsNull, Not, And, Or, NoMore, More, QueryTree, StatementTree, CreateTable, CreateIndex, Load, Select, Compile, Run, Explain, SaveFile, OpenFile, Audit}
+
+-- what canonical text is made of
+pub data Part : Type 0 where
+  -- a keyword or a sign
+  Fixed : Mark → Part
+  Name : (upper : List ℕ) → Part
+  Number : (value : ℕ) → Part
+  Text : (value : List ℕ) → Part
+  Operator : Op → Part
+
+-- the token that a part is
+abbrev pub part_lexeme : Part → Lexeme
+part_lexeme (Fixed keyword) = mark keyword
+part_lexeme (Name upper) = lexeme.Word upper
+part_lexeme (Number n) = lexeme.Number n
+part_lexeme (Text text) = lexeme.Text text
+part_lexeme (Operator op) = lexeme.Comparison op
+
+-- how a token is spelled: in upper case, with no leading zero, and with quotes doubled
+abbrev pub spelled : Lexeme → List ℕ
+spelled (lexeme.Word upper) = upper
+spelled (lexeme.Number n) = decimal n
+spelled (lexeme.Text text) = quoted text
+spelled (lexeme.Sign bytes) = bytes
+spelled (lexeme.Comparison op) = comparison_text op
+
+abbrev pub kind_of : Lexeme → TokenKind
+kind_of (lexeme.Word upper) = kinds.Word
+kind_of (lexeme.Number n) = kinds.Number
+kind_of (lexeme.Text text) = kinds.Text
+kind_of (lexeme.Sign bytes) = kinds.Sign
+kind_of (lexeme.Comparison op) = kinds.Comparison
+
+-- no space stands before a closing parenthesis, a comma and a point
+abbrev pub joins_previous : Part → Bool
+joins_previous (Fixed m.CloseParen) = true
+joins_previous (Fixed m.Comma) = true
+joins_previous (Fixed m.Dot) = true
+joins_previous other = false
+
+-- nor after an opening parenthesis, a point, a minus sign and VARCHAR
+abbrev pub joins_next : Part → Bool
+joins_next (Fixed m.OpenParen) = true
+joins_next (Fixed m.Dot) = true
+joins_next (Fixed m.Minus) = true
+joins_next (Fixed m.Varchar) = true
+joins_next other = false
+
+-- the space before a part; `joined` says that the part before it joins the next one
+abbrev pub space_before : (joined : Bool) → Part → List ℕ
+space_before joined part = if joined || joins_previous part then [] else codes " "
+
+-- the tokens with one space between each two that aren't joined
+abbrev pub spaced : (joined : Bool) → List Part → List Written
+spaced joined [] = []
+spaced joined (part ∷ parts) =
+    record { space = space_before joined part; kind = kind_of (part_lexeme part); bytes = spelled (part_lexeme part) }
+    ∷ spaced (joins_next part) parts
+
+-- one or more, with a comma between each two
+abbrev pub listed : {A : Type 0} → (A → List Part) → List A → List Part
+listed parts [] = []
+listed parts (x ∷ xs) = parts x ++ flat_map (λ y. Fixed m.Comma ∷ parts y) xs
+
+abbrev pub in_parentheses : List Part → List Part
+in_parentheses inside = Fixed m.OpenParen ∷ (inside ++ Fixed m.CloseParen ∷ [])
+
+-- keywords, where they are written
+abbrev pub kept_if : Bool → List Mark → List Part
+kept_if false marks = []
+kept_if true marks = map Fixed marks
+
+abbrev pub column_name_parts : (alias : Option (List ℕ)) (column : List ℕ) → List Part
+column_name_parts None column = Name column ∷ []
+column_name_parts (Some alias) column = Name alias ∷ Fixed m.Dot ∷ Name column ∷ []
+
+abbrev pub column_parts : ColRef → List Part
+column_parts column = column_name_parts column.alias column.column
+
+-- no plus sign is written, nor a minus sign before 0
+abbrev pub integer_parts : ℤ → List Part
+integer_parts n = kept_if (int_lt n (pos 0)) (m.Minus ∷ []) ++ Number (unsigned_abs n) ∷ []
+
+abbrev pub value_parts : Value → List Part
+value_parts (value.Int n) = integer_parts n
+value_parts (value.Text text) = Text text ∷ []
+value_parts value.Null = Fixed m.Null ∷ []
+
+abbrev pub operand_parts : Term → List Part
+operand_parts (term.Column column) = column_parts column
+operand_parts (term.Literal literal) = value_parts literal
+
+-- whether a condition is put in parentheses as an operand of AND, of OR, and of NOT
+abbrev pub is_or : ConditionTree → Bool
+is_or (Or parts) = true
+is_or other = false
+
+abbrev pub is_chain : ConditionTree → Bool
+is_chain (And parts) = true
+is_chain (Or parts) = true
+is_chain other = false
+
+abbrev pub is_no_predicate : ConditionTree → Bool
+is_no_predicate (Not inner) = true
+is_no_predicate (And parts) = true
+is_no_predicate (Or parts) = true
+is_no_predicate other = false
+
+abbrev pub grouped_if : Bool → List Part → List Part
+grouped_if false parts = parts
+grouped_if true parts = in_parentheses parts
+
+abbrev mutual
+  pub condition_parts : ConditionTree → List Part
+  condition_parts (Compare op left right) = operand_parts left ++ Operator op ∷ operand_parts right
+  condition_parts (Between negated of low high) =
+      operand_parts of
+      ++ (kept_if negated (m.Not ∷ []) ++ Fixed m.Between ∷ (operand_parts low ++ Fixed m.And ∷ operand_parts high))
+  condition_parts (OneOf negated of terms) =
+      operand_parts of
+      ++ (kept_if negated (m.Not ∷ []) ++ Fixed m.In ∷ in_parentheses (listed operand_parts terms))
+  condition_parts (IsNull negated column) =
+      column_parts column ++ Fixed m.Is ∷ (kept_if negated (m.Not ∷ []) ++ Fixed m.Null ∷ [])
+  condition_parts (Not inner) = Fixed m.Not ∷ grouped_if (is_no_predicate inner) (condition_parts inner)
+  condition_parts (And parts) = and_parts parts
+  condition_parts (Or parts) = or_parts parts
+
+  -- the operands of AND, with AND between each two
+  pub and_parts : ConditionTrees → List Part
+  and_parts NoMore = []
+  and_parts (More part parts) = grouped_if (is_chain part) (condition_parts part) ++ more_and_parts parts
+
+  pub more_and_parts : ConditionTrees → List Part
+  more_and_parts NoMore = []
+  more_and_parts (More part parts) =
+      Fixed m.And ∷ (grouped_if (is_chain part) (condition_parts part) ++ more_and_parts parts)
+
+  -- the operands of OR, with OR between each two
+  pub or_parts : ConditionTrees → List Part
+  or_parts NoMore = []
+  or_parts (More part parts) = grouped_if (is_or part) (condition_parts part) ++ more_or_parts parts
+
+  pub more_or_parts : ConditionTrees → List Part
+  more_or_parts NoMore = []
+  more_or_parts (More part parts) =
+      Fixed m.Or ∷ (grouped_if (is_or part) (condition_parts part) ++ more_or_parts parts)
+
+-- an alias is written where it isn't the table's name
+abbrev pub item_parts : Item → List Part
+item_parts item =
+    Name item.table ∷ (if bytes_eq item.alias item.table then [] else Fixed m.As ∷ Name item.alias ∷ [])
+
+abbrev pub selection_parts : Option (List ColRef) → List Part
+selection_parts None = Fixed m.Star ∷ []
+selection_parts (Some columns) = listed column_parts columns
+
+abbrev pub where_parts : Option ConditionTree → List Part
+where_parts None = []
+where_parts (Some tree) = Fixed m.Where ∷ condition_parts tree
+
+abbrev pub query_parts : QueryTree → List Part
+query_parts query =
+    Fixed m.Select
+    ∷ (selection_parts query.columns ++ Fixed m.From ∷ (listed item_parts query.from ++ where_parts query.condition))
+
+-- INT is written INTEGER
+abbrev pub type_parts : ColumnType → List Part
+type_parts types.Integer = Fixed m.Integer ∷ []
+type_parts (types.Varchar n) = Fixed m.Varchar ∷ in_parentheses (Number n ∷ [])
+
+abbrev pub definition_parts : ColumnDef → List Part
+definition_parts column =
+    Name column.name ∷ (type_parts column.kind ++ kept_if column.not_null (m.Not ∷ m.Null ∷ []))
+
+-- LEVELS, THRESHOLD and AT are written where they were given
+abbrev pub option_parts : Mark → Option ℕ → List Part
+option_parts keyword None = []
+option_parts keyword (Some n) = Fixed keyword ∷ Number n ∷ []
+
+abbrev pub point_parts : List ℕ → List Part
+point_parts [] = []
+point_parts (n ∷ ns) = Fixed m.At ∷ listed (λ level. Number level ∷ []) (n ∷ ns)
+
+abbrev pub statement_parts : StatementTree → List Part
+statement_parts (CreateTable table) =
+    Fixed m.Create ∷ Fixed m.Table ∷ Name table.name ∷ in_parentheses (listed definition_parts table.columns)
+statement_parts (CreateIndex index) =
+    Fixed m.Create ∷ Fixed m.Index ∷ Name index.name ∷ Fixed m.On ∷ Name index.table
+    ∷ in_parentheses (Name index.column ∷ [])
+statement_parts (Load load) = Fixed m.Load ∷ Text load.file ∷ Fixed m.Into ∷ Name load.table ∷ []
+statement_parts (Select query) = query_parts query
+statement_parts (Compile name levels threshold query) =
+    Fixed m.Compile ∷ Name name
+    ∷ (option_parts m.Levels levels ++ (option_parts m.Threshold threshold ++ Fixed m.As ∷ query_parts query))
+statement_parts (Run name) = Fixed m.Run ∷ Name name ∷ []
+statement_parts (Explain name) = Fixed m.Explain ∷ Name name ∷ []
+statement_parts (SaveFile save) = Fixed m.Save ∷ Name save.name ∷ Fixed m.To ∷ Text save.file ∷ []
+statement_parts (OpenFile name file query) =
+    Fixed m.Open ∷ Name name ∷ Fixed m.From ∷ Text file ∷ Fixed m.As ∷ query_parts query
+statement_parts (Audit audit) = Fixed m.Audit ∷ Name audit.name ∷ point_parts audit.levels
+
+-- the text of parts, the first of which has no space before it
+abbrev pub text_of : List Part → List ℕ
+text_of parts = written_text (spaced true parts)
+
+-- the canonical text of a query, and of a statement
+abbrev pub canonical_query : QueryTree → List ℕ
+canonical_query query = text_of (query_parts query)
+
+abbrev pub canonical : StatementTree → List ℕ
+canonical statement = text_of (statement_parts statement)

@@ -1,0 +1,24 @@
+-- What each private function of the printer appends. No public clause cites this file.
+use Rattle.std.specs.Prelude.{ℕ, zero, suc, Bool, true, List, [], ◌∷◌, ◌++◌, fold}
+use Rattle.sql_parse.specs.declared.mark.Mark.{Mark}
+use Rattle.sql_parse.specs.Canonical.{Part, Fixed, part_lexeme, spelled, joins_next, space_before}
+
+-- a text, and whether its last part joins the next one
+pub record Line : Type 0 where
+  pub text : List ℕ
+  pub joined : Bool
+
+abbrev pub nothing : Line
+nothing = record { text = []; joined = true }
+
+unfoldable pub put : Line → Part → Line
+put line part =
+    record { text = line.text ++ (space_before line.joined part ++ spelled (part_lexeme part)); joined = joins_next part }
+
+abbrev pub put_all : Line → List Part → Line
+put_all line parts = fold put line parts
+
+-- the keyword before the operand at a place, which isn't before the first
+abbrev pub between : (place : ℕ) → Mark → List Part
+between zero keyword = []
+between (suc i) keyword = Fixed keyword ∷ []

@@ -1,0 +1,134 @@
+// The canonical text of conditions.
+
+ghost use Rattle.std.specs.Prelude.{◌≡◌, map, OnOk};
+ghost use Rattle.sql_parse.specs.Trees.{condition_tree, operands};
+ghost use Rattle.sql_parse.specs.Canonical.{is_or, is_chain, is_no_predicate, grouped_if, condition_parts, and_parts, or_parts};
+ghost use Rattle.sql_parse.specs.Printing.{put_all, between};
+
+use crate::canonical::{Printed, print_if, print_in_parentheses};
+use crate::mark::Mark;
+use crate::tree::Cond;
+use crate::writer::Writer;
+use std::alloc::AllocError;
+
+// Appends a condition.
+#[cycle(condition)]
+#[tactic(auto, using(crate::proofs::Written::of_lines))]
+pub(crate) fn condition(writer: &mut Writer, tree: &Cond) -> Result<(), AllocError>
+    ensures { OnOk result
+        (writer.new ≡ put_all writer.old (condition_parts (condition_tree tree.now))) }
+{
+    match tree {
+        Cond::Compare(op, left, right) => {
+            left.print_to(writer)?;
+            writer.operator(*op)?;
+            right.print_to(writer)
+        }
+        Cond::Between(negated, of, low, high) => {
+            of.print_to(writer)?;
+            print_if(writer, *negated, Mark::Not)?;
+            writer.mark(Mark::Between)?;
+            low.print_to(writer)?;
+            writer.mark(Mark::And)?;
+            high.print_to(writer)
+        }
+        Cond::OneOf(negated, of, terms) => {
+            of.print_to(writer)?;
+            print_if(writer, *negated, Mark::Not)?;
+            writer.mark(Mark::In)?;
+            print_in_parentheses(writer, terms.as_slice())
+        }
+        Cond::IsNull(negated, column) => {
+            column.print_to(writer)?;
+            writer.mark(Mark::Is)?;
+            print_if(writer, *negated, Mark::Not)?;
+            writer.mark(Mark::Null)
+        }
+        Cond::Not(inner) => {
+            writer.mark(Mark::Not)?;
+            grouped(writer, is_no_predicate(inner), inner)
+        }
+        Cond::And(parts) => and_chain(writer, parts.as_slice()),
+        Cond::Or(parts) => or_chain(writer, parts.as_slice()),
+    }
+}
+
+// Appends a condition, in parentheses where it is to be a group.
+#[cycle(condition)]
+#[tactic(auto, using(crate::proofs::Written::of_lines))]
+fn grouped(writer: &mut Writer, is_group: bool, tree: &Cond) -> Result<(), AllocError>
+    ensures { OnOk result (writer.new
+        ≡ put_all writer.old (grouped_if is_group (condition_parts (condition_tree tree.now)))) }
+{
+    if !is_group {
+        return condition(writer, tree);
+    }
+    writer.mark(Mark::OpenParen)?;
+    condition(writer, tree)?;
+    writer.mark(Mark::CloseParen)
+}
+
+// Appends the operands of AND.
+#[cycle(condition)]
+#[tactic(auto, using(crate::proofs::Written::of_lines))]
+fn and_chain(writer: &mut Writer, parts: &[Cond]) -> Result<(), AllocError>
+    ensures { OnOk result
+        (writer.new ≡ put_all writer.old (and_parts (operands (map condition_tree parts.now)))) }
+{
+    for (i, part) in parts.iter().enumerate() {
+        print_between(writer, i, Mark::And)?;
+        grouped(writer, is_chain(part), part)?;
+    }
+    Ok(())
+}
+
+// Appends the operands of OR.
+#[cycle(condition)]
+#[tactic(auto, using(crate::proofs::Written::of_lines))]
+fn or_chain(writer: &mut Writer, parts: &[Cond]) -> Result<(), AllocError>
+    ensures { OnOk result
+        (writer.new ≡ put_all writer.old (or_parts (operands (map condition_tree parts.now)))) }
+{
+    for (i, part) in parts.iter().enumerate() {
+        print_between(writer, i, Mark::Or)?;
+        grouped(writer, is_or(part), part)?;
+    }
+    Ok(())
+}
+
+// Appends the keyword before an operand that isn't the first.
+fn print_between(writer: &mut Writer, place: usize, keyword: Mark) -> Result<(), AllocError>
+    ensures { OnOk result (writer.new ≡ put_all writer.old (between place keyword)) }
+{
+    if place > 0 {
+        writer.mark(keyword)?;
+    }
+    Ok(())
+}
+
+fn is_or(tree: &Cond) -> bool
+    ensures { result ≡ is_or (condition_tree tree.now) }
+{
+    match tree {
+        Cond::Or(_) => true,
+        _ => false,
+    }
+}
+
+fn is_chain(tree: &Cond) -> bool
+    ensures { result ≡ is_chain (condition_tree tree.now) }
+{
+    match tree {
+        Cond::And(_) | Cond::Or(_) => true,
+        _ => false,
+    }
+}
+
+fn is_no_predicate(tree: &Cond) -> bool
+    ensures { result ≡ is_no_predicate (condition_tree tree.now) }
+{
+    match tree {
+        Cond::Not(_) | Cond::And(_) | Cond::Or(_) => true,
+        _ => false,
+    }
+}
