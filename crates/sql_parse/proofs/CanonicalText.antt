@@ -1,7 +1,6 @@
 -- Canonical text is read as its statement.
-use Rattle.std.proofs.Common.{◌≡◌, ◌∙◌, ℕ, true, List, sym, ap, subst}
+use Rattle.std.proofs.Common.{◌≡◌, ℕ, true, List, sym, ap, subst}
 use Rattle.std.specs.Prelude.{Result, Ok}
-use Rattle.sql_lex.specs.Tokens.{Tokens}
 use Rattle.sql_lex.specs.Written.{written_tokens}
 use Rattle.sql_lex.proofs.Lexings.{lexing_once}
 use Rattle.sql_lex.specs.declared.fault.LexFault.{LexFault}
@@ -13,7 +12,6 @@ use Rattle.sql_parse.specs.Canonical.{spaced, statement_parts, canonical}
 use Rattle.sql_parse.specs.Script.{IsTextOf}
 use Rattle.sql_parse.proofs.Scripts.{tokens-each}
 use Rattle.sql_parse.proofs.AgainStatements.{statements-same}
-use Rattle.sql_parse.proofs.ReadStatements.{statement_of-reads}
 use Rattle.sql_parse.proofs.Sound.{tokens-sound}
 use Rattle.sql_parse.proofs.SoundForms.{statement-writable}
 use Rattle.sql_parse.proofs.PrintedStatements.{statement-printed}

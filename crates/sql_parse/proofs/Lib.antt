@@ -16,4 +16,5 @@ pub mod PrintedStatements
 pub mod Sound
 pub mod WrittenParts
 pub mod SoundForms
+pub mod WellFormed
 pub mod CanonicalText

@@ -1,12 +1,12 @@
 -- A condition that is written somehow is also written as it is printed, within the same nesting of parentheses.
-use Rattle.std.proofs.Common.{◌≡◌, ◌∙◌, ℕ, zero, suc, ◌⊎◌, inl, inr, Bool, true, false, List, [], ◌∷◌, ◌++◌, Option, Some, None, refl, sym, ap, subst, append-nil}
+use Rattle.std.proofs.Common.{◌≡◌, ℕ, zero, suc, ◌⊎◌, inl, inr, Bool, true, false, List, [], ◌∷◌, refl, sym, ap, subst, append-nil}
 use Rattle.sql_parse.specs.declared.mark.Mark.{Mark}
 use Rattle.sql_parse.specs.declared.mark.Mark.TheVariants as m
 use Rattle.sql_parse.specs.Limits.{nesting_limit}
 use Rattle.sql_parse.specs.Lexemes.{Lexeme, mark}
 use Rattle.sql_parse.specs.Trees.{ConditionTree, ConditionTrees, Compare, Between, OneOf, IsNull, Not, And, Or, NoMore, More, operands}
-use Rattle.sql_parse.specs.Grammar.{Rule, Separated, IsPredicate, IsFactor, IsChain, IsConjunction, IsDisjunction, IsGroup, IsCondition}
-use Rattle.sql_parse.specs.Canonical.{Part, Fixed, in_parentheses, is_or, is_chain, is_no_predicate, grouped_if, condition_parts, and_parts, or_parts}
+use Rattle.sql_parse.specs.Grammar.{Rule, Separated, IsPredicate, IsFactor, IsConjunction, IsDisjunction, IsGroup, IsCondition}
+use Rattle.sql_parse.specs.Canonical.{Fixed, in_parentheses, is_or, is_chain, is_no_predicate, grouped_if, condition_parts, and_parts, or_parts}
 use Rattle.sql_parse.proofs.PrintedForms.{tokens_of, tokens-append, IsPrintedBy, predicate-printed}
 
 -- what may stand at a nesting, where parentheses take one

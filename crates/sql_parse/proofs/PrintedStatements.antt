@@ -1,8 +1,8 @@
 -- A statement that is written somehow is also written as it is printed.
-use Rattle.std.proofs.Common.{◌≡◌, ◌∙◌, List, [], ◌∷◌, ◌++◌, Option, Some, None, refl, ap}
+use Rattle.std.proofs.Common.{◌∙◌, ◌∷◌, ◌++◌, Some, None, refl, ap}
 use Rattle.sql_parse.specs.declared.mark.Mark.TheVariants as m
-use Rattle.sql_parse.specs.Lexemes.{Lexeme, Word, mark}
-use Rattle.sql_parse.specs.Trees.{StatementTree, CreateTable, CreateIndex, Load, Select, Compile, Run, Explain, SaveFile, OpenFile, Audit}
+use Rattle.sql_parse.specs.Lexemes.{Word, mark}
+use Rattle.sql_parse.specs.Trees.{CreateTable, CreateIndex, Load, Select, Compile, Run, Explain, SaveFile, OpenFile, Audit}
 use Rattle.sql_parse.specs.Grammar.{Separated, option_of, IsItem, IsWhere, IsSelect, IsColumn, IsStatement}
 use Rattle.sql_parse.specs.Canonical.{Fixed, listed, in_parentheses, condition_parts, item_parts, selection_parts, where_parts, query_parts, definition_parts, option_parts, point_parts, statement_parts}
 use Rattle.sql_parse.proofs.PrintedForms.{tokens_of, tokens-append, IsPrintedBy, separated-printed, in_parentheses-printed, item-printed, selection-printed, definition-printed, option-printed, point-printed}

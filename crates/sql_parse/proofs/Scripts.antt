@@ -11,7 +11,7 @@ use Rattle.sql_parse.specs.declared.tree.Statement.{Statement}
 use Rattle.sql_parse.specs.Lexemes.{Lexeme, lexemes}
 use Rattle.sql_parse.specs.Trees.{StatementTree, statement_tree}
 use Rattle.sql_parse.specs.Grammar.{IsStatement}
-use Rattle.sql_parse.specs.Script.{split, not_empty, pieces, AreStatementsOf, AreStatements, IsFirstRefused, IsCause}
+use Rattle.sql_parse.specs.Script.{split, not_empty, pieces, AreStatementsOf, AreStatements, IsFirstRefused, IsParsing, IsCause}
 use Rattle.sql_parse.specs.Reading.{split_after, statement_of, with_statement}
 use Rattle.sql_parse.proofs.Read.{found_is}
 use Rattle.sql_parse.proofs.ReadStatements.{statement_of-reads}
@@ -128,14 +128,18 @@ has_statement script [] others piece (tree ∷ trees) all = (tree, all.0)
 has_statement script (other ∷ before) others piece [] all = absurd all
 has_statement script (other ∷ before) others piece (tree ∷ trees) all = has_statement script before others piece trees all.1
 
+never_both : (script : List ℕ) (tokens : List Token) (trees : List StatementTree) (place : ℕ) → AreStatements script tokens trees → IsFirstRefused script tokens place → ⊥
+never_both script tokens trees place all first =
+    let one = has_statement script first.0 first.1 (first.3 ∷ first.4) trees (subst (λ (some : List (List Token)). AreStatementsOf script some trees) first.5 all) in
+    first.7 one.0 one.1
+
 pub only_statements : (script : List ℕ) (tokens : List Token) (trees : List StatementTree) (result : Result (Vec Statement Global) SyntaxFault)
     → IfOk result (λ statements. AreStatements script tokens (map statement_tree statements.items)) → IfErr result (IsCause script tokens)
     → AreStatements script tokens trees
     → MatchResult result (λ statements. map statement_tree statements.items ≡ trees) (λ fault. fault ≡ NoMemory)
 only_statements script tokens trees (Ok statements) found refused all = are_statements-same script (pieces script tokens) _ trees found all
 only_statements script tokens trees (Err (Syntax place)) found refused all =
-    let one = has_statement script refused.0 refused.1 (refused.3 ∷ refused.4) trees (subst (λ (some : List (List Token)). AreStatementsOf script some trees) refused.5 all) in
-    absurd (refused.7 one.0 one.1)
+    absurd (never_both script tokens trees place all refused)
 only_statements script tokens trees (Err NoMemory) found refused all = refl
 
 -- no piece is a statement
@@ -173,9 +177,52 @@ pub refused_there : (script : List ℕ) (tokens : List Token) (result : Result (
     → IfOk result (λ statements. AreStatements script tokens (map statement_tree statements.items)) → IfErr result (IsCause script tokens)
     → (place : ℕ) → IsFirstRefused script tokens place
     → MatchResult result (λ statements. ⊥) (λ fault. (fault ≡ NoMemory) ⊎ (fault ≡ Syntax place))
-refused_there script tokens (Ok statements) found refused place first =
-    let one = has_statement script first.0 first.1 (first.3 ∷ first.4) (map statement_tree statements.items)
-    (subst (λ (some : List (List Token)). AreStatementsOf script some (map statement_tree statements.items)) first.5 found) in
-    first.7 one.0 one.1
+refused_there script tokens (Ok statements) found refused place first = never_both script tokens (map statement_tree statements.items) place found first
 refused_there script tokens (Err (Syntax other)) found refused place first = inr (ap Syntax (one_place script tokens other place refused first))
 refused_there script tokens (Err NoMemory) found refused place first = inl refl
+
+-- what pieces are read as
+abbrev IsParsingOf : List ℕ → List (List Token) → Result (List StatementTree) ℕ → Type 0
+IsParsingOf script all (Ok trees) = AreStatementsOf script all trees
+IsParsingOf script all (Err place) =
+    (before after : List (List Token)) × (trees : List StatementTree) × (first : Token) × (rest : List Token)
+    × (all ≡ before ++ (first ∷ rest) ∷ after) × AreStatementsOf script before trees × IsNone script (first ∷ rest) × (place ≡ first.start)
+
+parsing-next : (script : List ℕ) (first : Token) (rest : List Token) (later : List (List Token)) (found : Option StatementTree)
+    → statement_of (lexemes script (first ∷ rest)) ≡ found → (parsing : Result (List StatementTree) ℕ) → IsParsingOf script later parsing
+    → (all : Result (List StatementTree) ℕ) × IsParsingOf script ((first ∷ rest) ∷ later) all
+parsing-next script first rest later None none parsing is =
+    (Err first.start, ([], later, [], first, rest, refl, tt, (λ tree form. no_statement (lexemes script (first ∷ rest)) tree none form), refl))
+parsing-next script first rest later (Some tree) found (Ok trees) is =
+    let piece = lexemes script (first ∷ rest) in
+    (Ok (tree ∷ trees), (found_is (IsStatement piece) (statement_of piece) tree (statement_of-reads piece) found, is))
+parsing-next script first rest later (Some tree) found (Err place) is =
+    let piece = lexemes script (first ∷ rest) in
+    let form = found_is (IsStatement piece) (statement_of piece) tree (statement_of-reads piece) found in
+    (Err place, ((first ∷ rest) ∷ is.0, is.1, tree ∷ is.2, is.3, is.4, ap (λ all. (first ∷ rest) ∷ all) is.5, (form, is.6), is.7, is.8))
+
+some_parsing_of : (script : List ℕ) (all : List (List Token)) → (parsing : Result (List StatementTree) ℕ) × IsParsingOf script (not_empty all) parsing
+some_parsing_of script [] = (Ok [], tt)
+some_parsing_of script ([] ∷ all) = some_parsing_of script all
+some_parsing_of script ((first ∷ rest) ∷ all) =
+    let later = some_parsing_of script all in
+    parsing-next script first rest (not_empty all) (statement_of (lexemes script (first ∷ rest))) refl later.0 later.1
+
+parsing_of : (script : List ℕ) (tokens : List Token) (parsing : Result (List StatementTree) ℕ) → IsParsingOf script (pieces script tokens) parsing
+    → IsParsing script tokens parsing
+parsing_of script tokens (Ok trees) is = is
+parsing_of script tokens (Err place) is = is
+
+-- the tokens of a script are read as something
+pub some_parsing : (script : List ℕ) (tokens : List Token) → (parsing : Result (List StatementTree) ℕ) × IsParsing script tokens parsing
+some_parsing script tokens =
+    let some = some_parsing_of script (split script tokens) in
+    (some.0, parsing_of script tokens some.0 some.1)
+
+-- and as nothing else
+pub parsing_once : (script : List ℕ) (tokens : List Token) (one other : Result (List StatementTree) ℕ) → IsParsing script tokens one → IsParsing script tokens other
+    → one ≡ other
+parsing_once script tokens (Ok trees) (Ok others) one other = ap Ok (are_statements-same script (pieces script tokens) trees others one other)
+parsing_once script tokens (Ok trees) (Err place) one other = absurd (never_both script tokens trees place one other)
+parsing_once script tokens (Err place) (Ok trees) one other = absurd (never_both script tokens trees place other one)
+parsing_once script tokens (Err place) (Err other_place) one other = ap Err (one_place script tokens place other_place one other)

@@ -1,5 +1,5 @@
 -- The tokens of a script can be spelled as canonical text spells them, and each part that is printed of them, too.
-use Rattle.std.proofs.Common.{◌≡◌, ◌∙◌, ℕ, zero, suc, ◌+◌, ◌-◌, ◌*◌, ◌<◌, ◌≤◌, ◌^◌, ◌==◌, ◌&&◌, Bool, true, false, nat_le, List, [], ◌∷◌, ◌++◌, map, fold, length, codes, bytes_eq, decimal, slice_index, refl, sym, ap, subst, arith}
+use Rattle.std.proofs.Common.{◌≡◌, ◌∙◌, ℕ, ◌+◌, ◌-◌, ◌*◌, ◌<◌, ◌≤◌, ◌^◌, true, false, nat_le, List, [], ◌∷◌, fold, length, codes, bytes_eq, decimal, slice_index, refl, sym, ap, subst, arith}
 use Rattle.std.specs.List.{All, AllPass, list_all}
 use Rattle.std.specs.Str.{IsUtf8, all_ascii_digits}
 use Rattle.std.specs.Char.{to_ascii_uppercase, is_ascii_digit}
@@ -23,7 +23,7 @@ use Rattle.sql_lex.specs.declared.token.TokenKind.TheVariants as kinds
 use Rattle.sql_values.specs.declared.op.Op.TheVariants as ops
 use Rattle.sql_parse.specs.declared.mark.Mark.{Mark}
 use Rattle.sql_parse.specs.declared.mark.Mark.TheVariants as m
-use Rattle.sql_parse.specs.Lexemes.{Lexeme, Word, Number, Text, Sign, Comparison, lexeme_of, lexeme, lexemes, mark}
+use Rattle.sql_parse.specs.Lexemes.{Lexeme, Word, Number, Text, Sign, Comparison, lexeme_of, lexemes, mark}
 use Rattle.sql_parse.specs.Canonical.{spelled, kind_of}
 
 -- the token can be spelled, and is read again from that

@@ -1,17 +1,15 @@
 -- What is printed for a value that tokens of a script are written for is sound.
-use Rattle.std.proofs.Common.{◌≡◌, ℕ, zero, suc, ◌≤◌, ◌⊎◌, inl, inr, Bool, true, false, cond, List, [], ◌∷◌, ◌++◌, Option, Some, None, ℤ, pos, negsuc, int_lt, neg_ℤ, bytes_eq, sym, subst, rules, arith}
+use Rattle.std.proofs.Common.{◌≡◌, ℕ, zero, suc, ◌≤◌, inl, inr, Bool, true, false, cond, List, [], ◌∷◌, ◌++◌, Option, Some, None, pos, int_lt, neg_ℤ, bytes_eq, sym, subst, rules}
 use Rattle.sql_lex.specs.Limits.{max_number}
 use Rattle.sql_values.specs.declared.value.Value.TheVariants as value
 use Rattle.sql_values.specs.declared.column.ColumnType.TheVariants as types
-use Rattle.sql_parse.specs.declared.mark.Mark.{Mark}
 use Rattle.sql_parse.specs.declared.mark.Mark.TheVariants as m
-use Rattle.sql_parse.specs.declared.tree.Item.{Item}
 use Rattle.sql_parse.specs.declared.tree.Term.TheVariants as term
 use Rattle.sql_parse.specs.Limits.{nesting_limit}
 use Rattle.sql_parse.specs.Lexemes.{Lexeme, Word, mark}
 use Rattle.sql_parse.specs.Lexemes as lexeme
-use Rattle.sql_parse.specs.Trees.{ConditionTree, ConditionTrees, Compare, Between, OneOf, IsNull, Not, And, Or, NoMore, More, operands, StatementTree, CreateTable, CreateIndex, Load, Select, Compile, Run, Explain, SaveFile, OpenFile, Audit}
-use Rattle.sql_parse.specs.Grammar.{Rule, written_if, option_of, Separated, InParentheses, IsColumnName, IsColRef, IsInteger, IsOperand, IsPredicate, IsFactor, IsConjunction, IsDisjunction, IsGroup, IsCondition, IsItem, IsSelection, IsWhere, IsSelect, IsColumnType, IsColumn, IsLevel, IsPoint, IsStatement}
+use Rattle.sql_parse.specs.Trees.{ConditionTree, Compare, Between, OneOf, IsNull, Not, And, Or, operands, CreateTable, CreateIndex, Load, Select, Compile, Run, Explain, SaveFile, OpenFile, Audit}
+use Rattle.sql_parse.specs.Grammar.{Rule, written_if, option_of, Separated, InParentheses, IsColumnName, IsColRef, IsInteger, IsOperand, IsPredicate, IsFactor, IsConjunction, IsDisjunction, IsGroup, IsItem, IsSelection, IsWhere, IsSelect, IsColumnType, IsColumn, IsLevel, IsPoint, IsStatement}
 use Rattle.sql_parse.specs.Canonical.{Part, Fixed, Name, Number, Operator, listed, in_parentheses, kept_if, column_name_parts, column_parts, integer_parts, operand_parts, is_or, is_chain, is_no_predicate, grouped_if, condition_parts, and_parts, or_parts, item_parts, selection_parts, where_parts, query_parts, type_parts, definition_parts, option_parts, point_parts, statement_parts}
 use Rattle.sql_parse.proofs.Sound.{IsSound, EachSound, mark-sound}
 use Rattle.sql_parse.proofs.WrittenParts.{Writable, writable-append}

@@ -1,8 +1,7 @@
 -- Sound parts are read, as they are spaced, as these tokens.
-use Rattle.std.proofs.Common.{◌≡◌, ◌∙◌, ◌⊎◌, inl, inr, ℕ, zero, suc, ◌+◌, ◌-◌, ◌<◌, ◌≤◌, ◌≢◌, Bool, true, false, cond, nat_eq, List, [], ◌∷◌, ◌++◌, map, length, get_or, drop, codes, decimal, slice_index, None, Some, refl, sym, ap, subst, arith, length-append, length-drop}
+use Rattle.std.proofs.Common.{◌≡◌, ◌∙◌, ◌⊎◌, inl, inr, ℕ, ◌+◌, ◌-◌, ◌<◌, ◌≤◌, Bool, true, false, cond, nat_eq, List, [], ◌∷◌, ◌++◌, map, length, get_or, drop, codes, decimal, slice_index, None, Some, refl, sym, ap, arith, length-append, length-drop}
 use Rattle.std.specs.List.{AllPass}
 use Rattle.std.specs.Char.{is_ascii_digit}
-use Rattle.std.proofs.lemmas.Bool.{ne_eqb}
 use Rattle.std.proofs.lemmas.Bool.Decides.{nat_tests}
 use Rattle.std.proofs.lemmas.List.Elements.{All-head, All-nil}
 use Rattle.std.proofs.lemmas.List.Sums.{AllPass-from_list_all}
@@ -18,8 +17,8 @@ use Rattle.sql_lex.specs.declared.token.TokenKind.{TokenKind}
 use Rattle.sql_values.specs.declared.op.Op.{Op}
 use Rattle.sql_values.specs.declared.op.Op.TheVariants as ops
 use Rattle.sql_parse.specs.declared.mark.Mark.TheVariants as m
-use Rattle.sql_parse.specs.Lexemes.{Lexeme, lexeme_of, lexemes}
-use Rattle.sql_parse.specs.Canonical.{Part, Fixed, Name, Number, Text, Operator, part_lexeme, spelled, kind_of, joins_next, space_before, spaced, text_of}
+use Rattle.sql_parse.specs.Lexemes.{lexeme_of, lexemes}
+use Rattle.sql_parse.specs.Canonical.{Part, Fixed, Name, Number, Text, Operator, part_lexeme, spelled, kind_of, joins_next, spaced, text_of}
 use Rattle.sql_parse.proofs.PrintedForms.{tokens_of}
 use Rattle.sql_parse.proofs.Sound.{IsSound, sound-form, sound-limit, sound-again, decimal-digits, decimal-length}
 

@@ -4,6 +4,7 @@ pub mod Trees
 pub mod Grammar
 pub mod Script
 pub mod Counts
+pub mod WellFormed
 pub mod Reading
 pub mod Canonical
 pub mod Printing

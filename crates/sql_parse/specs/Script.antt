@@ -1,5 +1,5 @@
 -- The statements of a script.
-use Rattle.std.specs.Prelude.{ℕ, ◌≡◌, Bool, false, List, [], ◌∷◌, ◌++◌, codes, bytes_eq, if◌then◌else◌}
+use Rattle.std.specs.Prelude.{ℕ, ◌≡◌, Bool, false, List, [], ◌∷◌, ◌++◌, codes, bytes_eq, if◌then◌else◌, Result, Ok, Err}
 use Rattle.std.specs.List.{AllZip}
 use Rattle.sql_lex.specs.Tokens.{Tokens}
 use Rattle.sql_lex.specs.declared.token.Token.{Token}
@@ -49,6 +49,11 @@ IsFirstRefused script tokens place =
     (before after : List (List Token)) × (trees : List StatementTree) × (first : Token) × (rest : List Token)
     × (pieces script tokens ≡ before ++ (first ∷ rest) ∷ after) × AreStatementsOf script before trees
     × ((tree : StatementTree) → IsStatement (lexemes script (first ∷ rest)) tree → ⊥) × (place ≡ first.start)
+
+-- what the tokens of a script are read as: their statements, or the place of the first piece that is none
+abbrev pub IsParsing : List ℕ → List Token → Result (List StatementTree) ℕ → Type 0
+IsParsing script tokens (Ok trees) = AreStatements script tokens trees
+IsParsing script tokens (Err place) = IsFirstRefused script tokens place
 
 -- what a refusal says of the script; out of memory says nothing
 abbrev pub IsCause : List ℕ → List Token → SyntaxFault → Type 0

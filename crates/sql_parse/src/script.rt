@@ -1,13 +1,15 @@
 // The statements of a script.
 
-ghost use Rattle.std.specs.Prelude.{◌≡◌, ℕ, ◌≤◌, ◌+◌, ◌⊎◌, List, ◌∷◌, length, map, take, drop, IfOk, IfErr, MatchResult};
+ghost use Rattle.std.specs.Prelude.{◌≡◌, ℕ, ◌≤◌, ◌+◌, ◌⊎◌, List, ◌∷◌, length, map, take, drop, Result, IfOk, IfErr, MatchResult};
 ghost use Rattle.std.specs.List.{All};
 ghost use Rattle.sql_lex.specs.Tokens.{IsToken, Tokens};
+ghost use Rattle.sql_lex.specs.declared.token.Token.{Token};
 ghost use Rattle.sql_parse.specs.Limits.{script_limit};
 ghost use Rattle.sql_parse.specs.Lexemes.{Lexeme, lexeme, lexemes};
 ghost use Rattle.sql_parse.specs.Trees.{StatementTree, statement_tree};
 ghost use Rattle.sql_parse.specs.Grammar.{IsStatement};
-ghost use Rattle.sql_parse.specs.Script.{is_semicolon, split, AreStatements, IsFirstRefused, IsCause};
+ghost use Rattle.sql_parse.specs.Script.{is_semicolon, split, AreStatements, IsFirstRefused, IsParsing, IsCause};
+ghost use Rattle.sql_parse.specs.WellFormed.{IsWellFormed};
 ghost use Rattle.sql_parse.specs.Counts.{predicates_of, operands_of};
 ghost use Rattle.sql_parse.specs.Reading.{Gives, statement_of, with_statement, split_after};
 ghost use Rattle.sql_parse.specs.declared.fault.SyntaxFault.TheVariants as faults;
@@ -23,6 +25,17 @@ use std::alloc::Global;
 pub fn one_statement()
     ensures { (tokens : List Lexeme) (one other : StatementTree) →
         IsStatement tokens one → IsStatement tokens other → one ≡ other }
+{}
+
+/// The law of reading: tokens are statements, or have a first piece that is none, and are read in no second way.
+/// Tokens with statements have these alone and no such piece; those with such a piece have this one alone and no
+/// statements.
+pub fn one_parsing_is_due()
+    ensures some { (script : List ℕ) (tokens : List Token) →
+        (parsing : Result (List StatementTree) ℕ) × IsParsing script tokens parsing }
+    ensures one { (script : List ℕ) (tokens : List Token)
+        (one other : Result (List StatementTree) ℕ) →
+        IsParsing script tokens one → IsParsing script tokens other → one ≡ other }
 {}
 
 /// The statements of a script, in order: one for each piece between semicolons that isn't empty.
@@ -43,13 +56,14 @@ pub fn read_script(
     ensures only { (trees : List StatementTree) → AreStatements text.now tokens.now trees →
         MatchResult result (λ statements. map statement_tree statements.items ≡ trees)
         (λ fault. fault ≡ faults.NoMemory) }
+    ensures well_formed { IfOk result (λ statements.
+        All (λ statement. IsWellFormed (statement_tree statement)) statements.items) }
     ensures predicates { IfOk result (λ statements.
         All (λ statement. predicates_of (statement_tree statement) ≤ length tokens.now)
         statements.items) }
     ensures operands { IfOk result (λ statements.
         All (λ statement. operands_of (statement_tree statement) ≤ length tokens.now)
         statements.items) }
-
     ensures refused { IfErr result (IsCause text.now tokens.now) }
     ensures first { (place : ℕ) → IsFirstRefused text.now tokens.now place →
         MatchResult result (λ _. ⊥)

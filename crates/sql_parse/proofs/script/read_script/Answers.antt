@@ -1,6 +1,7 @@
 use Rattle.std.proofs.lemmas.Result.{IfOk-weaker}
 use Rattle.sql_parse.proofs.Scripts.{tokens-each, only_statements, refused_there}
 use Rattle.sql_parse.proofs.Counted.{predicates-counted, operands-counted}
+use Rattle.sql_parse.proofs.WellFormed.{each-well_formed}
 use Rattle.sql_parse.proofs.script.read_script.Goals as goal
 
 pub read-requires : goal.read-requires
@@ -19,3 +20,7 @@ returns-clause-operands c =
 
 pub returns-clause-first : goal.returns-clause-first
 returns-clause-first c = refused_there c.args.text.now c.args.tokens.now c.read.result c.read.ensures.found c.read.ensures.refused
+
+pub returns-clause-well_formed : goal.returns-clause-well_formed
+returns-clause-well_formed c =
+    IfOk-weaker c.read.result _ _ (λ statements form. each-well_formed c.args.text.now c.args.tokens.now statements.items (tokens-each c.args.text.now c.args.tokens.now c.requires.tokens) form) c.read.ensures.found
