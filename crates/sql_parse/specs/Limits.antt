@@ -1,9 +1,5 @@
--- The figures of scripts and conditions.
+-- The figure of conditions.
 use Rattle.std.specs.Prelude.{ℕ}
-
--- the most bytes of a script
-abbrev pub script_limit : ℕ
-script_limit = 16777216
 
 -- how deep parentheses around conditions nest at most
 abbrev pub nesting_limit : ℕ

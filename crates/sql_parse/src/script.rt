@@ -2,9 +2,9 @@
 
 ghost use Rattle.std.specs.Prelude.{◌≡◌, ℕ, ◌≤◌, ◌+◌, ◌⊎◌, List, ◌∷◌, length, map, take, drop, Result, IfOk, IfErr, MatchResult};
 ghost use Rattle.std.specs.List.{All};
+ghost use Rattle.sql_values.specs.Limits.{max_script_bytes};
 ghost use Rattle.sql_lex.specs.Tokens.{IsToken, Tokens};
 ghost use Rattle.sql_lex.specs.declared.token.Token.{Token};
-ghost use Rattle.sql_parse.specs.Limits.{script_limit};
 ghost use Rattle.sql_parse.specs.Lexemes.{Lexeme, lexeme, lexemes};
 ghost use Rattle.sql_parse.specs.Trees.{StatementTree, statement_tree};
 ghost use Rattle.sql_parse.specs.Grammar.{IsStatement};
@@ -49,7 +49,7 @@ pub fn read_script(
     text: &[u8],
     tokens: &[Token],
 ) -> Result<Vec<Statement>, SyntaxFault>
-    requires limit { length text.now ≤ script_limit }
+    requires limit { length text.now ≤ max_script_bytes }
     requires tokens { Tokens text.now tokens.now }
     ensures found { IfOk result (λ statements.
         AreStatements text.now tokens.now (map statement_tree statements.items)) }
