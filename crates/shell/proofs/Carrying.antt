@@ -9,13 +9,13 @@ use Rattle.outside_io.specs.Files.{FolderState}
 use Rattle.shell.specs.declared.status.Status.{Status}
 use Rattle.shell.specs.declared.status.Status.TheVariants as status
 use Rattle.shell.specs.declared.refusal.Refusal.{Refusal}
-use Rattle.shell.specs.declared.statement.Statement.{Statement}
+use Rattle.sql_parse.specs.Trees.{StatementTree}
 use Rattle.shell.specs.Refusal.{line_of}
 use Rattle.shell.specs.Script.{SessionState, Outcome, Prints, Refuses, Answer, Step, outcome, and_then, script_answer}
-use Rattle.shell.specs.Serve.{IsGivenFor}
+use Rattle.shell.specs.Serve.{IsGivenFor, statements_of_steps}
 use Rattle.shell.specs.Due.{CarriesAll}
 use Rattle.shell.proofs.Beginning.{whole_begins}
-use Rattle.shell.proofs.Given.{AreGiven, statements_of_steps, given_in, any_steps}
+use Rattle.shell.proofs.Given.{AreGiven, given_in, any_steps}
 
 pub appends_none : (old : Option (List ℕ)) → Appends old old []
 appends_none None = tt
@@ -43,7 +43,7 @@ after_nothing answer =
     λ i. record { text = answer.text; work = work i; refused = answer.refused }
 
 -- the text so far is there and paid, and with what the statements from i on print it is the whole
-pub record IsCarried (all : List Statement) (i : ℕ) (before now : FolderState) (state : SessionState) (had got : Option (List ℕ)) (old paid : Account) : Type 0 where
+pub record IsCarried (all : List StatementTree) (i : ℕ) (before now : FolderState) (state : SessionState) (had got : Option (List ℕ)) (old paid : Account) : Type 0 where
   pub steps : List Step
   pub are : statements_of_steps steps ≡ take i all
   pub given : AreGiven before now steps
@@ -53,7 +53,7 @@ pub record IsCarried (all : List Statement) (i : ℕ) (before now : FolderState)
   pub spent : paid.spent ≡ old.spent + work
   pub whole : (rest : List Step) → script_answer None (steps ++ rest) ≡ after printed work (script_answer state rest)
 
-pub carried_none : (all : List Statement) (before : FolderState) (had : Option (List ℕ)) (old : Account) → IsCarried all 0 before before None had had old old
+pub carried_none : (all : List StatementTree) (before : FolderState) (had : Option (List ℕ)) (old : Account) → IsCarried all 0 before before None had had old old
 carried_none all before had old = record {
   steps = [];
   are = refl;
@@ -79,13 +79,13 @@ more_given before mid now steps step rest same first last given here others =
     (All-cons P step rest (given_in before mid now now step.statement step.file same first (omega arith) here) others)
 
 -- the statement at i comes after those before it
-next_statement : (all : List Statement) (i : ℕ) (statement : Statement) → i < length all → get_or all i statement ≡ statement → take (i + 1) all ≡ take i all ++ statement ∷ []
+next_statement : (all : List StatementTree) (i : ℕ) (statement : StatementTree) → i < length all → get_or all i statement ≡ statement → take (i + 1) all ≡ take i all ++ statement ∷ []
 next_statement all i statement below is = take_more all i statement below ∙ ap (λ s. take i all ++ s ∷ []) is
 
-are_on : (all : List Statement) (i : ℕ) (steps : List Step) (step : Step) → i < length all → get_or all i step.statement ≡ step.statement → statements_of_steps steps ≡ take i all
+are_on : (all : List StatementTree) (i : ℕ) (steps : List Step) (step : Step) → i < length all → get_or all i step.statement ≡ step.statement → statements_of_steps steps ≡ take i all
     → statements_of_steps (steps ++ step ∷ []) ≡ take (i + 1) all
 are_on all i steps step below is are =
-    map-append (λ (s : Step). s.statement) steps (step ∷ []) ∙ ap (λ (l : List Statement). l ++ step.statement ∷ []) are ∙ sym (next_statement all i step.statement below is)
+    map-append (λ (s : Step). s.statement) steps (step ∷ []) ∙ ap (λ (l : List StatementTree). l ++ step.statement ∷ []) are ∙ sym (next_statement all i step.statement below is)
 
 -- the text of a statement's outcome
 abbrev pub text_of : Outcome → List ℕ
@@ -118,7 +118,7 @@ nothing_after text work =
     let none : work + 0 ≡ work = omega arith in
     λ i. record { text = same i; work = none i; refused = false }
 
-module _ (all : List Statement) (i : ℕ) (before mid now : FolderState) (state next : SessionState) (statement : Statement) (file : Option (List ℕ)) (had got : Option (List ℕ)) (old paid : Account)
+module _ (all : List StatementTree) (i : ℕ) (before mid now : FolderState) (state next : SessionState) (statement : StatementTree) (file : Option (List ℕ)) (had got : Option (List ℕ)) (old paid : Account)
     (below : i < length all) (is : get_or all i statement ≡ statement) (same : mid.files ≡ before.files) (first : before.misses ≤ mid.misses) (last : mid.misses ≤ now.misses)
     (carried : IsCarried all i before mid state had got old paid) (given : IsGivenFor mid now statement file) where
   abbrev here : Step
@@ -155,10 +155,10 @@ module _ (all : List Statement) (i : ℕ) (before mid now : FolderState) (state 
   all_are : statements_of_steps all_steps ≡ all
   all_are =
       map-append (λ (s : Step). s.statement) carried.steps (here ∷ others.0)
-      ∙ ap (λ (l : List Statement). l ++ statement ∷ statements_of_steps others.0) carried.are
-      ∙ ap (λ (l : List Statement). take i all ++ statement ∷ l) others.1
+      ∙ ap (λ (l : List StatementTree). l ++ statement ∷ statements_of_steps others.0) carried.are
+      ∙ ap (λ (l : List StatementTree). take i all ++ statement ∷ l) others.1
       ∙ sym (append_assoc (take i all) (statement ∷ []) (drop (i + 1) all))
-      ∙ ap (λ (l : List Statement). l ++ drop (i + 1) all) (sym (next_statement all i statement below is))
+      ∙ ap (λ (l : List StatementTree). l ++ drop (i + 1) all) (sym (next_statement all i statement below is))
       ∙ take-append-drop (i + 1) all
 
   -- a run that ends at this statement
@@ -194,7 +194,7 @@ module _ (all : List Statement) (i : ℕ) (before mid now : FolderState) (state 
       }
 
 -- after the last statement the whole text is there
-pub carried_all : (all : List Statement) (i : ℕ) (before now : FolderState) (state : SessionState) (had got : Option (List ℕ)) (old paid : Account) → length all ≤ i
+pub carried_all : (all : List StatementTree) (i : ℕ) (before now : FolderState) (state : SessionState) (had got : Option (List ℕ)) (old paid : Account) → length all ≤ i
     → IsCarried all i before now state had got old paid → CarriesAll all before now status.Done had got old paid
 carried_all all i before now state had got old paid past carried =
     let is : script_answer None carried.steps ≡ record { text = carried.printed; work = carried.work; refused = false } =

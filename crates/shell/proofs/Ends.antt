@@ -1,8 +1,10 @@
 -- How a run ends at a statement.
-use Rattle.std.proofs.Common.{◌≡◌, ◌⊎◌, inl, inr, ℕ, ◌+◌, ◌<◌, List, length, take, get_or, Option, refl, sym, ◌∙◌, arith}
+use Rattle.std.proofs.Common.{◌≡◌, ◌⊎◌, inl, inr, ℕ, ◌+◌, ◌<◌, List, length, map, take, get_or, Option, refl, sym, ap, ◌∙◌, arith}
 use Rattle.std.specs.Prelude.{Vec, Result, Ok, Err}
 use Rattle.std.specs.declared.alloc.Global.{Global}
 use Rattle.std.specs.Io.KnownBytes.{Appends}
+use Rattle.std.proofs.Math.ListN.{get_or-map}
+use Rattle.std.proofs.lemmas.List.{length-map}
 use Rattle.work_ledger.specs.Account.{Account}
 use Rattle.shell.specs.declared.status.Status.{Status}
 use Rattle.shell.specs.declared.status.Status.TheVariants as status
@@ -12,7 +14,8 @@ use Rattle.shell.specs.declared.refusal.Refusal.{Refusal}
 use Rattle.shell.specs.Refusal.{line_of}
 use Rattle.shell.specs.Script.{SessionState, Outcome, Prints, Refuses, outcome}
 use Rattle.outside_io.specs.Files.{FolderState, OnlyReads}
-use Rattle.shell.specs.declared.statement.Statement.{Statement}
+use Rattle.sql_parse.specs.declared.tree.Statement.{Statement}
+use Rattle.sql_parse.specs.Trees.{StatementTree, statement_tree}
 use Rattle.shell.specs.Serve.{IsGivenFor}
 use Rattle.shell.specs.Due.{IsCarriedOut, CarriesAll}
 use Rattle.shell.proofs.Carrying.{EndsAt, IsCarried, appends_none, carried_on, carried_to}
@@ -66,36 +69,49 @@ ends_refused due why ended had got old new is unpaid whole part kinds = record {
     not_this (inr (inl fault)) e = cc (fault, e)
     not_this (inr (inr memory)) e = cc (memory, e)
 
-module _ (all : List Statement) (i : ℕ) (before mid now : FolderState) (state next : SessionState) (statement : Statement) (had got : Option (List ℕ)) (old paid due : Account) (failed : Type 0)
-    (below : i < length all) (is : statement ≡ get_or all i statement) (first : OnlyReads ⊥ ⊥ before mid) (last : OnlyReads failed ⊥ mid now)
-    (carried : IsCarried all i before mid state had got old paid) where
-  ends_at : (file : Option (List ℕ)) → IsGivenFor mid now statement file → (ended : Status) (new : Option (List ℕ)) → EndsAt (outcome state statement file) ended got new paid due
+-- the tree of the statement in this place
+tree_at : (statements : List Statement) (i : ℕ) (statement : Statement) → statement ≡ get_or statements i statement → get_or (map statement_tree statements) i (statement_tree statement) ≡ statement_tree statement
+tree_at statements i statement is = get_or-map statement_tree statements i statement ∙ sym (ap statement_tree is)
+
+module _ (statements : List Statement) (i : ℕ) (before mid now : FolderState) (state next : SessionState) (statement : Statement) (had got : Option (List ℕ)) (old paid due : Account) (failed : Type 0)
+    (below : i < length statements) (is : statement ≡ get_or statements i statement) (first : OnlyReads ⊥ ⊥ before mid) (last : OnlyReads failed ⊥ mid now)
+    (carried : IsCarried (map statement_tree statements) i before mid state had got old paid) where
+  abbrev all : List StatementTree
+  all = map statement_tree statements
+
+  abbrev tree : StatementTree
+  tree = statement_tree statement
+
+  inside : i < length all
+  inside = omega (arith, below, length-map statements statement_tree)
+
+  ends_at : (file : Option (List ℕ)) → IsGivenFor mid now tree file → (ended : Status) (new : Option (List ℕ)) → EndsAt (outcome state tree file) ended got new paid due
       → CarriesAll all before now ended had new old due
   ends_at file given ended new ends =
-      carried_to all i before mid now state next statement file had got old paid below (sym is) first.files first.misses.never_falls last.misses.never_falls carried given new due ended ends
+      carried_to all i before mid now state next tree file had got old paid inside (tree_at statements i statement is) first.files first.misses.never_falls last.misses.never_falls carried given new due ended ends
 
   -- the statement was refused
-  pub refused_at : (why : Refusal) (ended : Status) (new : Option (List ℕ)) → IsCarriedOut statement mid now state next paid due (Err (stop.Refused why))
+  pub refused_at : (why : Refusal) (ended : Status) (new : Option (List ℕ)) → IsCarriedOut tree mid now state next paid due (Err (stop.Refused why))
       → (ended ≡ status.Refused → Appends got new (line_of why)) → ((n : ℕ) × Appends got new (take n (line_of why)))
       → (ended ≡ status.Refused) ⊎ ((ended ≡ status.WriteFault) ⊎ (ended ≡ status.NoMemory)) → CarriesAll all before now ended had new old due
   refused_at why ended new out whole part kinds =
-      ends_at out.file out.given ended new (ends_refused (outcome state statement out.file) why ended got new paid due out.returns.0 out.returns.1 whole part kinds)
+      ends_at out.file out.given ended new (ends_refused (outcome state tree out.file) why ended got new paid due out.returns.0 out.returns.1 whole part kinds)
 
   -- the statement stopped for another cause
-  pub stopped_at : (result : Result (Vec ℕ Global) Stop) (ended : Status) → IsCarriedOut statement mid now state next paid due result → EndsElsewhere ended → CarriesAll all before now ended had got old due
+  pub stopped_at : (result : Result (Vec ℕ Global) Stop) (ended : Status) → IsCarriedOut tree mid now state next paid due result → EndsElsewhere ended → CarriesAll all before now ended had got old due
   stopped_at result ended out elsewhere =
-      ends_at out.file out.given ended got (ends_with_nothing (outcome state statement out.file) ended got paid due elsewhere)
+      ends_at out.file out.given ended got (ends_with_nothing (outcome state tree out.file) ended got paid due elsewhere)
 
   -- the statement's text wasn't put whole
-  pub unput_at : (text : Vec ℕ Global) (ended : Status) (new : Option (List ℕ)) → IsCarriedOut statement mid now state next paid due (Ok text) → EndsElsewhere ended → ((n : ℕ) × Appends got new (take n text.items))
+  pub unput_at : (text : Vec ℕ Global) (ended : Status) (new : Option (List ℕ)) → IsCarriedOut tree mid now state next paid due (Ok text) → EndsElsewhere ended → ((n : ℕ) × Appends got new (take n text.items))
       → CarriesAll all before now ended had new old due
   unput_at text ended new out elsewhere part =
-      ends_at out.file out.given ended new (ends_in_part (outcome state statement out.file) text.items out.returns.0 next ended got new paid due elsewhere out.returns.1 part)
+      ends_at out.file out.given ended new (ends_in_part (outcome state tree out.file) text.items out.returns.0 next ended got new paid due elsewhere out.returns.1 part)
 
   -- the statement's text was put
-  pub put_at : (text : Vec ℕ Global) (new : Option (List ℕ)) → IsCarriedOut statement mid now state next paid due (Ok text) → Appends got new text.items → IsCarried all (i + 1) before now next had new old due
+  pub put_at : (text : Vec ℕ Global) (new : Option (List ℕ)) → IsCarriedOut tree mid now state next paid due (Ok text) → Appends got new text.items → IsCarried all (i + 1) before now next had new old due
   put_at text new out put =
-      carried_on all i before mid now state next statement out.file had got old paid below (sym is) first.files first.misses.never_falls last.misses.never_falls carried out.given new due text.items out.returns.0 out.returns.1 put out.returns.2
+      carried_on all i before mid now state next tree out.file had got old paid inside (tree_at statements i statement is) first.files first.misses.never_falls last.misses.never_falls carried out.given new due text.items out.returns.0 out.returns.1 put out.returns.2
 
 -- reading on
 pub reads_on : (before mid now : FolderState) (failed : Type 0) → OnlyReads ⊥ ⊥ before mid → OnlyReads failed ⊥ mid now → OnlyReads ⊥ ⊥ before now

@@ -1,21 +1,22 @@
 -- The file that a folder gives.
-use Rattle.std.proofs.Common.{◌≡◌, ◌⊎◌, inl, inr, ℕ, zero, suc, ◌<◌, ◌≤◌, List, [], ◌∷◌, length, map, true, false, Option, Some, None, refl, sym, ap, ◌∙◌, arith}
+use Rattle.std.proofs.Common.{◌≡◌, ◌⊎◌, inl, inr, ℕ, zero, suc, ◌<◌, ◌≤◌, List, [], ◌∷◌, length, true, false, Option, Some, None, refl, sym, ap, ◌∙◌, arith}
 use Rattle.std.specs.Prelude.{IfSome, IsSome, IsSomeAnd, All, MatchOption, Err, bytes_eq, nat_le}
 use borrow.Author.Tests.{lt-leb}
 use Rattle.std.proofs.lemmas.List.Elements.{All-nil, All-cons}
 use Rattle.outside_io.specs.Count.{Rose}
 use Rattle.outside_io.specs.Files.{Files, FolderState, file_of}
 use Rattle.outside_io.specs.Limits.{max_file_bytes}
-use Rattle.shell.specs.Serve.{IsGivenFor}
+use Rattle.shell.specs.Serve.{IsGivenFor, statements_of_steps}
 use Rattle.shell.specs.Stop.{StopsAt}
 use Rattle.shell.specs.Due.{ReadsFile, LoadsFile}
 use Rattle.shell.specs.Script.{Step, NamedTable, SessionState, Outcome, Refuses, load_file, at_table, append_rows}
 use Rattle.shell.specs.Load.{load_of}
 use Rattle.shell.specs.declared.stop.Stop.{Stop}
 use Rattle.shell.specs.declared.stop.Stop.TheVariants as stop
+use Rattle.shell.specs.declared.refusal.Later.TheVariants as later
 use Rattle.shell.specs.declared.refusal.Refusal.TheVariants as refusal
-use Rattle.shell.specs.declared.statement.Statement.{Statement}
-use Rattle.shell.specs.declared.statement.Statement.TheVariants.{CreateTable, Load, Select}
+use Rattle.sql_parse.specs.declared.tree.LoadDef.{LoadDef}
+use Rattle.sql_parse.specs.Trees.{StatementTree, Load}
 
 -- the same over what is known of the files, and the counts of misses
 abbrev pub GivenBy : Option Files → ℕ → ℕ → List ℕ → Option (List ℕ) → Type 0
@@ -49,26 +50,21 @@ given_wider (Some held) None old low high new name file same first last given = 
 given_wider (Some held) (Some other) old low high new name file same first last given = let is : other ≡ held = cc same in given ∙ ap (λ f. file_of f name) is
 
 -- what was given in a part of a run was given in the run
-pub given_in : (before low high after : FolderState) (statement : Statement) (file : Option (List ℕ)) → low.files ≡ before.files → before.misses ≤ low.misses → high.misses ≤ after.misses
+pub given_in : (before low high after : FolderState) (statement : StatementTree) (file : Option (List ℕ)) → low.files ≡ before.files → before.misses ≤ low.misses → high.misses ≤ after.misses
     → IsGivenFor low high statement file → IsGivenFor before after statement file
-given_in before low high after (CreateTable name columns) file same first last given = given
-given_in before low high after (Load file_name name) file same first last given = given_wider before.files low.files before.misses low.misses high.misses after.misses file_name file same first last given
-given_in before low high after (Select name) file same first last given = given
+given_in before low high after (Load load) file same first last given = given_wider before.files low.files before.misses low.misses high.misses after.misses load.file file same first last given
+given_in before low high after other file same first last given = given
 
-pub any_given_for : (before after : FolderState) (statement : Statement) → (file : Option (List ℕ)) × IsGivenFor before after statement file
-any_given_for before after (CreateTable name columns) = (None, refl)
-any_given_for before after (Load file_name name) = any_given before.files before.misses after.misses file_name
-any_given_for before after (Select name) = (None, refl)
+pub any_given_for : (before after : FolderState) (statement : StatementTree) → (file : Option (List ℕ)) × IsGivenFor before after statement file
+any_given_for before after (Load load) = any_given before.files before.misses after.misses load.file
+any_given_for before after other = (None, refl)
 
 -- the steps of a run give files
 abbrev pub AreGiven : FolderState → FolderState → List Step → Type 0
 AreGiven before after steps = All (λ step. IsGivenFor before after step.statement step.file) steps
 
-abbrev pub statements_of_steps : List Step → List Statement
-statements_of_steps steps = map (λ step. step.statement) steps
-
 -- statements that weren't carried out have steps too
-pub any_steps : (before after : FolderState) (statements : List Statement) → (steps : List Step) × (statements_of_steps steps ≡ statements) × AreGiven before after steps
+pub any_steps : (before after : FolderState) (statements : List StatementTree) → (steps : List Step) × (statements_of_steps steps ≡ statements) × AreGiven before after steps
 any_steps before after [] = ([], refl, All-nil (λ (step : Step). IsGivenFor before after step.statement step.file))
 any_steps before after (statement ∷ rest) =
     let here = any_given_for before after statement in
@@ -85,7 +81,7 @@ load_long : (columns : List (List ℕ)) (bytes : List ℕ) → max_file_bytes < 
 load_long columns bytes long = let past : nat_le (length bytes) max_file_bytes ≡ false = lt-leb _ _ long in rw past refl
 
 pub reads_long : (name : List ℕ) (old new : FolderState) (len : ℕ) → IfSome old.files (λ held. IsSomeAnd (file_of held name) (λ bytes. length bytes ≡ len)) → max_file_bytes < len → Rose old.misses new.misses
-    → ReadsFile name old new (Err (stop.Refused refusal.LaterFile))
+    → ReadsFile name old new (Err (stop.Refused (refusal.Later later.File)))
 reads_long name old new len known long missed =
     let there = long_given old.files old.misses new.misses name len known missed in
     record {
@@ -101,10 +97,10 @@ reads_stopped name old new why any =
     record { file = there.0; given = there.1; fits = λ table. any (load_file table name there.0) }
 
 -- the file isn't read where the table isn't there
-pub loads_nothing : (file_name name : List ℕ) (old new : FolderState) (state next : SessionState) (why : Stop) → ((go : NamedTable → Outcome) → StopsAt (at_table state name go) why) → LoadsFile file_name name old new state next (Err why)
-loads_nothing file_name name old new state next why any =
-    let there = any_given old.files old.misses new.misses file_name in
-    record { file = there.0; given = there.1; returns = any (λ table. load_file table file_name there.0) }
+pub loads_nothing : (load : LoadDef) (old new : FolderState) (state next : SessionState) (why : Stop) → ((go : NamedTable → Outcome) → StopsAt (at_table state load.table go) why) → LoadsFile load old new state next (Err why)
+loads_nothing load old new state next why any =
+    let there = any_given old.files old.misses new.misses load.file in
+    record { file = there.0; given = there.1; returns = any (λ table. load_file table load.file there.0) }
 
 pub no_table_at : (state : SessionState) (name : List ℕ) (why : Stop) (go : NamedTable → Outcome) → state ≡ None → StopsAt (Refuses (refusal.NoTable name)) why → StopsAt (at_table state name go) why
 no_table_at state name why go none stops = rw none stops
@@ -114,7 +110,7 @@ pub other_table_at : (state : SessionState) (table : NamedTable) (name : List �
 other_table_at state table name why go is other stops = rw (is, other) stops
 
 -- the file couldn't be had
-pub loads_unread : (file_name name : List ℕ) (old new : FolderState) (state next : SessionState) (table : NamedTable) (why : Stop) → state ≡ Some table → bytes_eq table.name name ≡ true
-    → ReadsFile file_name old new (Err why) → LoadsFile file_name name old new state next (Err why)
-loads_unread file_name name old new state next table why is named read =
+pub loads_unread : (load : LoadDef) (old new : FolderState) (state next : SessionState) (table : NamedTable) (why : Stop) → state ≡ Some table → bytes_eq table.name load.table ≡ true
+    → ReadsFile load.file old new (Err why) → LoadsFile load old new state next (Err why)
+loads_unread load old new state next table why is named read =
     record { file = read.file; given = read.given; returns = rw (is, named) (read.fits table) }

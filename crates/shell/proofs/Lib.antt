@@ -1,11 +1,9 @@
 pub mod Ascending
 pub mod Beginning
 pub mod Carrying
-pub mod Case
 pub mod Digits
 pub mod Ends
 pub mod Entries
-pub mod FirstFormReads
 pub mod Given
 pub mod Headers
 pub mod Integers
@@ -14,9 +12,7 @@ pub mod SortKeys
 pub mod Reading
 pub mod RowsInOrder
 pub mod ScanFits
-pub mod ScriptLines
-pub mod ScriptRuns
-pub mod ScriptSteps
 pub mod Slots
 pub mod TextWriter
 pub mod Runs
+pub mod Scripts

@@ -1,42 +1,36 @@
 -- What is said of a whole run of the program.
-use Rattle.std.proofs.Common.{◌≡◌, ◌⊎◌, inl, inr, ℕ, ◌+◌, ◌<◌, ◌≤◌, List, [], ◌∷◌, length, take, drop, Option, Some, None, refl, sym, ap, ◌∙◌, subst, arith}
-use Rattle.std.specs.Prelude.{IfSome, IsSome, option_map}
+use Rattle.std.proofs.Common.{◌≡◌, ◌⊎◌, inl, inr, ℕ, ◌≤◌, List, [], ◌∷◌, length, take, drop, Option, Some, None, refl, sym, ap, ◌∙◌, subst, arith}
+use Rattle.std.specs.Prelude.{IfSome, IsSome, Result, Ok, Err, IfOk}
 use Rattle.std.specs.Io.KnownBytes.{Appends}
-use Rattle.std.proofs.lemmas.Bool.{cases_lt}
-use Rattle.std.proofs.lemmas.List.{take_all, drop_all, length-take}
+use Rattle.std.proofs.lemmas.List.{drop_all, length-take}
 use Rattle.std.proofs.lemmas.List.Elements.{All-head, All-tail}
 use Rattle.work_ledger.specs.Account.{Account}
 use Rattle.outside_io.specs.Files.{FolderState}
-use Rattle.shell.specs.Limits.{max_script_bytes}
+use Rattle.sql_values.specs.Limits.{max_script_bytes}
+use Rattle.sql_parse.specs.Trees.{StatementTree, Load}
 use Rattle.shell.specs.declared.status.Status.{Status}
 use Rattle.shell.specs.declared.status.Status.TheVariants as status
-use Rattle.shell.specs.declared.refusal.Refusal.TheVariants as refusal
-use Rattle.shell.specs.declared.statement.Statement.{Statement}
-use Rattle.shell.specs.declared.statement.Statement.TheVariants.{CreateTable, Load, Select}
+use Rattle.shell.specs.declared.refusal.Refusal.{Refusal}
 use Rattle.shell.specs.Refusal.{line_of}
 use Rattle.shell.specs.Script.{Answer, Step, answer_of}
-use Rattle.shell.specs.Serve.{IsScript, IsGivenFor, IsAnswer, Serves, IsDecided}
+use Rattle.shell.specs.Serve.{IsScript, IsGivenFor, IsAnswer, Serves, IsDecided, statements_of_steps, statements_read}
 use Rattle.shell.specs.Due.{CarriesAll}
 use Rattle.shell.specs.Source.{TakesAtMost}
 use Rattle.shell.proofs.Carrying.{appends_none}
 use Rattle.shell.proofs.Ends.{EndsElsewhere, not_done, not_refused}
-use Rattle.shell.proofs.FirstFormReads.{decided, one_reading}
-use Rattle.shell.proofs.Given.{AreGiven, statements_of_steps, any_steps, one_file}
-
--- so many bytes show that a script is too long
-abbrev pub enough : ℕ
-enough = max_script_bytes + 1
+use Rattle.shell.proofs.Given.{AreGiven, any_steps, one_file}
+use Rattle.shell.proofs.Scripts.{enough, some_reading, one_reading, reads_whole, reads_cut}
 
 -- an answer is due to each script
-answer_for : (script : List ℕ) (before after : FolderState) (read : Option (List Statement)) → IsScript script read → (answer : Answer) × IsAnswer script before after answer
-answer_for script before after None reads = (answer_of None, record { steps = None; reads = reads; given = tt; is = refl })
-answer_for script before after (Some statements) reads =
+answer_for : (script : List ℕ) (before after : FolderState) (read : Result (List StatementTree) Refusal) → IsScript script read → (answer : Answer) × IsAnswer script before after answer
+answer_for script before after (Err why) reads = (answer_of (Err why), record { steps = Err why; reads = reads; given = tt; is = refl })
+answer_for script before after (Ok statements) reads =
     let steps = any_steps before after statements in
-    (answer_of (Some steps.0), record { steps = Some steps.0; reads = subst (λ (l : List Statement). IsScript script (Some l)) (sym steps.1) reads; given = steps.2; is = refl })
+    (answer_of (Ok steps.0), record { steps = Ok steps.0; reads = subst (λ (l : List StatementTree). IsScript script (Ok l)) (sym steps.1) reads; given = steps.2; is = refl })
 
 pub serves_nothing : (script : List ℕ) (before after : FolderState) (ended : Status) (had : Option (List ℕ)) → EndsElsewhere ended → Serves script before after ended had had
 serves_nothing script before after ended had elsewhere =
-    let read = decided script in
+    let read = some_reading script in
     let due = answer_for script before after read.0 read.1 in
     record {
       answer = due.0;
@@ -53,21 +47,21 @@ known_nothing None before after ended had elsewhere = tt
 known_nothing (Some script) before after ended had elsewhere = serves_nothing script before after ended had elsewhere
 
 -- statements that were carried out are those of the script
-pub serves_statements : (script : List ℕ) (statements : List Statement) (before after : FolderState) (ended : Status) (had got : Option (List ℕ)) (old new : Account) → IsScript script (Some statements)
+pub serves_statements : (script : List ℕ) (statements : List StatementTree) (before after : FolderState) (ended : Status) (had got : Option (List ℕ)) (old new : Account) → IsScript script (Ok statements)
     → CarriesAll statements before after ended had got old new → Serves script before after ended had got
 serves_statements script statements before after ended had got old new reads carried = record {
-  answer = answer_of (Some carried.steps);
-  due = record { steps = Some carried.steps; reads = subst (λ (l : List Statement). IsScript script (Some l)) (sym carried.are) reads; given = carried.given; is = refl };
+  answer = answer_of (Ok carried.steps);
+  due = record { steps = Ok carried.steps; reads = subst (λ (l : List StatementTree). IsScript script (Ok l)) (sym carried.are) reads; given = carried.given; is = refl };
   carries = carried.carries;
 }
 
--- the line of a script that isn't well-formed
-pub serves_other : (script : List ℕ) (before after : FolderState) (ended : Status) (had got : Option (List ℕ)) → IsScript script None
-    → (ended ≡ status.Refused → Appends had got (line_of refusal.LaterScript)) → ((n : ℕ) × Appends had got (take n (line_of refusal.LaterScript)))
+-- the line of a script that is refused whole
+pub serves_refusal : (script : List ℕ) (why : Refusal) (before after : FolderState) (ended : Status) (had got : Option (List ℕ)) → IsScript script (Err why)
+    → (ended ≡ status.Refused → Appends had got (line_of why)) → ((n : ℕ) × Appends had got (take n (line_of why)))
     → (ended ≡ status.Refused) ⊎ ((ended ≡ status.WriteFault) ⊎ (ended ≡ status.NoMemory)) → Serves script before after ended had got
-serves_other script before after ended had got reads whole part kinds = record {
-  answer = answer_of None;
-  due = record { steps = None; reads = reads; given = tt; is = refl };
+serves_refusal script why before after ended had got reads whole part kinds = record {
+  answer = answer_of (Err why);
+  due = record { steps = Err why; reads = reads; given = tt; is = refl };
   carries = record {
     done = λ is. absurd (not_this kinds is);
     refused = λ is. (refl, whole is);
@@ -80,23 +74,6 @@ serves_other script before after ended had got reads whole part kinds = record {
     not_this (inr (inl fault)) e = cc (fault, e)
     not_this (inr (inr memory)) e = cc (memory, e)
 
--- as many bytes as show that a script is too long read as the whole does
-reads_whole : (left : List ℕ) (read : Option (List Statement)) → IsScript (take enough left) read → IsScript left read
-reads_whole left read reads = elim (cases_lt enough (length left)) [
-  | inl longer ↦ too_long left read longer reads
-  | inr short ↦ let whole : take enough left ≡ left = take_all enough left short in subst (λ (l : List ℕ). IsScript l read) whole reads
-]
-  where
-    too_long : (left : List ℕ) (read : Option (List Statement)) → enough < length left → IsScript (take enough left) read → IsScript left read
-    too_long left None longer reads = λ statements form. absurd (omega (arith, form.short, longer))
-    too_long left (Some statements) longer reads = absurd (omega (arith, reads.short, longer, length-take enough left))
-
-no_script : (left : List ℕ) → IsScript left None → IsScript (take enough left) None
-no_script left none = elim (cases_lt enough (length left)) [
-  | inl longer ↦ λ statements form. absurd (omega (arith, form.short, longer, length-take enough left))
-  | inr short ↦ let whole : take enough left ≡ left = take_all enough left short in subst (λ (l : List ℕ). IsScript l None) (sym whole) none
-]
-
 -- a run over what was read is a run over the whole
 pub known_whole : (source : Option (List ℕ)) (before after : FolderState) (bytes : List ℕ) (ended : Status) (had got : Option (List ℕ)) → IfSome source (λ left. bytes ≡ take enough left)
     → Serves bytes before after ended had got → IfSome source (λ script. Serves script before after ended had got)
@@ -105,15 +82,16 @@ known_whole (Some left) before after bytes ended had got read serves =
     let on = subst (λ (l : List ℕ). Serves l before after ended had got) read serves in
     record {
       answer = on.answer;
-      due = record { steps = on.due.steps; reads = reads_whole left (option_map statements_of_steps on.due.steps) on.due.reads; given = on.due.given; is = on.due.is };
+      due = record { steps = on.due.steps; reads = reads_whole left (statements_read on.due.steps) on.due.reads; given = on.due.given; is = on.due.is };
       carries = on.carries;
     }
 
--- a folder isn't read for a script that isn't well-formed
-pub known_unread : (source : Option (List ℕ)) (before after : FolderState) (bytes : List ℕ) → IfSome source (λ left. bytes ≡ take enough left) → (IsScript bytes None → after ≡ before)
-    → IfSome source (λ script. IsScript script None → after ≡ before)
+-- a folder isn't read for a script that is refused whole
+pub known_unread : (source : Option (List ℕ)) (before after : FolderState) (bytes : List ℕ) → IfSome source (λ left. bytes ≡ take enough left) → ((why : Refusal) → IsScript bytes (Err why) → after ≡ before)
+    → IfSome source (λ script. (why : Refusal) → IsScript script (Err why) → after ≡ before)
 known_unread None before after bytes read unread = tt
-known_unread (Some left) before after bytes read unread = λ none. unread (subst (λ (l : List ℕ). IsScript l None) (sym read) (no_script left none))
+known_unread (Some left) before after bytes read unread = λ why refused.
+    unread why (subst (λ (l : List ℕ). IsScript l (Err why)) (sym read) (reads_cut left why refused))
 
 -- a well-formed script was the whole
 emptied : (left bytes : List ℕ) → bytes ≡ take enough left → length bytes ≤ max_script_bytes → drop enough left ≡ []
@@ -150,14 +128,13 @@ pub known_decided : (source : Option (List ℕ)) (before after : FolderState) (e
 known_decided None before after ended had got words reads writes serves = tt
 known_decided (Some script) before after ended had got words reads writes serves = decided_by script before after ended had got words reads writes serves
 
-one_file_for : (old new other : FolderState) (statement : Statement) (a b : Option (List ℕ)) → IsSome old.files → IsGivenFor old new statement a → IsGivenFor old other statement b → a ≡ b
-one_file_for old new other (CreateTable name columns) a b known first second = first ∙ sym second
-one_file_for old new other (Load file_name name) a b known first second = one_file old.files old.misses new.misses other.misses file_name a b known first second
-one_file_for old new other (Select name) a b known first second = first ∙ sym second
+one_file_for : (old new other : FolderState) (statement : StatementTree) (a b : Option (List ℕ)) → IsSome old.files → IsGivenFor old new statement a → IsGivenFor old other statement b → a ≡ b
+one_file_for old new other (Load load) a b known first second = one_file old.files old.misses new.misses other.misses load.file a b known first second
+one_file_for old new other _ a b known first second = first ∙ sym second
 
 one_step : (old new other : FolderState) (a b : Step) → IsSome old.files → a.statement ≡ b.statement → IsGivenFor old new a.statement a.file → IsGivenFor old other b.statement b.file → a ≡ b
 one_step old new other a b known same first second =
-    let here : IsGivenFor old other a.statement b.file = subst (λ (s : Statement). IsGivenFor old other s b.file) (sym same) second in
+    let here : IsGivenFor old other a.statement b.file = subst (λ (s : StatementTree). IsGivenFor old other s b.file) (sym same) second in
     let file : a.file ≡ b.file = one_file_for old new other a.statement a.file b.file known first here in
     λ i. record { statement = same i; file = file i }
 
@@ -175,14 +152,14 @@ same_steps old new other (x ∷ xs) (y ∷ ys) known same first second =
     let rest : xs ≡ ys = same_steps old new other xs ys known tail (All-tail P x xs first) (All-tail Q y ys second) in
     λ i. here i ∷ rest i
 
-same_reading : (old new other : FolderState) (a b : Option (List Step)) → IsSome old.files → option_map statements_of_steps a ≡ option_map statements_of_steps b → IfSome a (AreGiven old new) → IfSome b (AreGiven old other) → a ≡ b
-same_reading old new other None None known same first second = refl
-same_reading old new other None (Some ys) known same first second = cc same
-same_reading old new other (Some xs) None known same first second = cc same
-same_reading old new other (Some xs) (Some ys) known same first second = ap Some (same_steps old new other xs ys known (cc same) first second)
+same_reading : (old new other : FolderState) (a b : Result (List Step) Refusal) → IsSome old.files → statements_read a ≡ statements_read b → IfOk a (AreGiven old new) → IfOk b (AreGiven old other) → a ≡ b
+same_reading old new other (Err x) (Err y) known same first second = let why : x ≡ y = cc same in ap Err why
+same_reading old new other (Err x) (Ok ys) known same first second = cc same
+same_reading old new other (Ok xs) (Err y) known same first second = cc same
+same_reading old new other (Ok xs) (Ok ys) known same first second = ap Ok (same_steps old new other xs ys known (cc same) first second)
 
 -- two answers that are due are one
 pub one_answer : (script : List ℕ) (old new other : FolderState) (one two : Answer) → IsSome old.files → IsAnswer script old new one → IsAnswer script old other two → one ≡ two
 one_answer script old new other one two known first second =
-    let same = one_reading script (option_map statements_of_steps first.steps) (option_map statements_of_steps second.steps) first.reads second.reads in
+    let same = one_reading script (statements_read first.steps) (statements_read second.steps) first.reads second.reads in
     first.is ∙ ap answer_of (same_reading old new other first.steps second.steps known same first.given second.given) ∙ sym second.is

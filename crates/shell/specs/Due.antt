@@ -1,16 +1,24 @@
 -- What statements return and do, held against what is due to them.
-use Rattle.std.specs.Prelude.{◌≡◌, ℕ, ◌+◌, ⊤, All, Result, Ok, Err, Vec, List, map, Option, Some, None}
+use Rattle.std.specs.Prelude.{◌≡◌, ℕ, ◌+◌, ⊤, All, Result, Ok, Err, Vec, List, Option, Some, None}
 use Rattle.std.specs.declared.alloc.Global.{Global}
 use Rattle.work_ledger.specs.Account.{Account}
 use Rattle.outside_io.specs.Files.{FolderState}
 use Rattle.shell.specs.declared.stop.Stop.{Stop}
 use Rattle.shell.specs.declared.stop.Stop.TheVariants as stop
+use Rattle.shell.specs.declared.script.ScriptFault.{ScriptFault}
+use Rattle.shell.specs.declared.script.ScriptFault.TheVariants as script_fault
 use Rattle.shell.specs.declared.status.Status.{Status}
 use Rattle.shell.specs.declared.status.Status.TheVariants as status
-use Rattle.shell.specs.declared.statement.Statement.{Statement}
+use Rattle.sql_parse.specs.declared.tree.LoadDef.{LoadDef}
+use Rattle.sql_parse.specs.Trees.{StatementTree}
 use Rattle.shell.specs.Script.{Answer, NamedTable, Outcome, Prints, Refuses, SessionState, Step, at_table, load_file, outcome, script_answer}
-use Rattle.shell.specs.Serve.{Carries, IsGiven, IsGivenFor}
+use Rattle.shell.specs.Serve.{Carries, IsGiven, IsGivenFor, IsScript, statements_of_steps}
 use Rattle.shell.specs.Stop.{StopsAt}
+
+-- a refusal of the whole script is the one that is due; out of memory fits any script
+abbrev pub RefusesScript : List ℕ → ScriptFault → Type 0
+RefusesScript script (script_fault.Refused why) = IsScript script (Err why)
+RefusesScript script script_fault.NoMemory = ⊤
 
 -- the bytes of the file are returned, or a stop that fits whatever table it was to be loaded into
 abbrev pub FitsFile : List ℕ → Option (List ℕ) → Result (Vec ℕ Global) Stop → Type 0
@@ -28,11 +36,11 @@ abbrev pub ReturnsFree : Outcome → Result (Vec ℕ Global) Stop → SessionSta
 ReturnsFree due (Ok text) state = due ≡ Prints text.items 0 state
 ReturnsFree due (Err why) state = StopsAt due why
 
--- a file was loaded into the table of this name
-pub record LoadsFile (file_name name : List ℕ) (before after : FolderState) (state next : SessionState) (result : Result (Vec ℕ Global) Stop) : Type 0 where
+-- a file was loaded into a table
+pub record LoadsFile (load : LoadDef) (before after : FolderState) (state next : SessionState) (result : Result (Vec ℕ Global) Stop) : Type 0 where
   pub file : Option (List ℕ)
-  pub given : IsGiven before after file_name file
-  pub returns : ReturnsFree (at_table state name (λ table. load_file table file_name file)) result next
+  pub given : IsGiven before after load.file file
+  pub returns : ReturnsFree (at_table state load.table (λ table. load_file table load.file file)) result next
 
 -- what is returned is what is due: a text, whose work was paid, and the state after it; or a refusal, for which
 -- nothing was paid
@@ -43,7 +51,7 @@ ReturnsDue due (Err stop.ReadFault) state old new = ⊤
 ReturnsDue due (Err stop.NoMemory) state old new = ⊤
 
 -- a statement returned what is due to it with the file that the folder gave for it
-pub record IsCarriedOut (statement : Statement) (before after : FolderState) (state next : SessionState) (old new : Account) (result : Result (Vec ℕ Global) Stop) : Type 0 where
+pub record IsCarriedOut (statement : StatementTree) (before after : FolderState) (state next : SessionState) (old new : Account) (result : Result (Vec ℕ Global) Stop) : Type 0 where
   pub file : Option (List ℕ)
   pub given : IsGivenFor before after statement file
   pub returns : ReturnsDue (outcome state statement file) result next old new
@@ -54,9 +62,9 @@ pub record PaysFor (answer : Answer) (ended : Status) (old new : Account) : Type
   pub refused : ended ≡ status.Refused → new.spent ≡ old.spent + answer.work
 
 -- all statements were carried out, up to and with the first refusal, or a part of them
-pub record CarriesAll (statements : List Statement) (before after : FolderState) (ended : Status) (had got : Option (List ℕ)) (old new : Account) : Type 0 where
+pub record CarriesAll (statements : List StatementTree) (before after : FolderState) (ended : Status) (had got : Option (List ℕ)) (old new : Account) : Type 0 where
   pub steps : List Step
-  pub are : map (λ step. step.statement) steps ≡ statements
+  pub are : statements_of_steps steps ≡ statements
   pub given : All (λ step. IsGivenFor before after step.statement step.file) steps
   pub carries : Carries (script_answer None steps) ended had got
   pub pays : PaysFor (script_answer None steps) ended old new

@@ -1,7 +1,6 @@
 pub mod Digits
 pub mod Due
 pub mod Entries
-pub mod FirstForm
 pub mod Limits
 pub mod Load
 pub mod Order
@@ -10,10 +9,8 @@ pub mod Printed
 pub mod Refusal
 pub mod Scan
 pub mod Script
-pub mod ScriptReader
 pub mod Serve
 pub mod Source
 pub mod Stop
 pub mod TextWriter
 pub mod Word
-pub mod Words

@@ -1,15 +1,21 @@
 -- What is due to a script, and what a run of the program did of it.
-use Rattle.std.specs.Prelude.{◌≡◌, ◌⊎◌, ℕ, ◌≤◌, true, false, All, List, take, length, map, Option, Some, None, IfSome, IsSomeAnd, MatchOption, option_map, if◌then◌else◌}
+use Rattle.std.specs.Prelude.{◌≡◌, ◌⊎◌, ℕ, ◌+◌, ◌<◌, ◌≤◌, true, false, All, List, take, length, map, Option, None, Result, Ok, Err, IfOk, IsSomeAnd, MatchOption, if◌then◌else◌}
 use Rattle.std.specs.Io.KnownBytes.{Appends}
 use Rattle.outside_io.specs.Count.{Rose}
 use Rattle.outside_io.specs.Files.{FolderState, file_of}
 use Rattle.outside_io.specs.Limits.{max_file_bytes}
-use Rattle.shell.specs.FirstForm.{IsFirstForm}
+use Rattle.sql_lex.specs.declared.token.Token.{Token}
+use Rattle.sql_lex.specs.declared.fault.LexFault.{LexFault}
+use Rattle.sql_lex.specs.Tokens.{Tokens, IsFirstFault}
+use Rattle.sql_parse.specs.Trees.{StatementTree, Load}
+use Rattle.sql_parse.specs.Script.{AreStatements, IsFirstRefused}
+use Rattle.sql_values.specs.Limits.{max_script_bytes}
+use Rattle.sql_values.specs.declared.limit.LimitName.TheVariants as limit
+use Rattle.shell.specs.declared.refusal.Refusal.{Refusal}
+use Rattle.shell.specs.declared.refusal.Refusal.TheVariants as refusal
 use Rattle.shell.specs.Script.{Answer, Step, answer_of}
 use Rattle.shell.specs.declared.status.Status.{Status}
 use Rattle.shell.specs.declared.status.Status.TheVariants as status
-use Rattle.shell.specs.declared.statement.Statement.{Statement}
-use Rattle.shell.specs.declared.statement.Statement.TheVariants.{CreateTable, Load, Select}
 
 -- the number with which the program ends
 abbrev pub exit_number : Status → ℕ
@@ -20,10 +26,19 @@ exit_number status.ReadFault = 3
 exit_number status.WriteFault = 4
 exit_number status.NoMemory = 5
 
--- the statements of a script, or that it isn't well-formed
-abbrev pub IsScript : List ℕ → Option (List Statement) → Type 0
-IsScript script None = (statements : List Statement) → ¬ IsFirstForm script statements
-IsScript script (Some statements) = IsFirstForm script statements
+-- how a script is read: as its statements; or it is refused whole, since it is too long, or by its first fault of
+-- tokens, or by its first piece that is no statement
+pub data IsScript (script : List ℕ) : Result (List StatementTree) Refusal → Type 0 where
+  too_long : max_script_bytes < length script
+      → IsScript script (Err (refusal.PastLimit limit.Script (max_script_bytes + 1)))
+  no_token : length script ≤ max_script_bytes → (fault : LexFault) → IsFirstFault script fault.place fault.kind
+      → IsScript script (Err (refusal.NoToken fault))
+  no_statement : length script ≤ max_script_bytes → (tokens : List Token) → Tokens script tokens
+      → (place : ℕ) → IsFirstRefused script tokens place
+      → IsScript script (Err (refusal.NoStatement place))
+  has_statements : length script ≤ max_script_bytes → (tokens : List Token) → Tokens script tokens
+      → (statements : List StatementTree) → AreStatements script tokens statements
+      → IsScript script (Ok statements)
 
 -- the file that a folder gives under a name: what it holds there; where its contents are unknown, a file
 -- that a read can give, or a miss was counted
@@ -32,16 +47,23 @@ IsGiven old new name file =
     MatchOption old.files (IsSomeAnd file (λ bytes. length bytes ≤ max_file_bytes) ⊎ Rose old.misses new.misses) (λ files. file ≡ file_of files name)
 
 -- the file that a folder gives for a statement: only LOAD asks for one
-abbrev pub IsGivenFor : FolderState → FolderState → Statement → Option (List ℕ) → Type 0
-IsGivenFor old new (CreateTable name columns) file = file ≡ None
-IsGivenFor old new (Load file_name name) file = IsGiven old new file_name file
-IsGivenFor old new (Select name) file = file ≡ None
+abbrev pub IsGivenFor : FolderState → FolderState → StatementTree → Option (List ℕ) → Type 0
+IsGivenFor old new (Load load) file = IsGiven old new load.file file
+IsGivenFor old new other file = file ≡ None
+
+-- the statements of these steps
+abbrev pub statements_of_steps : List Step → List StatementTree
+statements_of_steps steps = map (λ step. step.statement) steps
+
+abbrev pub statements_read : Result (List Step) Refusal → Result (List StatementTree) Refusal
+statements_read (Ok steps) = Ok (statements_of_steps steps)
+statements_read (Err why) = Err why
 
 -- the answer that is due to a script over a folder, of which this is known before and after the run
 pub record IsAnswer (script : List ℕ) (old new : FolderState) (answer : Answer) : Type 0 where
-  pub steps : Option (List Step)
-  pub reads : IsScript script (option_map (λ list. map (λ step. step.statement) list) steps)
-  pub given : IfSome steps (All (λ step. IsGivenFor old new step.statement step.file))
+  pub steps : Result (List Step) Refusal
+  pub reads : IsScript script (statements_read steps)
+  pub given : IfOk steps (All (λ step. IsGivenFor old new step.statement step.file))
   pub is : answer ≡ answer_of steps
 
 -- a sink that held `old` got the whole text where the run ended as the text does, and a beginning of it in any

@@ -16,7 +16,6 @@ mod scan;
 mod script;
 mod session;
 mod source;
-mod statement;
 mod status;
 mod stop;
 mod table;

@@ -12,12 +12,12 @@ ghost use Rattle.shell.specs.Load.{integer_of, field_word, all_of, entry_row, sa
 ghost use Rattle.shell.specs.Entries.{entries_left, GivesEntries, list_and_all, rows_within};
 ghost use Rattle.shell.specs.Digits.{magnitude_of};
 
-use crate::statement::Name;
 use crate::word::NULL_WORD;
 use csv::{ByteRecord, Reader, ReaderBuilder};
 use heap_pages::{Heap, HeapFault, MAX_ROWS};
 use outside_io::MAX_FILE_BYTES;
 use sql_lex::MAX_NUMBER;
+use sql_parse::Name;
 use std::alloc::{AllocError, Global};
 use std::io::Read;
 use std::marker::Model;

@@ -6,10 +6,10 @@ ghost use Rattle.shell.specs.Printed.{record_of, field_of, words_of};
 ghost use Rattle.shell.specs.TextWriter.{WritesFields, EndsRecord, WritesText};
 
 use crate::order::SortedRow;
-use crate::statement::Name;
 use crate::word::NULL_WORD;
 use csv::Writer;
 use itoa::Buffer;
+use sql_parse::Name;
 use std::alloc::{AllocError, Global};
 
 // How many rows are gathered before they are written.

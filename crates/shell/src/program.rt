@@ -1,25 +1,28 @@
 // The call that does all that the program does. It relies on the session for what a statement prints, and never looks at what
 // a file or an answer holds.
-ghost use Rattle.std.specs.Prelude.{◌≡◌, ◌≢◌, ◌⊎◌, ℕ, ◌+◌, ◌≤◌, List, [], length, take, All, Some, None, IsSome, OnOk, OnErr, IfErr, IfSome, IsErrOf};
+ghost use Rattle.std.specs.Prelude.{◌≡◌, ◌≢◌, ◌⊎◌, ℕ, ◌+◌, ◌≤◌, List, [], length, map, take, All, Some, Err, IsSome, OnOk, OnErr, IfErr, IfSome, IsErrOf};
 ghost use Rattle.std.specs.Io.KnownBytes.{Appends};
 ghost use Rattle.outside_io.specs.Count.{Rose, HasCause};
 ghost use Rattle.outside_io.specs.Files.{FolderState, OnlyReads};
-ghost use Rattle.shell.specs.Limits.{max_script_bytes};
+ghost use Rattle.sql_values.specs.Limits.{max_script_bytes};
+ghost use Rattle.sql_parse.specs.Trees.{statement_tree};
+ghost use Rattle.sql_parse.specs.WellFormed.{IsWellFormed};
 ghost use Rattle.shell.specs.Printed.{usage_line};
 ghost use Rattle.shell.specs.Refusal.{line_of};
-ghost use Rattle.shell.specs.Script.{Answer, HasColumns};
+ghost use Rattle.shell.specs.declared.refusal.Refusal.{Refusal};
+ghost use Rattle.shell.specs.Script.{Answer};
 ghost use Rattle.shell.specs.Due.{CarriesAll};
 ghost use Rattle.shell.specs.Serve.{IsScript, IsAnswer, Serves, RefusesWords, IsDecided};
 ghost use Rattle.shell.specs.Source.{TakesAtMost};
 
 use crate::refusal::{Refusal, refusal_line};
-use crate::script::read_script;
+use crate::script::{ScriptFault, read_script};
 use crate::session::Session;
 use crate::source::{SourceFault, read_source};
-use crate::statement::Statement;
 use crate::stop::Stop;
 use crate::{Status, lines};
 use outside_io::{Folder, PutFault, Sink, Source};
+use sql_parse::Statement;
 use std::alloc::Global;
 use work_ledger::Ledger;
 
@@ -72,9 +75,9 @@ fn carry_out_all<F: Folder, K: Sink>(
     sink: &mut K,
     ledger: &mut Ledger,
 ) -> Status
-    requires columns { All HasColumns statements.now }
+    requires well_formed { All (λ statement. IsWellFormed (statement_tree statement)) statements.now }
     requires unspent { ledger.old.spent ≡ 0 }
-    ensures carries { CarriesAll statements.now (F.state folder.old) (F.state folder.new) result
+    ensures carries { CarriesAll (map statement_tree statements.now) (F.state folder.old) (F.state folder.new) result
         (K.got sink.old) (K.got sink.new) ledger.old ledger.new }
     ensures kinds { result ≢ Status.BadWords }
     ensures folder { OnlyReads (result ≡ Status.ReadFault) ⊥
@@ -108,7 +111,7 @@ fn refuse_words<K: Sink>(sink: &mut K) -> Status
     }
 }
 
-// Carries out what a source gave, where it is a well-formed script.
+// Carries out what a source gave.
 fn carry_out_script<F: Folder, K: Sink>(
     alloc: Global,
     script: &[u8],
@@ -119,17 +122,16 @@ fn carry_out_script<F: Folder, K: Sink>(
         (K.got sink.old) (K.got sink.new) }
     ensures fits { result ≡ Status.Done → length script.now ≤ max_script_bytes }
     ensures kinds { result ≢ Status.BadWords }
-    ensures unread { IsScript script.now None → F.state folder.new ≡ F.state folder.old }
+    ensures unread { (why : Refusal) → IsScript script.now (Err why) →
+        F.state folder.new ≡ F.state folder.old }
     ensures folder { OnlyReads (result ≡ Status.ReadFault) ⊥
         (F.state folder.old) (F.state folder.new) }
     ensures sink { HasCause (result ≡ Status.WriteFault) (K.faults sink.old) (K.faults sink.new) }
 {
     match read_script(alloc, script) {
-        Ok(Some(statements)) => {
-            carry_out_all(alloc, &statements, folder, sink, &mut Ledger::new())
-        }
-        Ok(None) => put_refusal(alloc, sink, &Refusal::LaterScript),
-        Err(_) => Status::NoMemory,
+        Ok(statements) => carry_out_all(alloc, &statements, folder, sink, &mut Ledger::new()),
+        Err(ScriptFault::Refused(refusal)) => put_refusal(alloc, sink, &refusal),
+        Err(ScriptFault::NoMemory) => Status::NoMemory,
     }
 }
 
@@ -157,11 +159,12 @@ pub fn serve<S: Source, F: Folder, K: Sink>(
     ensures bounded { IfSome (S.left source.old)
         (TakesAtMost (max_script_bytes + 1) (S.left source.new)) }
 
-    // The folder holds what it held, and is read for a well-formed script alone.
+    // The folder holds what it held, and isn't read for a script that is refused whole.
     ensures folder { OnlyReads ⊥ ⊥ (F.state folder.old) (F.state folder.new) }
     ensures unread { words.now ≢ [] → F.state folder.new ≡ F.state folder.old }
     ensures unread_script { IfSome (S.left source.old) (λ script.
-        IsScript script None → F.state folder.new ≡ F.state folder.old) }
+        (why : Refusal) → IsScript script (Err why) →
+        F.state folder.new ≡ F.state folder.old) }
 
     // Each fault has its cause.
     ensures read_fault { result ≡ Status.ReadFault →

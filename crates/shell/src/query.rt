@@ -8,8 +8,8 @@ use crate::lines;
 use crate::order::in_order;
 use crate::print::print_rows;
 use crate::scan::scan;
-use crate::statement::Name;
 use heap_pages::Heap;
+use sql_parse::Name;
 use std::alloc::{AllocError, Global};
 use work_ledger::Ledger;
 

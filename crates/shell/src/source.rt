@@ -2,18 +2,18 @@
 // asked again.
 ghost use Rattle.std.specs.Prelude.{◌≡◌, ◌+◌, ◌<◌, ◌≤◌, [], length, take, drop, Some, OnOk, IfOk, OnErr, IfSome, IsErrOf, vec_len};
 ghost use Rattle.shell.specs.Source.{TakesAtMost, Took};
-ghost use Rattle.shell.specs.Limits.{max_script_bytes};
+ghost use Rattle.sql_values.specs.Limits.{max_script_bytes};
 ghost use Rattle.outside_io.specs.Count.{HasCause};
 
-use crate::script::MAX_SCRIPT_BYTES;
 use outside_io::{Failed, Source};
+use sql_values::MAX_SCRIPT_BYTES;
 use std::alloc::{AllocError, Global};
 
 // How many bytes one take asks for.
 const BLOCK_BYTES: usize = 131072;
 
 // As many bytes as show that a script is too long.
-const MOST_BYTES: usize = MAX_SCRIPT_BYTES + 1;
+const MOST_BYTES: usize = MAX_SCRIPT_BYTES as usize + 1;
 
 /// Why a source wasn't read.
 #[derive(Clone, Copy, Debug, PartialEq, Eq)]

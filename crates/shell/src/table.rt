@@ -1,19 +1,20 @@
 // A table under its name: its rows lie in a heap, and are loaded all at once or not at all.
-ghost use Rattle.std.specs.Prelude.{◌≡◌, ◌+◌, ◌^◌, ◌≤◌, length, [], IfOk, OnOk, IfErr, OnErr, IsErrOf, Some, bytes_eq};
-ghost use Rattle.heap_pages.specs.Limits.{max_columns};
+ghost use Rattle.std.specs.Prelude.{◌≡◌, ◌+◌, ◌^◌, ◌<◌, ◌≤◌, length, [], IfOk, OnOk, IfErr, OnErr, IsErrOf, IsTrue, Some, bytes_eq};
+ghost use Rattle.std.specs.List.{list_all, list_any};
 ghost use Rattle.shell.specs.Limits.{max_work};
 ghost use Rattle.shell.specs.Load.{load_of};
 ghost use Rattle.shell.specs.Printed.{answer_text, scan_work};
-ghost use Rattle.shell.specs.Script.{Prints, append_rows};
+ghost use Rattle.shell.specs.Script.{Prints, append_rows, column_names, is_plain, are_different, are_plain};
 ghost use Rattle.shell.specs.Stop.{StopsAt};
 
 use crate::lines;
 use crate::load::{LoadFault, read_rows};
 use crate::query::answer;
-use crate::refusal::Refusal;
-use crate::statement::{Name, Names};
+use crate::refusal::{Later, Refusal};
 use crate::stop::Stop;
-use heap_pages::{Heap, HeapFault};
+use heap_pages::{Heap, HeapFault, MAX_COLUMNS};
+use sql_parse::{Name, Sequence, TableDef};
+use sql_values::{ColumnDef, ColumnType, LimitName};
 use std::alloc::{AllocError, Global};
 use std::marker::Model;
 use work_ledger::Ledger;
@@ -22,7 +23,7 @@ use work_ledger::Ledger;
 #[derive(Drop)]
 pub(crate) struct Table {
     name: Name,
-    columns: Names,
+    columns: Sequence<Name>,
     heap: Heap,
 }
 
@@ -37,18 +38,75 @@ impl Model for Table {
     ghost invariant = { λ t. t.heap.columns ≡ length t.columns };
 }
 
+// A column of numbers that may be NULL.
+fn is_plain(column: &ColumnDef) -> bool
+    ensures { result ≡ is_plain column.now }
+{
+    match column.kind {
+        ColumnType::Integer => !column.not_null,
+        ColumnType::Varchar(_) => false,
+    }
+}
+
+fn is_named_among(name: &Name, columns: &[ColumnDef]) -> bool
+    ensures { result ≡ list_any (λ column. bytes_eq name.now column.name) columns.now }
+{
+    columns
+        .iter()
+        .any(|column| name.bytes() == column.name.bytes())
+}
+
+fn are_different(columns: &[ColumnDef]) -> bool
+    ensures { result ≡ are_different columns.now }
+{
+    for (i, column) in columns.iter().enumerate() {
+        if is_named_among(&column.name, &columns[i + 1..]) {
+            return false;
+        }
+    }
+    true
+}
+
+fn are_each_plain(columns: &[ColumnDef]) -> bool
+    ensures { result ≡ list_all is_plain columns.now }
+{
+    columns.iter().all(|column| is_plain(column))
+}
+
+/// Whether a table may have these columns today.
+pub(crate) fn are_plain(columns: &[ColumnDef]) -> bool
+    ensures { result ≡ are_plain columns.now }
+{
+    columns.len() <= MAX_COLUMNS && are_each_plain(columns) && are_different(columns)
+}
+
+fn names_of(alloc: Global, columns: &[ColumnDef]) -> Result<Sequence<Name>, AllocError>
+    ensures { IfOk result (λ names. names ≡ column_names columns.now) }
+{
+    let mut names = Vec::with_capacity(alloc, columns.len())?;
+    for column in columns {
+        names.push(column.name.clone()?)?;
+    }
+    Ok(Sequence::from(names))
+}
+
 impl Table {
     /// A table without rows.
-    pub(crate) fn new(alloc: Global, name: &Name, columns: &Names) -> Result<Table, AllocError>
-        requires some { 1 ≤ length columns.now }
-        requires few { length columns.now ≤ max_columns }
-        ensures { IfOk result (λ table.
-            table ≡ record { name = name.now; columns = columns.now; rows = [] }) }
+    pub(crate) fn new(alloc: Global, table: &TableDef) -> Result<Table, AllocError>
+        requires some { 0 < length table.now.columns }
+        requires plain { IsTrue (are_plain table.now.columns) }
+        ensures { IfOk result (λ made. made ≡ record {
+          name = table.now.name;
+          columns = column_names table.now.columns;
+          rows = [];
+        }) }
     {
+        let columns = names_of(alloc, table.columns.as_slice())?;
+        let heap = Heap::new(alloc, columns.as_slice().len());
         Ok(Table {
-            name: name.copy(alloc)?,
-            columns: columns.copy(alloc)?,
-            heap: Heap::new(alloc, columns.as_slice().len()),
+            name: table.name.clone()?,
+            columns,
+            heap,
         })
     }
 
@@ -71,13 +129,15 @@ impl Table {
     {
         let rows = match read_rows(alloc, self.columns.as_slice(), bytes) {
             Ok(rows) => rows,
-            Err(LoadFault::OtherForm) => return Err(Stop::Refused(Refusal::LaterFile)),
+            Err(LoadFault::OtherForm) => return Err(Stop::Refused(Refusal::Later(Later::File))),
             Err(LoadFault::NoMemory) => return Err(Stop::NoMemory),
         };
         let text = lines::load_text(alloc, rows.len())?;
         match rows.append_to(&mut self.heap) {
             Ok(()) => Ok(text),
-            Err(HeapFault::RowLimit { value }) => Err(Stop::Refused(Refusal::RowLimit(value))),
+            Err(HeapFault::RowLimit { value }) => {
+                Err(Stop::Refused(Refusal::PastLimit(LimitName::Rows, value)))
+            }
             Err(HeapFault::NoMemory) => Err(Stop::NoMemory),
         }
     }

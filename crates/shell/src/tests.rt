@@ -10,9 +10,9 @@ use std::alloc::{AllocError, Global};
 use std::test::Fail;
 
 const SCRIPT: &[u8] =
-    b"CREATE TABLE T (A INTEGER, B INTEGER);\nLOAD 't.csv' INTO T;\nSELECT * FROM T;\n";
+    b"CREATE TABLE T (A INTEGER, B INTEGER); LOAD 't.csv' INTO T; SELECT * FROM T;";
 
-const ONE_COLUMN: &[u8] = b"CREATE TABLE T (A INTEGER);\nLOAD 't.csv' INTO T;\nSELECT * FROM T;\n";
+const ONE_COLUMN: &[u8] = b"CREATE TABLE T (A INTEGER); LOAD 't.csv' INTO T; SELECT * FROM T;";
 
 const ROWS: &[u8] = b"A,B\n2,\n,5\n1,1\n";
 
@@ -23,7 +23,13 @@ const USAGE: &[u8] = b"usage: bouquet [--max-work N] [--demo N]\n";
 
 const LATER_FILE: &[u8] = b"error E00 later file\n";
 
-const LATER_SCRIPT: &[u8] = b"error E00 later script\n";
+const LATER_COLUMN: &[u8] = b"error E00 later column\n";
+
+const LATER_TABLE: &[u8] = b"error E00 later table\n";
+
+const LATER_SELECT: &[u8] = b"error E00 later select\n";
+
+const LATER_STATEMENT: &[u8] = b"error E00 later statement\n";
 
 // The calls of each kind that are to fail, by their numbers from 1.
 #[derive(Clone, Copy)]
@@ -58,19 +64,26 @@ fn run(
     Ok((status, Vec::from_slice(alloc, sink.bytes())?))
 }
 
-// A text of so many lines `1,2` between two others.
-fn lines_between(
+// A text with so many copies of a part between two others.
+fn repeated(
     alloc: Global,
     first: &[u8],
-    lines: usize,
+    part: &[u8],
+    times: usize,
     last: &[u8],
 ) -> Result<Vec<u8>, AllocError> {
     let mut text = Vec::from_slice(alloc, first)?;
-    for _ in 0..lines {
-        text.extend_from_slice(b"1,2\n")?;
+    for _ in 0..times {
+        text.extend_from_slice(part)?;
     }
     text.extend_from_slice(last)?;
     Ok(text)
+}
+
+// A condition in so many parentheses.
+fn nested(alloc: Global, depth: usize) -> Result<Vec<u8>, AllocError> {
+    let open = repeated(alloc, b"SELECT * FROM T WHERE ", b"(", depth, b"X = 1")?;
+    repeated(alloc, &open, b")", depth, b"")
 }
 
 #[derive(Clone, Copy)]
@@ -85,21 +98,40 @@ struct Case<'a> {
 #[test]
 fn scripts_print_their_texts(rt: HostRuntime) -> Result<(), Fail> {
     let alloc = rt.alloc();
-    let one_page = lines_between(alloc, b"A,B\n", 512, b"")?;
-    let one_page_text = lines_between(
+    let one_page = repeated(alloc, b"A,B\n", b"1,2\n", 512, b"")?;
+    let one_page_text = repeated(
         alloc,
         b"-- load rows=512\nA,B\n",
+        b"1,2\n",
         512,
         b"-- rows=512 work=1033 runs=1 contour=1 plan=S0\n",
     )?;
-    let two_pages = lines_between(alloc, b"A,B\n", 513, b"")?;
-    let two_pages_text = lines_between(
+    let two_pages = repeated(alloc, b"A,B\n", b"1,2\n", 513, b"")?;
+    let two_pages_text = repeated(
         alloc,
         b"-- load rows=513\nA,B\n",
+        b"1,2\n",
         513,
         b"-- rows=513 work=1043 runs=1 contour=1 plan=S0\n",
     )?;
+    let deepest = nested(alloc, 32)?;
+    let too_deep = nested(alloc, 33)?;
+    let columns = repeated(alloc, b"CREATE TABLE T (C INT", b", C INT", 32, b")")?;
     let cases = [
+        Case {
+            name: "nothing",
+            script: b"",
+            file: ROWS,
+            status: Status::Done,
+            text: b"",
+        },
+        Case {
+            name: "empty pieces",
+            script: b";; -- nothing\n;",
+            file: ROWS,
+            status: Status::Done,
+            text: b"",
+        },
         Case {
             name: "rows in order",
             script: SCRIPT,
@@ -108,8 +140,8 @@ fn scripts_print_their_texts(rt: HostRuntime) -> Result<(), Fail> {
             text: TEXT,
         },
         Case {
-            name: "any case, a byte order mark, quotes, CR LF, a blank line, signs and zeros",
-            script: b"CREATE TABLE t (a INTEGER, b INTEGER);\nLOAD 't.csv' INTO T;\nSELECT * FROM t;\n",
+            name: "any case, no last semicolon; a byte order mark, quotes, CR LF, a blank line, signs and zeros",
+            script: b"create\ttable t(a int,b Integer);;load't.csv'into T\r\n; -- all\nSelect*From t",
             file: b"\xef\xbb\xbfa,\"B\"\r\n2,\r\n\r\n,+5\r\n1,01",
             status: Status::Done,
             text: TEXT,
@@ -120,6 +152,13 @@ fn scripts_print_their_texts(rt: HostRuntime) -> Result<(), Fail> {
             file: b"A\n",
             status: Status::Done,
             text: b"-- load rows=0\nA\n-- rows=0 work=1 runs=1 contour=1 plan=S0\n",
+        },
+        Case {
+            name: "no load",
+            script: b"CREATE TABLE T (A INTEGER); SELECT * FROM T",
+            file: ROWS,
+            status: Status::Done,
+            text: b"A\n-- rows=0 work=1 runs=1 contour=1 plan=S0\n",
         },
         Case {
             name: "NULL alone, and equal rows",
@@ -150,6 +189,13 @@ fn scripts_print_their_texts(rt: HostRuntime) -> Result<(), Fail> {
             text: &two_pages_text,
         },
         Case {
+            name: "a file loaded twice",
+            script: b"CREATE TABLE T (A INTEGER); LOAD 't.csv' INTO T; SELECT * FROM T; LOAD 't.csv' INTO T; SELECT * FROM T",
+            file: b"A\n1\n",
+            status: Status::Done,
+            text: b"-- load rows=1\nA\n1\n-- rows=1 work=11 runs=1 contour=1 plan=S0\n-- load rows=1\nA\n1\n1\n-- rows=2 work=13 runs=1 contour=1 plan=S0\n",
+        },
+        Case {
             name: "one below the least INTEGER",
             script: ONE_COLUMN,
             file: b"A\n-9223372036854775808\n",
@@ -171,18 +217,200 @@ fn scripts_print_their_texts(rt: HostRuntime) -> Result<(), Fail> {
             text: LATER_FILE,
         },
         Case {
-            name: "another script",
-            script: b"SELECT 1;",
+            name: "a byte that begins nothing",
+            script: b"SELECT \"x\"",
             file: ROWS,
             status: Status::Refused,
-            text: LATER_SCRIPT,
+            text: b"error E01 byte 7\n",
+        },
+        Case {
+            name: "a text that stays open, after a piece that is no statement",
+            script: b"SELECT; 'abc",
+            file: ROWS,
+            status: Status::Refused,
+            text: b"error E01 text 8\n",
+        },
+        Case {
+            name: "a number past its limit",
+            script: b"SELECT 9223372036854775808",
+            file: ROWS,
+            status: Status::Refused,
+            text: b"error E01 number 7\n",
+        },
+        Case {
+            name: "a text that isn't UTF-8",
+            script: b"'\xff'",
+            file: ROWS,
+            status: Status::Refused,
+            text: b"error E01 utf8 0\n",
+        },
+        Case {
+            name: "no statement",
+            script: b"SELECT FROM A;",
+            file: ROWS,
+            status: Status::Refused,
+            text: b"error E02 syntax 0\n",
+        },
+        Case {
+            name: "a later piece that is none",
+            script: b"CREATE TABLE T (A INTEGER); SELECT; SELECT",
+            file: ROWS,
+            status: Status::Refused,
+            text: b"error E02 syntax 28\n",
+        },
+        Case {
+            name: "parentheses as deep as may be",
+            script: &deepest,
+            file: ROWS,
+            status: Status::Refused,
+            text: LATER_SELECT,
+        },
+        Case {
+            name: "parentheses that are too deep",
+            script: &too_deep,
+            file: ROWS,
+            status: Status::Refused,
+            text: b"error E02 syntax 0\n",
+        },
+        Case {
+            name: "a table that isn't there",
+            script: b"CREATE TABLE T (A INTEGER); SELECT * FROM N",
+            file: ROWS,
+            status: Status::Refused,
+            text: b"error E03 table N\n",
+        },
+        Case {
+            name: "no table to load",
+            script: b"LOAD 'g.csv' INTO n",
+            file: ROWS,
+            status: Status::Refused,
+            text: b"error E03 table N\n",
         },
         Case {
             name: "an absent file",
-            script: b"CREATE TABLE T (A INTEGER, B INTEGER);\nLOAD 'g.csv' INTO T;\nSELECT * FROM T;\n",
+            script: b"CREATE TABLE T (A INTEGER); LOAD 'it''s' INTO T; SELECT * FROM T",
             file: ROWS,
             status: Status::Refused,
-            text: b"error E09 absent g.csv\n",
+            text: b"error E09 absent it's\n",
+        },
+        Case {
+            name: "a second table, with a column of texts",
+            script: b"CREATE TABLE T (A INTEGER); CREATE TABLE U (S VARCHAR(5))",
+            file: ROWS,
+            status: Status::Refused,
+            text: LATER_TABLE,
+        },
+        Case {
+            name: "a column of texts",
+            script: b"CREATE TABLE T (A INTEGER, S VARCHAR(5))",
+            file: ROWS,
+            status: Status::Refused,
+            text: LATER_COLUMN,
+        },
+        Case {
+            name: "a column that refuses NULL",
+            script: b"CREATE TABLE T (A INTEGER NOT NULL)",
+            file: ROWS,
+            status: Status::Refused,
+            text: LATER_COLUMN,
+        },
+        Case {
+            name: "two columns of one name",
+            script: b"CREATE TABLE T (A INTEGER, B INTEGER, a INTEGER)",
+            file: ROWS,
+            status: Status::Refused,
+            text: LATER_COLUMN,
+        },
+        Case {
+            name: "33 columns",
+            script: &columns,
+            file: ROWS,
+            status: Status::Refused,
+            text: LATER_COLUMN,
+        },
+        Case {
+            name: "a named column",
+            script: b"SELECT A FROM T",
+            file: ROWS,
+            status: Status::Refused,
+            text: LATER_SELECT,
+        },
+        Case {
+            name: "an alias",
+            script: b"SELECT * FROM T P",
+            file: ROWS,
+            status: Status::Refused,
+            text: LATER_SELECT,
+        },
+        Case {
+            name: "the table's name as alias",
+            script: b"CREATE TABLE T (A INTEGER); SELECT * FROM T AS t",
+            file: ROWS,
+            status: Status::Done,
+            text: b"A\n-- rows=0 work=1 runs=1 contour=1 plan=S0\n",
+        },
+        Case {
+            name: "a condition",
+            script: b"SELECT * FROM T WHERE A = 1",
+            file: ROWS,
+            status: Status::Refused,
+            text: LATER_SELECT,
+        },
+        Case {
+            name: "two tables",
+            script: b"SELECT * FROM T, U",
+            file: ROWS,
+            status: Status::Refused,
+            text: LATER_SELECT,
+        },
+        Case {
+            name: "an index",
+            script: b"CREATE INDEX I ON T (A)",
+            file: ROWS,
+            status: Status::Refused,
+            text: LATER_STATEMENT,
+        },
+        Case {
+            name: "COMPILE",
+            script: b"COMPILE Q AS SELECT * FROM T",
+            file: ROWS,
+            status: Status::Refused,
+            text: LATER_STATEMENT,
+        },
+        Case {
+            name: "RUN",
+            script: b"RUN Q",
+            file: ROWS,
+            status: Status::Refused,
+            text: LATER_STATEMENT,
+        },
+        Case {
+            name: "EXPLAIN",
+            script: b"EXPLAIN Q",
+            file: ROWS,
+            status: Status::Refused,
+            text: LATER_STATEMENT,
+        },
+        Case {
+            name: "SAVE",
+            script: b"SAVE Q TO 'q'",
+            file: ROWS,
+            status: Status::Refused,
+            text: LATER_STATEMENT,
+        },
+        Case {
+            name: "OPEN",
+            script: b"OPEN Q FROM 'q' AS SELECT * FROM T",
+            file: ROWS,
+            status: Status::Refused,
+            text: LATER_STATEMENT,
+        },
+        Case {
+            name: "AUDIT",
+            script: b"AUDIT Q AT 1",
+            file: ROWS,
+            status: Status::Refused,
+            text: LATER_STATEMENT,
         },
     ];
     for case in &cases {
@@ -252,11 +480,22 @@ fn a_fault_ends_the_run(rt: HostRuntime) -> Result<(), Fail> {
                 ..NO_FAULTS
             },
             status: Status::WriteFault,
-            text: b"-- load rows=3\n",
+            text: b"-- load rows=0\n",
+        },
+        FaultCase {
+            name: "the third put, of the next answer",
+            faults: Faults {
+                puts: &[3],
+                ..NO_FAULTS
+            },
+            status: Status::WriteFault,
+            text: b"-- load rows=0\nA\n-- rows=0 work=1 runs=1 contour=1 plan=S0\n",
         },
     ];
+    let script =
+        b"CREATE TABLE T (A INTEGER); LOAD 't.csv' INTO T; SELECT * FROM T; SELECT * FROM T;";
     for case in &cases {
-        let answer = run(alloc, &[], SCRIPT, ROWS, case.faults)?;
+        let answer = run(alloc, &[], script, b"A\n", case.faults)?;
         assert_eq!(rt; answer.0, case.status, "{}", case.name);
         assert_eq!(rt; answer.1.as_slice(), case.text, "{}", case.name);
     }
@@ -274,13 +513,19 @@ fn a_fault_ends_the_run(rt: HostRuntime) -> Result<(), Fail> {
 #[test]
 fn a_script_past_its_limit_is_refused(rt: HostRuntime) -> Result<(), Fail> {
     let alloc = rt.alloc();
-    for (len, left) in [(16777216, 0), (16777217, 0), (16777219, 2)] {
+    let past = b"error E12 limit script 16777217\n".as_slice();
+    let cases = [
+        (16777216, Status::Done, b"".as_slice(), 0),
+        (16777217, Status::Refused, past, 0),
+        (16777219, Status::Refused, past, 2),
+    ];
+    for (len, status, text, left) in cases {
         let mut source = MemorySource::new(vec![in alloc; b' '; len]?, Vec::new(alloc));
         let mut folder = MemoryFolder::new(alloc, Vec::new(alloc));
         let mut sink = MemorySink::new(alloc, Vec::new(alloc));
         let ended = serve(alloc, &[], &mut source, &mut folder, &mut sink);
-        assert_eq!(rt; ended, Status::Refused, "{len} bytes");
-        assert_eq!(rt; sink.bytes(), LATER_SCRIPT, "{len} bytes");
+        assert_eq!(rt; ended, status, "{len} bytes");
+        assert_eq!(rt; sink.bytes(), text, "{len} bytes");
         assert_eq!(rt; source.take(&mut [0u8; 4]), Ok(left), "{len} bytes");
     }
     Ok(())
@@ -393,6 +638,6 @@ fn a_quiet_run_meets_no_fault(rt: HostRuntime) -> Result<(), Fail> {
         &mut LongFiles { misses: 0 },
         &mut Quiet,
     );
-    assert_eq!(rt; ended, Status::Refused);
+    assert_eq!(rt; ended, Status::Done);
     Ok(())
 }

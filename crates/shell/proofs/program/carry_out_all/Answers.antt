@@ -1,5 +1,7 @@
 -- Each statement's text stands after those before it.
-use Rattle.std.proofs.Common.{◌+◌, ◌≤◌, inl, inr, refl, arith}
+use Rattle.std.proofs.Common.{◌+◌, ◌≤◌, inl, inr, map, refl, arith}
+use Rattle.std.proofs.lemmas.List.{length-map}
+use Rattle.sql_parse.specs.Trees.{statement_tree}
 use Rattle.shell.specs.Limits.{max_work}
 use Rattle.shell.specs.declared.status.Status.TheVariants as status
 use Rattle.shell.proofs.Carrying.{carried_none, carried_all}
@@ -8,7 +10,7 @@ use Rattle.shell.proofs.program.carry_out_all.Goals as goal
 
 pub loop-statement-init : goal.loop-statement-init
 loop-statement-init g c = record {
-  carried = rw c.new-session.ensures (carried_none c.args.statements.now (g.F.Folder.state c.args.folder.now) (g.K.Sink.got c.args.sink.now) c.args.ledger.now);
+  carried = rw c.new-session.ensures (carried_none (map statement_tree c.args.statements.now) (g.F.Folder.state c.args.folder.now) (g.K.Sink.got c.args.sink.now) c.args.ledger.now);
   folder = reads_none (g.F.Folder.state c.args.folder.now) ⊥ (λ none. none);
   sink = omega arith;
   spent = omega arith;
@@ -59,5 +61,5 @@ loop-statement-preserved g c =
 
 pub returns-clause-carries : goal.returns-clause-carries
 returns-clause-carries g c =
-    carried_all c.args.statements.now c.loop-statement.statement-index (g.F.Folder.state c.args.folder.now) (g.F.Folder.state c.loop-statement.folder) c.loop-statement.session
-    (g.K.Sink.got c.args.sink.now) (g.K.Sink.got c.loop-statement.sink) c.args.ledger.now c.loop-statement.ledger (omega arith) c.loop-statement.invariant.carried
+    carried_all (map statement_tree c.args.statements.now) c.loop-statement.statement-index (g.F.Folder.state c.args.folder.now) (g.F.Folder.state c.loop-statement.folder) c.loop-statement.session
+    (g.K.Sink.got c.args.sink.now) (g.K.Sink.got c.loop-statement.sink) c.args.ledger.now c.loop-statement.ledger (omega (arith, length-map c.args.statements.now statement_tree)) c.loop-statement.invariant.carried

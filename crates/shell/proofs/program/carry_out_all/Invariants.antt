@@ -1,12 +1,13 @@
-use Rattle.std.proofs.Common.{◌*◌, ◌≤◌}
+use Rattle.std.proofs.Common.{◌*◌, ◌≤◌, map}
 use Rattle.outside_io.specs.Files.{OnlyReads}
+use Rattle.sql_parse.specs.Trees.{statement_tree}
 use Rattle.shell.specs.Limits.{max_work}
 use Rattle.shell.proofs.Carrying.{IsCarried}
 use Rattle.shell.proofs.program.carry_out_all.Given as goal
 
 abbrev pub invariant-loop-statement : goal.invariant-loop-statement
 invariant-loop-statement g l = record {
-  carried : IsCarried l.statements l.statement-index (g.F.Folder.state l.fn.folder) (g.F.Folder.state l.folder) l.session (g.K.Sink.got l.fn.sink) (g.K.Sink.got l.sink) l.fn.ledger l.ledger;
+  carried : IsCarried (map statement_tree l.statements) l.statement-index (g.F.Folder.state l.fn.folder) (g.F.Folder.state l.folder) l.session (g.K.Sink.got l.fn.sink) (g.K.Sink.got l.sink) l.fn.ledger l.ledger;
   folder : OnlyReads ⊥ ⊥ (g.F.Folder.state l.fn.folder) (g.F.Folder.state l.folder);
   sink : g.K.Sink.faults l.fn.sink ≤ g.K.Sink.faults l.sink;
   spent : l.ledger.spent ≤ l.statement-index * max_work;

@@ -1,19 +1,25 @@
--- The statements were carried out, or the script isn't well-formed, or nothing was put.
-use Rattle.std.proofs.Common.{inr, refl}
+-- The statements were carried out, or the script is refused whole, or nothing was put.
+use Rattle.std.proofs.Common.{inr, map, Ok, Err, refl}
+use Rattle.sql_parse.specs.Trees.{statement_tree}
 use Rattle.shell.specs.declared.status.Status.TheVariants as status
-use Rattle.shell.proofs.Runs.{serves_nothing, serves_statements, serves_other}
+use Rattle.shell.proofs.Scripts.{one_reading}
+use Rattle.shell.proofs.Runs.{serves_nothing, serves_statements, serves_refusal}
 use Rattle.shell.proofs.program.carry_out_script.Goals as goal
 
-pub returns-in-Ok-Some-clause-serves : goal.returns-in-Ok-Some-clause-serves
-returns-in-Ok-Some-clause-serves g c =
-    serves_statements c.args.script.now c.in-Ok-Some.statements.items (g.F.Folder.state c.args.folder.now) (g.F.Folder.state c.carry_out_all.new.folder) c.carry_out_all.result
-    (g.K.Sink.got c.args.sink.now) (g.K.Sink.got c.carry_out_all.new.sink) c.new.result c.carry_out_all.new.ledger (rw c.in-Ok-Some.field-0-is at c.in-Ok-Some.ensures) (rw c.deref.ensures.value at c.carry_out_all.ensures.carries)
+pub returns-in-Ok-clause-serves : goal.returns-in-Ok-clause-serves
+returns-in-Ok-clause-serves g c =
+    serves_statements c.args.script.now (map statement_tree c.in-Ok.statements.items) (g.F.Folder.state c.args.folder.now) (g.F.Folder.state c.carry_out_all.new.folder) c.carry_out_all.result
+    (g.K.Sink.got c.args.sink.now) (g.K.Sink.got c.carry_out_all.new.sink) c.new.result c.carry_out_all.new.ledger c.in-Ok.ensures.read (rw c.deref.ensures.value at c.carry_out_all.ensures.carries)
 
-pub returns-in-Ok-None-clause-serves : goal.returns-in-Ok-None-clause-serves
-returns-in-Ok-None-clause-serves g c =
-    serves_other c.args.script.now (g.F.Folder.state c.args.folder.now) (g.F.Folder.state c.args.folder.now) c.put_refusal.result (g.K.Sink.got c.args.sink.now) (g.K.Sink.got c.put_refusal.new.sink)
-    (rw c.in-Ok-None.field-0-is at c.in-Ok-None.ensures) c.put_refusal.ensures.whole c.put_refusal.ensures.part c.put_refusal.ensures.kinds
+pub returns-in-Ok-clause-unread : goal.returns-in-Ok-clause-unread
+returns-in-Ok-clause-unread g c = λ why refused.
+    let same = one_reading c.args.script.now (Ok (map statement_tree c.in-Ok.statements.items)) (Err why) c.in-Ok.ensures.read refused in absurd (cc same)
 
-pub returns-in-Err-clause-serves : goal.returns-in-Err-clause-serves
-returns-in-Err-clause-serves g c =
+pub returns-in-Err-Refused-clause-serves : goal.returns-in-Err-Refused-clause-serves
+returns-in-Err-Refused-clause-serves g c =
+    serves_refusal c.args.script.now c.in-Err-Refused.refusal (g.F.Folder.state c.args.folder.now) (g.F.Folder.state c.args.folder.now) c.put_refusal.result (g.K.Sink.got c.args.sink.now) (g.K.Sink.got c.put_refusal.new.sink)
+    (rw c.in-Err-Refused.field-0-is at c.in-Err-Refused.ensures.refused) c.put_refusal.ensures.whole c.put_refusal.ensures.part c.put_refusal.ensures.kinds
+
+pub returns-in-Err-NoMemory-clause-serves : goal.returns-in-Err-NoMemory-clause-serves
+returns-in-Err-NoMemory-clause-serves g c =
     serves_nothing c.args.script.now (g.F.Folder.state c.args.folder.now) (g.F.Folder.state c.args.folder.now) status.NoMemory (g.K.Sink.got c.args.sink.now) (inr (inr refl))

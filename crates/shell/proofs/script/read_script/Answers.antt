@@ -1,17 +1,19 @@
-use Rattle.std.proofs.Common.{sym, ◌∙◌}
-use Rattle.shell.proofs.FirstFormReads.{IsFirstForm-from_words, none_without_words, none_misplaced, file_bytes_from_test}
+-- The script is too long, or one of the two readers says what it is.
+use Rattle.std.proofs.Common.{map, arith}
+use Rattle.sql_parse.specs.Trees.{statement_tree}
+use Rattle.shell.specs.Serve.IsScript.{too_long, no_statement, has_statements}
 use Rattle.shell.proofs.script.read_script.Goals as goal
-use Rattle.shell.proofs.script.read_script.Goals.{in_default-via-in-Some+else-is_well_formed, in_default-via-in_default}
 
-pub statements_of-requires : goal.statements_of-requires
-statements_of-requires c = file_bytes_from_test c.in-Some.spelling (sym c.is_well_formed.ensures ∙ c.if-is_well_formed.true)
+pub returns-then-script-gt-MAX_SCRIPT_BYTES-clause-refused : goal.returns-then-script-gt-MAX_SCRIPT_BYTES-clause-refused
+returns-then-script-gt-MAX_SCRIPT_BYTES-clause-refused c = too_long (omega arith)
 
-pub returns-in_ok-statements_of-in-Some : goal.returns-in_ok-statements_of-in-Some
-returns-in_ok-statements_of-in-Some c =
-    IsFirstForm-from_words c.args.script.now c.in-Some.spelling _ c.if-script-gt-MAX_SCRIPT_BYTES.false (sym c.in_ok-spelling.ensures ∙ c.in-Some.is) (sym c.is_well_formed.ensures ∙ c.if-is_well_formed.true) c.in_ok-statements_of-in-Some.ensures
+pub returns-in-Err-clause-refused : goal.returns-in-Err-clause-refused
+returns-in-Err-clause-refused c = c.no_token.ensures c.args.script.now (omega arith) c.in-Err.ensures.offends
 
-pub returns-in_default : goal.returns-in_default
-returns-in_default c = elim c.in_default.branch [
-  | in_default-via-in-Some+else-is_well_formed w ↦ none_misplaced c.args.script.now w.in-Some.spelling (sym c.in_ok-spelling.ensures ∙ w.in-Some.is) (sym w.is_well_formed.ensures ∙ w.if-is_well_formed.false)
-  | in_default-via-in_default w ↦ none_without_words c.args.script.now (sym c.in_ok-spelling.ensures ∙ w.in_default.is)
-]
+pub returns-in-Ok-read_script-clause-read : goal.returns-in-Ok-read_script-clause-read
+returns-in-Ok-read_script-clause-read c =
+    has_statements (omega arith) c.in-Ok.tokens.items c.in-Ok.ensures.found (map statement_tree c.in-Ok-read_script.statements.items) (rw c.deref.ensures.value at c.in-Ok-read_script.ensures.found)
+
+pub returns-in-Err-Syntax-clause-refused : goal.returns-in-Err-Syntax-clause-refused
+returns-in-Err-Syntax-clause-refused c =
+    no_statement (omega arith) c.in-Ok.tokens.items c.in-Ok.ensures.found c.in-Err-Syntax.place (rw (c.in-Err-Syntax.field-0-is, c.deref.ensures.value) at c.in-Err-Syntax.ensures.refused)

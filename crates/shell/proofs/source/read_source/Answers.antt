@@ -1,6 +1,6 @@
 -- The loop reads on until a take gives nothing, or as many bytes are there as may be.
 use Rattle.std.proofs.Common.{◌≡◌, length, arith}
-use Rattle.shell.proofs.Runs.{enough}
+use Rattle.shell.proofs.Scripts.{enough}
 use Rattle.shell.proofs.Reading.{reading_on, read_full, read_last, takes_on}
 use Rattle.shell.proofs.source.read_source.Goals as goal
 use Rattle.shell.proofs.source.read_source.Goals.{else-loop-turn-test, then-loop-turn-test+in-Ok-eq0}

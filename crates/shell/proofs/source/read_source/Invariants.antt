@@ -1,7 +1,7 @@
 use Rattle.std.proofs.Common.{◌≡◌, ◌≤◌, vec_len}
 use Rattle.shell.specs.declared.source.TheConstants.{BLOCK_BYTES}
 use Rattle.shell.proofs.Reading.{IsReading}
-use Rattle.shell.proofs.Runs.{enough}
+use Rattle.shell.proofs.Scripts.{enough}
 use Rattle.shell.proofs.source.read_source.Given as goal
 
 abbrev pub invariant-loop-turn : goal.invariant-loop-turn
