@@ -9,7 +9,9 @@ mod column;
 mod limit;
 mod op;
 mod text;
+mod texts;
 mod value;
+mod value_order;
 
 pub use column::{ColumnDef, ColumnType};
 pub use limit::{
@@ -20,7 +22,9 @@ pub use limit::{
 };
 pub use op::Op;
 pub use text::Text;
-pub use value::Value;
+pub use texts::Texts;
+pub use value::{NULL_WORD, Value, null_word_is_as_stated};
+pub use value_order::{order, order_is_total};
 
 #[cfg(test)]
 mod tests {

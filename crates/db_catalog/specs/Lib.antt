@@ -1,0 +1,5 @@
+pub mod Database
+pub mod Refused
+pub mod Batch
+pub mod Meter
+pub mod Kept

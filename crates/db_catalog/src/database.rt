@@ -1,0 +1,206 @@
+// The database: tables under their names, and the one dictionary of their texts. It relies on the heap for rows and on
+// the batch for their words, and never drops or changes a row.
+ghost use Rattle.std.specs.Prelude.{◌≡◌, ◌+◌, ◌<◌, ◌≤◌, ◌^◌, [], length, map, All, OnOk, OnErr, IfOk};
+ghost use Rattle.std.specs.List.{IsDistinct};
+ghost use Rattle.std.specs.Str.{bytes_eq};
+ghost use Rattle.db_catalog.specs.Database as spec;
+ghost use Rattle.db_catalog.specs.Database.{with_table, with_rows, new_table, rows_in};
+ghost use Rattle.db_catalog.specs.Database.{table_at, table_number, FillRows, IsRowAt};
+ghost use Rattle.db_catalog.specs.Meter.{table_pages, HasSlot, IsRowIn};
+ghost use Rattle.work_ledger.specs.Account.{Pays};
+ghost use Rattle.work_ledger.specs.Charges.{page_charge, row_charge, fetch_charge};
+ghost use Rattle.db_catalog.specs.Refused.{Refuses, creation_fault, append_fault};
+
+use crate::batch::Batch;
+use crate::fault::DbFault;
+use crate::table::Table;
+use heap_pages::PageView;
+use sql_values::{ColumnDef, Texts, Value};
+use std::alloc::Global;
+use std::marker::Model;
+use work_ledger::{Exhausted, Ledger};
+
+/// Tables and their rows. A table has a number, from 0, by the order in which tables were made.
+#[derive(Drop)]
+pub struct Database {
+    alloc: Global,
+    names: Texts,
+    tables: Vec<Table>,
+    texts: Texts,
+}
+
+impl Model for Database {
+    ghost use Rattle.std.specs.Prelude.{map};
+    ghost use Rattle.db_catalog.specs.Database.{DatabaseState};
+    ghost use Rattle.db_catalog.specs.Kept.{stored_table, AreKept};
+
+    ghost Value = { DatabaseState };
+
+    ghost view = { λ d. record {
+      tables = map (stored_table d.texts) d.tables.items;
+      texts = d.texts;
+    } };
+
+    ghost invariant = { λ d. AreKept d.names d.texts d.tables.items };
+}
+
+impl Database {
+    /// A database without tables.
+    pub fn new(alloc: Global) -> Database
+        ensures tables { result.tables ≡ [] }
+        ensures texts { result.texts ≡ [] }
+    {
+        Database {
+            alloc,
+            names: Texts::new(alloc),
+            tables: Vec::new(alloc),
+            texts: Texts::new(alloc),
+        }
+    }
+
+    /// Makes a table without rows, and returns its number. The checks, in order: how many tables there are, the name, how
+    /// many columns there are; then for each column from left to right its name, among those before it, and the length of
+    /// a VARCHAR.
+    pub fn create_table(&mut self, name: &[u8], columns: &[ColumnDef]) -> Result<u32, DbFault>
+        requires some { 1 ≤ length columns.now }
+        ensures number { IfOk result (λ number. number ≡ length self.old.tables) }
+        ensures created { OnOk result
+            (self.new ≡ with_table self.old (new_table name.now columns.now)) }
+        ensures unchanged { OnErr result (self.new ≡ self.old) }
+        ensures refuses { Refuses (creation_fault self.old name.now columns.now) result }
+    {
+        Err(DbFault::NoMemory)
+    }
+
+    /// Appends rows, whose values follow one another, to a table. The checks, in order, each of the number that there would
+    /// be then: the table's rows, the words of all tables, the different texts, their bytes.
+    pub fn append_rows(&mut self, table: u32, rows: &[Value]) -> Result<(), DbFault>
+        requires there { table < length self.old.tables }
+        requires fill { FillRows (table_at self.old table).columns rows.now }
+        ensures appended { OnOk result (self.new
+            ≡ with_rows self.old table (rows_in (table_at self.old table).columns rows.now)) }
+        ensures unchanged { OnErr result (self.new ≡ self.old) }
+        ensures refuses { Refuses (append_fault self.old table
+            (rows_in (table_at self.old table).columns rows.now)) result }
+    {
+        Err(DbFault::NoMemory)
+    }
+
+    /// Appends the rows of a batch to a table. The checks are those of `append_rows`. No word is copied where the table has
+    /// no rows yet.
+    pub fn append_batch(&mut self, table: u32, batch: Batch) -> Result<(), DbFault>
+        requires there { table < length self.old.tables }
+        requires columns { batch.columns ≡ (table_at self.old table).columns }
+        requires whole { batch.row ≡ [] }
+        ensures appended { OnOk result (self.new ≡ with_rows self.old table batch.rows) }
+        ensures unchanged { OnErr result (self.new ≡ self.old) }
+        ensures refuses { Refuses (append_fault self.old table batch.rows) result }
+    {
+        Err(DbFault::NoMemory)
+    }
+
+    /// How many tables there are.
+    pub fn tables(&self) -> u32
+        ensures { result ≡ length self.now.tables }
+    {
+        self.tables.len() as u32
+    }
+
+    /// The number of the table of this name.
+    pub fn table_of(&self, name: &[u8]) -> Option<u32>
+        ensures { result ≡ table_number self.now name.now }
+    {
+        let number = self.names.code_of(name)?;
+        Some(number as u32)
+    }
+
+    /// A table's columns.
+    pub fn columns(&self, table: u32) -> &[ColumnDef]
+        requires { table < length self.now.tables }
+        ensures { result.now ≡ (table_at self.now table).columns }
+    {
+        self.tables[table as usize].columns.as_slice()
+    }
+
+    /// The different texts that stand in the tables.
+    pub fn texts(&self) -> &Texts
+        ensures texts { result.now ≡ self.now.texts }
+        ensures distinct { IsDistinct bytes_eq self.now.texts }
+    {
+        &self.texts
+    }
+
+    /// How many rows a table has.
+    pub fn rows(&self, table: u32) -> u64
+        requires { table < length self.now.tables }
+        ensures { result ≡ length (table_at self.now table).rows }
+    {
+        self.tables[table as usize].heap.rows()
+    }
+
+    /// The numbers of a table's columns that are indexed, from 0. So far no column is.
+    pub fn indexes(&self, table: u32) -> &[u8]
+        requires { table < length self.now.tables }
+        ensures { result.now ≡ (table_at self.now table).indexed }
+    {
+        &[]
+    }
+
+    /// The words of row `i` of a table, from 0. This read isn't paid.
+    pub fn plain_row(&self, table: u32, i: u64) -> &[i64]
+        requires there { table < length self.now.tables }
+        requires row { i < length (table_at self.now table).rows }
+        ensures { IsRowAt self.now table i result.now }
+    {
+        self.tables[table as usize].heap.get(i)
+    }
+
+    // Opens page `no` of a table, from 0, which pays for it.
+    pub(crate) fn page(
+        &self,
+        table: u32,
+        no: u64,
+        ledger: &mut Ledger,
+    ) -> Result<PageView, Exhausted>
+        requires there { table < length self.now.tables }
+        requires page { no < table_pages self.now table }
+        ensures page { IfOk result (λ view. view.number ≡ no) }
+        ensures pays { Pays page_charge ledger.old ledger.new result }
+    {
+        self.tables[table as usize].heap.page(no, ledger)
+    }
+
+    // The words of the row in this slot, from 0, of an opened page, which pays for the row.
+    pub(crate) fn row_of(
+        &self,
+        table: u32,
+        view: &PageView,
+        slot: usize,
+        ledger: &mut Ledger,
+    ) -> Result<&[i64], Exhausted>
+        requires there { table < length self.now.tables }
+        requires slot { HasSlot self.now table view.now.number slot }
+        ensures row { IfOk result (λ words. IsRowIn self.now table view.now.number slot words.now) }
+        ensures pays { Pays row_charge ledger.old ledger.new result }
+    {
+        self.tables[table as usize].heap.row_of(view, slot, ledger)
+    }
+
+    // The words of row `i` of a table, from 0, which pays for the look-up.
+    pub(crate) fn fetch(&self, table: u32, i: u64, ledger: &mut Ledger) -> Result<&[i64], Exhausted>
+        requires there { table < length self.now.tables }
+        requires row { i < length (table_at self.now table).rows }
+        ensures row { IfOk result (λ words. IsRowAt self.now table i words.now) }
+        ensures pays { Pays fetch_charge ledger.old ledger.new result }
+    {
+        self.tables[table as usize].heap.fetch(i, ledger)
+    }
+
+    // How many pages a table's rows take.
+    pub(crate) fn pages(&self, table: u32) -> u64
+        requires { table < length self.now.tables }
+        ensures { result ≡ table_pages self.now table }
+    {
+        self.tables[table as usize].heap.pages()
+    }
+}
