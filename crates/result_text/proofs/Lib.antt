@@ -1,0 +1,5 @@
+pub mod Columns
+pub mod Ascending
+pub mod RowsInOrder
+pub mod SortKeys
+pub mod TextWriter

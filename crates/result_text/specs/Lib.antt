@@ -1,0 +1,5 @@
+pub mod Rows
+pub mod Order
+pub mod Printed
+pub mod SortKey
+pub mod TextWriter
