@@ -1,9 +1,10 @@
 -- The texts that statements print.
-use Rattle.std.specs.Prelude.{ℕ, ◌+◌, ◌*◌, List, ◌++◌, length, codes, decimal}
+use Rattle.std.specs.Prelude.{ℕ, ◌+◌, ◌*◌, List, ◌++◌, map, length, codes, decimal}
 use Rattle.work_ledger.specs.Charges.{open_charge, page_charge, row_charge, emit_charge}
 use Rattle.heap_pages.specs.Rows.{pages_of}
-use Rattle.sql_values.specs.Stored.{StoredTable, column_names}
-use Rattle.result_text.specs.Printed.{rows_text}
+use Rattle.sql_values.specs.declared.column.ColumnDef.{ColumnDef}
+use Rattle.sql_values.specs.Stored.{StoredTable}
+use Rattle.result_text.specs.Printed.{table_text}
 
 -- the work of a scan that gives every row: it opens, and pays each page, and each row looked at and given
 abbrev pub scan_work : StoredTable → ℕ
@@ -15,9 +16,13 @@ scan_work table =
 abbrev pub report_line : ℕ → ℕ → List ℕ
 report_line rows work = codes "-- rows=" ++ (decimal rows ++ (codes " work=" ++ (decimal work ++ codes " runs=1 contour=1 plan=S0\n")))
 
+-- the names of columns
+abbrev pub column_names : List ColumnDef → List (List ℕ)
+column_names columns = map (λ column. column.name) columns
+
 -- what a query of the whole table prints, with this work
 abbrev pub answer_text : StoredTable → ℕ → List ℕ
-answer_text table work = rows_text (column_names table.columns) table.rows ++ report_line (length table.rows) work
+answer_text table work = table_text (column_names table.columns) table.rows ++ report_line (length table.rows) work
 
 -- what a load prints
 abbrev pub load_line : ℕ → List ℕ
