@@ -29,8 +29,10 @@ stored_table texts table = record {
   rows = map (row_of texts table.columns.items) table.heap.rows;
 }
 
--- a table's words, and the width of its heap
+-- a table's columns and words, and the width of its heap
 pub record IsKept (texts : List (List ℕ)) (table : Table) : Type 0 where
+  pub some_columns : 1 ≤ length table.columns.items
+  pub few_columns : length table.columns.items ≤ max_columns
   pub width : table.heap.columns ≡ length table.columns.items
   pub rows : MeanRows texts table.columns.items table.heap.rows
 
@@ -48,6 +50,5 @@ pub record IsBatch (columns : List ColumnDef) (texts : List (List ℕ)) (rows : 
   pub words_fill_rows : length words ≡ rows * length columns
   pub rows_mean : MeanRows texts columns (cut_rows (length columns) rows words)
   pub row_means : MeansFront texts columns row
-  pub distinct_texts : IsDistinct bytes_eq texts
   pub exact_texts : texts ≡ with_texts [] (texts_in
       (map (row_of texts columns) (cut_rows (length columns) rows words) ++ row_of texts columns row ∷ []))

@@ -1,6 +1,7 @@
 // Rows on their way into a table: words in one flat vector, and the texts that they name in a dictionary of their own.
 // It relies on that dictionary, and never looks at a database.
 ghost use Rattle.std.specs.Prelude.{◌≡◌, ◌+◌, ◌*◌, ◌<◌, ◌≤◌, ◌^◌, [], ◌∷◌, ◌++◌, length, OnOk, OnErr, IfOk};
+ghost use Rattle.std.specs.Prelude.{vec_capacity};
 ghost use Rattle.sql_values.specs.declared.value.Value.TheVariants as value;
 ghost use Rattle.sql_values.specs.Limits.{max_columns};
 ghost use Rattle.db_catalog.specs.Batch.{FitsNext, with_value, with_row_ended};
@@ -41,6 +42,17 @@ impl Model for Batch {
         IsBatch b.columns.items b.texts b.rows b.words.items b.row.items (vec_capacity b.row) };
 }
 
+// Puts a word behind those of a row, for which there is room.
+fn push_within(row: &mut Vec<i64>, word: i64)
+    requires { length row.old.items < vec_capacity row.old }
+    ensures words { row.new.items ≡ row.old.items ++ word ∷ [] }
+    ensures room { vec_capacity row.new ≡ vec_capacity row.old }
+{
+    let Ok(()) = row.push(word) else {
+        unreachable!()
+    };
+}
+
 impl Batch {
     /// No rows yet, for a table of these columns.
     pub fn new(alloc: Global, columns: &[ColumnDef]) -> Result<Batch, AllocError>
@@ -72,9 +84,7 @@ impl Batch {
         requires { FitsNext self.old value.Null }
         ensures { self.new ≡ with_value self.old value.Null }
     {
-        let Ok(()) = self.row.push(NULL_WORD) else {
-            unreachable!()
-        };
+        push_within(&mut self.row, NULL_WORD);
     }
 
     /// A number, in the next column.
@@ -82,9 +92,7 @@ impl Batch {
         requires { FitsNext self.old (value.Int number) }
         ensures { self.new ≡ with_value self.old (value.Int number) }
     {
-        let Ok(()) = self.row.push(number) else {
-            unreachable!()
-        };
+        push_within(&mut self.row, number);
     }
 
     /// A text, in the next column. A refusal changes nothing.
@@ -94,9 +102,7 @@ impl Batch {
         ensures unchanged { OnErr result (self.new ≡ self.old) }
     {
         let code = self.texts.add(text)?;
-        let Ok(()) = self.row.push(code) else {
-            unreachable!()
-        };
+        push_within(&mut self.row, code);
         Ok(())
     }
 

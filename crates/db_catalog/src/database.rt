@@ -3,10 +3,10 @@
 ghost use Rattle.std.specs.Prelude.{◌≡◌, ◌+◌, ◌<◌, ◌≤◌, ◌^◌, [], length, map, All, OnOk, OnErr, IfOk};
 ghost use Rattle.std.specs.List.{IsDistinct};
 ghost use Rattle.std.specs.Str.{bytes_eq};
-ghost use Rattle.db_catalog.specs.Database as spec;
+ghost use Rattle.sql_values.specs.Limits.{max_tables, max_columns};
 ghost use Rattle.db_catalog.specs.Database.{with_table, with_rows, new_table, rows_in};
 ghost use Rattle.db_catalog.specs.Database.{table_at, table_number, FillRows, IsRowAt};
-ghost use Rattle.db_catalog.specs.Meter.{table_pages, HasSlot, IsRowIn};
+ghost use Rattle.db_catalog.specs.Meter.{table_pages, page_rows, HasSlot, IsRowIn};
 ghost use Rattle.work_ledger.specs.Account.{Pays};
 ghost use Rattle.work_ledger.specs.Charges.{page_charge, row_charge, fetch_charge};
 ghost use Rattle.db_catalog.specs.Refused.{Refuses, creation_fault, append_fault};
@@ -101,7 +101,9 @@ impl Database {
 
     /// How many tables there are.
     pub fn tables(&self) -> u32
-        ensures { result ≡ length self.now.tables }
+        ensures count { result ≡ length self.now.tables }
+        ensures limit { result ≤ max_tables }
+        ensures distinct { IsDistinct bytes_eq (map (λ table. table.name) self.now.tables) }
     {
         self.tables.len() as u32
     }
@@ -117,7 +119,9 @@ impl Database {
     /// A table's columns.
     pub fn columns(&self, table: u32) -> &[ColumnDef]
         requires { table < length self.now.tables }
-        ensures { result.now ≡ (table_at self.now table).columns }
+        ensures columns { result.now ≡ (table_at self.now table).columns }
+        ensures some { 1 ≤ length result.now }
+        ensures few { length result.now ≤ max_columns }
     {
         self.tables[table as usize].columns.as_slice()
     }
@@ -153,6 +157,15 @@ impl Database {
         ensures { IsRowAt self.now table i result.now }
     {
         self.tables[table as usize].heap.get(i)
+    }
+
+    // How many rows stand on page `no` of a table, from 0.
+    pub(crate) fn rows_on_page(&self, table: u32, no: u64) -> usize
+        requires there { table < length self.now.tables }
+        requires page { no < table_pages self.now table }
+        ensures { result ≡ page_rows self.now table no }
+    {
+        self.tables[table as usize].heap.rows_on_page(no)
     }
 
     // Opens page `no` of a table, from 0, which pays for it.
