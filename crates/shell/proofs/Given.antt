@@ -13,6 +13,7 @@ use Rattle.shell.specs.Serve.{IsGivenFor, statements_of_steps}
 use Rattle.shell.specs.Stop.{StopsAt}
 use Rattle.shell.specs.Due.{ReadsFile, ReturnsFree, LoadsFile}
 use Rattle.shell.specs.Script.{Step, SessionState, Outcome, Refuses, load_file, at_table, with_loaded}
+use Rattle.csv_load.specs.Load.{load_due}
 use Rattle.shell.specs.declared.stop.Stop.{Stop}
 use Rattle.shell.specs.declared.stop.Stop.TheVariants as stop
 use Rattle.shell.specs.declared.refusal.Refusal.TheVariants as refusal
@@ -112,7 +113,7 @@ loads_unread load old new state next number why there read =
 
 -- the file was read, and this came of it
 pub loads_bytes : (load : LoadDef) (old new : FolderState) (state next : SessionState) (number : ℕ) (bytes : Vec ℕ Global) (result : Result (Vec ℕ Global) Stop) → table_number state load.table ≡ Some number
-    → ReadsFile load.file old new (Ok bytes) → ReturnsFree (with_loaded state number (loaded_rows state number bytes.items)) result next → LoadsFile load old new state next result
+    → ReadsFile load.file old new (Ok bytes) → ReturnsFree (with_loaded state number (load_due state number bytes.items)) result next → LoadsFile load old new state next result
 loads_bytes load old new state next number bytes result there read returns =
     let within : nat_le (length bytes.items) max_file_bytes ≡ true = le-leb _ _ read.fits.1 in
     record { file = read.file; given = read.given; returns = rw (there, read.fits.0, within) returns }

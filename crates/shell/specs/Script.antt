@@ -13,7 +13,7 @@ use Rattle.db_catalog.specs.declared.fault.DbFault.{DbFault}
 use Rattle.db_catalog.specs.Database.{DatabaseState, new_table, table_at, table_number, with_table, with_rows}
 use Rattle.db_catalog.specs.Refused.{creation_fault}
 use Rattle.csv_load.specs.declared.fault.LoadFault.{LoadFault}
-use Rattle.csv_load.specs.Load.{loaded_rows}
+use Rattle.csv_load.specs.Load.{load_due}
 use Rattle.shell.specs.Printed.{answer_text, load_line, scan_work}
 use Rattle.shell.specs.Refusal.{line_of}
 use Rattle.shell.specs.declared.refusal.Later.TheVariants as later
@@ -54,7 +54,7 @@ with_loaded state number (Err fault) = Refuses (refusal.NotLoaded fault)
 abbrev pub load_file : SessionState → ℕ → List ℕ → Option (List ℕ) → Outcome
 load_file state number name None = Refuses (refusal.AbsentFile name)
 load_file state number name (Some bytes) =
-    if nat_le (length bytes) max_file_bytes then with_loaded state number (loaded_rows state number bytes)
+    if nat_le (length bytes) max_file_bytes then with_loaded state number (load_due state number bytes)
     else Refuses (refusal.PastLimit limit.File (length bytes))
 
 -- the table of a query for all columns of one table, under its own name and without a condition

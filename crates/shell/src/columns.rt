@@ -5,10 +5,7 @@ use sql_values::{ColumnDef, ColumnType, Text};
 use std::alloc::{AllocError, Global};
 
 /// What each column holds.
-pub(crate) fn kinds_of(
-    alloc: Global,
-    columns: &[ColumnDef],
-) -> Result<Vec<ColumnType>, AllocError>
+pub(crate) fn kinds_of(alloc: Global, columns: &[ColumnDef]) -> Result<Vec<ColumnType>, AllocError>
     ensures { IfOk result (λ kinds. kinds.items ≡ map (λ column. column.kind) columns.now) }
 {
     columns.iter().map(|column| column.kind).collect(alloc)

@@ -52,12 +52,7 @@ fn error_line(alloc: Global, kind: &str, about: &[u8]) -> Result<Vec<u8>, AllocE
 }
 
 // The same with a number behind a space at the end.
-fn number_line(
-    alloc: Global,
-    kind: &str,
-    about: &str,
-    number: u128,
-) -> Result<Vec<u8>, AllocError>
+fn number_line(alloc: Global, kind: &str, about: &str, number: u128) -> Result<Vec<u8>, AllocError>
     ensures { IfOk result (λ line. line.items
         ≡ error_line (kind.now ++ (about.now ++ (codes " " ++ decimal number)))) }
 {
@@ -167,7 +162,12 @@ fn not_loaded_line(alloc: Global, fault: &LoadFault) -> Result<Vec<u8>, AllocErr
 fn no_token_line(alloc: Global, fault: &LexFault) -> Result<Vec<u8>, AllocError>
     ensures { IfOk result (λ line. line.items ≡ no_token_line fault.now) }
 {
-    number_line(alloc, "E01 ", token_fault_word(fault.kind), fault.place as u128)
+    number_line(
+        alloc,
+        "E01 ",
+        token_fault_word(fault.kind),
+        fault.place as u128,
+    )
 }
 
 /// The line that a refusal puts.

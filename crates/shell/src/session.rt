@@ -5,7 +5,8 @@ ghost use Rattle.outside_io.specs.Files.{OnlyReads};
 ghost use Rattle.sql_parse.specs.Trees.{statement_tree, query_tree};
 ghost use Rattle.sql_parse.specs.WellFormed.{IsWellFormed};
 ghost use Rattle.shell.specs.Limits.{max_work};
-ghost use Rattle.shell.specs.Script.{Refuses, nothing_made, at_table, make_table, select_all, select_from, whole_table};
+ghost use Rattle.csv_load.specs.Load.{load_due};
+ghost use Rattle.shell.specs.Script.{Refuses, nothing_made, at_table, make_table, select_all, select_from, whole_table, with_loaded};
 ghost use Rattle.shell.specs.Stop.{StopsAt};
 ghost use Rattle.shell.specs.Due.{ReadsFile, ReturnsDue, ReturnsFree, LoadsFile, IsCarriedOut};
 
@@ -142,7 +143,7 @@ impl Session {
     fn load_bytes(&mut self, alloc: Global, table: u32, bytes: &[u8]) -> Result<Vec<u8>, Stop>
         requires there { table < length self.old.tables }
         ensures loaded { ReturnsFree
-            (with_loaded self.old table (loaded_rows self.old table bytes.now)) result self.new }
+            (with_loaded self.old table (load_due self.old table bytes.now)) result self.new }
         ensures no_fault { IsErrOf result Stop.ReadFault → ⊥ }
         ensures unchanged { OnErr result (self.new ≡ self.old) }
     {
@@ -177,12 +178,7 @@ impl Session {
     }
 
     // Answers a query of all columns of the table of this name.
-    fn select_table(
-        &self,
-        alloc: Global,
-        name: &Name,
-        book: &mut Book,
-    ) -> Result<Vec<u8>, Stop>
+    fn select_table(&self, alloc: Global, name: &Name, book: &mut Book) -> Result<Vec<u8>, Stop>
         requires room { book.old + max_work ≤ 2 ^ 126 }
         ensures due { ReturnsDue (at_table self.now name.now (select_all self.now))
             result self.now book.old book.new }
