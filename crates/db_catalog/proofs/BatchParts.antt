@@ -28,12 +28,12 @@ pub map-row_of-Begins : (texts new : List (List ℕ)) (columns : List ColumnDef)
 map-row_of-Begins texts new columns [] begins h = refl
 map-row_of-Begins texts new columns (words ∷ rows) begins h =
     (λ i. row_of-Begins texts new begins columns words (All-head (AreWords texts columns) words rows h) i
-      ∷ map-row_of-Begins texts new columns rows begins (All-tail (AreWords texts columns) words rows h) i)
+    ∷ map-row_of-Begins texts new columns rows begins (All-tail (AreWords texts columns) words rows h) i)
 
 pub MeanRows-Begins : (texts new : List (List ℕ)) (columns : List ColumnDef) (rows : List (List ℤ)) → Begins texts new → MeanRows texts columns rows → MeanRows new columns rows
 MeanRows-Begins texts new columns rows begins h = record {
   allowed = λ k d there. AreWords-Begins texts new begins columns _ (h.allowed k d there);
-  fit = λ k d there. subst (IsRowOf columns) (sym (row_of-Begins texts new begins columns _ (h.allowed k d there))) (h.fit k d there)
+  fit = λ k d there. subst (IsRowOf columns) (sym (row_of-Begins texts new begins columns _ (h.allowed k d there))) (h.fit k d there);
 }
 
 -- the texts of rows, of which the last has one more value
@@ -71,11 +71,11 @@ one_more columns texts new rows words row room v word old begins new_is column n
         rows_mean = MeanRows-Begins texts new columns _ begins old.rows_mean;
         row_means = record { short = short; allowed = AreWords-append new column word columns row next front_allowed allowed; fit = fit };
         exact_texts =
-          new_is ∙ ap (λ t. with_texts t (filter_map text_in (v ∷ []))) old.exact_texts
-          ∙ sym (fold-append with_text [] (texts_in (rows_of texts columns rows words ++ row_of texts columns row ∷ [])) (filter_map text_in (v ∷ [])))
-          ∙ ap (with_texts []) (sym (texts_in-value (rows_of texts columns rows words) (row_of texts columns row) v))
-          ∙ ap (λ rs. with_texts [] (texts_in (rs ++ (row_of texts columns row ++ v ∷ []) ∷ []))) (sym rows_same)
-          ∙ ap (λ r. with_texts [] (texts_in (rows_of new columns rows words ++ r ∷ []))) (sym row_next);
+            new_is ∙ ap (λ t. with_texts t (filter_map text_in (v ∷ []))) old.exact_texts
+            ∙ sym (fold-append with_text [] (texts_in (rows_of texts columns rows words ++ row_of texts columns row ∷ [])) (filter_map text_in (v ∷ [])))
+            ∙ ap (with_texts []) (sym (texts_in-value (rows_of texts columns rows words) (row_of texts columns row) v))
+            ∙ ap (λ rs. with_texts [] (texts_in (rs ++ (row_of texts columns row ++ v ∷ []) ∷ []))) (sym rows_same)
+            ∙ ap (λ r. with_texts [] (texts_in (rows_of new columns rows words ++ r ∷ []))) (sym row_next);
       };
       same_rows = rows_same;
       next_row = row_next;
@@ -83,16 +83,22 @@ one_more columns texts new rows words row room v word old begins new_is column n
   where
     here : length row < length columns
     here = slice_get_within columns (length row) column next
+
     short : length (row ++ word ∷ []) ≤ length columns
     short = omega (arith, here, length-append row (word ∷ []))
+
     rows_same : rows_of new columns rows words ≡ rows_of texts columns rows words
     rows_same = map-row_of-Begins texts new columns _ begins old.rows_mean.allowed
+
     front_allowed : AreWords new (take (length row) columns) row
     front_allowed = AreWords-Begins texts new begins _ _ old.row_means.allowed
+
     front_same : row_of new columns row ≡ row_of texts columns row
     front_same = sym (row_of-take new columns row) ∙ row_of-Begins texts new begins (take (length row) columns) row old.row_means.allowed ∙ row_of-take texts columns row
+
     row_next : row_of new columns (row ++ word ∷ []) ≡ row_of texts columns row ++ v ∷ []
     row_next = row_of-append new column word columns row next ∙ (λ i. front_same i ++ means i ∷ [])
+
     fit : IsRowOf (take (length (row ++ word ∷ [])) columns) (row_of new columns (row ++ word ∷ []))
     fit =
         let long : length (row_of texts columns row) ≡ length row = length-row_of texts columns row old.row_means.short in
@@ -143,25 +149,41 @@ ended columns texts rows words row room old full = (
     };
     row_means = record { short = omega arith; allowed = tt; fit = subst (λ r. AllZip IsValueOf [] r) (sym (row_of-nil texts columns)) tt };
     exact_texts =
-      old.exact_texts ∙ ap (with_texts [])
-      (sym (texts_in-ended (rows_of texts columns rows words ++ row_of texts columns row ∷ []))
+        old.exact_texts ∙ ap (with_texts [])
+        (sym (texts_in-ended (rows_of texts columns rows words ++ row_of texts columns row ∷ []))
         ∙ (λ i. texts_in (sym rows_now i ++ sym (row_of-nil texts columns) i ∷ [])));
   },
-  λ i. record { columns = columns; rows = rows_now i; row = row_of-nil texts columns i }
+  λ i. record { columns = columns; rows = rows_now i; row = row_of-nil texts columns i },
 )
   where
     long : length row ≡ length columns
     long = omega (arith, full, length-row_of texts columns row old.row_means.short)
+
     all_columns : take (length row) columns ≡ columns
     all_columns = take_all (length row) columns (omega (arith, long))
+
     allowed : AreWords texts columns row
     allowed = subst (λ cs. AreWords texts cs row) all_columns old.row_means.allowed
+
     fit : IsRowOf columns (row_of texts columns row)
     fit = subst (λ cs. IsRowOf cs (row_of texts columns row)) all_columns old.row_means.fit
+
     cut : cut_rows (length columns) (rows + 1) (words ++ row) ≡ cut_rows (length columns) rows words ++ row ∷ []
     cut = cut_rows-append (length columns) rows words row old.words_fill_rows long
+
     rows_now : rows_of texts columns (rows + 1) (words ++ row) ≡ rows_of texts columns rows words ++ row_of texts columns row ∷ []
     rows_now = ap (map (row_of texts columns)) cut ∙ map-append (row_of texts columns) (cut_rows (length columns) rows words) (row ∷ [])
+
+-- room may grow
+pub more_room : (columns : List ColumnDef) (texts : List (List ℕ)) (rows : ℕ) (words row : List ℤ) (room room' : ℕ) → IsBatch columns texts rows words row room → room ≤ room' → IsBatch columns texts rows words row room'
+more_room columns texts rows words row room room' b more = record {
+  some_columns = b.some_columns;
+  room_for_row = omega (arith, b.room_for_row, more);
+  words_fill_rows = b.words_fill_rows;
+  rows_mean = b.rows_mean;
+  row_means = b.row_means;
+  exact_texts = b.exact_texts;
+}
 
 -- a batch without rows
 pub no_batch : (columns : List ColumnDef) (room : ℕ) → 1 ≤ length columns → length columns ≤ room → IsBatch columns [] 0 [] [] room
