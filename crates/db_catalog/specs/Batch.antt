@@ -22,3 +22,7 @@ with_value batch value = record batch { row = batch.row ++ value ∷ [] }
 -- the next row is one of the rows
 abbrev pub with_row_ended : BatchState → BatchState
 with_row_ended batch = record batch { rows = batch.rows ++ batch.row ∷ []; row = [] }
+
+-- a row more
+abbrev pub with_whole_row : BatchState → ValueRow → BatchState
+with_whole_row batch row = record batch { rows = batch.rows ++ row ∷ [] }

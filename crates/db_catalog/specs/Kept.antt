@@ -1,5 +1,5 @@
 -- How tables and batches are kept: as words, of which each means something.
-use Rattle.std.specs.Prelude.{◌≡◌, ℕ, ◌*◌, ◌≤◌, ℤ, List, [], ◌∷◌, ◌++◌, All, length, map, take}
+use Rattle.std.specs.Prelude.{◌≡◌, ℕ, ◌*◌, ◌≤◌, ℤ, List, [], ◌∷◌, ◌++◌, All, length, map, take, sum_by}
 use Rattle.std.specs.List.{IsDistinct}
 use Rattle.std.specs.Str.{bytes_eq}
 use Rattle.sql_values.specs.declared.column.ColumnDef.{ColumnDef}
@@ -13,6 +13,11 @@ use Rattle.db_catalog.specs.declared.table.Table.{Table}
 pub record MeanRows (texts : List (List ℕ)) (columns : List ColumnDef) (rows : List (List ℤ)) : Type 0 where
   pub allowed : All (AreWords texts columns) rows
   pub fit : All (λ words. IsRowOf columns (row_of texts columns words)) rows
+
+-- rows of other words mean the same by other texts
+pub record SameRows (columns : List ColumnDef) (texts new : List (List ℕ)) (rows rows' : List (List ℤ)) : Type 0 where
+  pub mean : MeanRows new columns rows'
+  pub same : map (row_of new columns) rows' ≡ map (row_of texts columns) rows
 
 -- words mean the front of such a row
 pub record MeansFront (texts : List (List ℕ)) (columns : List ColumnDef) (words : List ℤ) : Type 0 where
@@ -29,8 +34,14 @@ stored_table texts table = record {
   rows = map (row_of texts table.columns.items) table.heap.rows;
 }
 
--- a table's words, and the width of its heap
+-- how many words stand in tables
+abbrev pub kept_words : List Table → ℕ
+kept_words tables = sum_by (λ table. length table.heap.rows * length table.columns.items) tables
+
+-- a table's columns and words, and the width of its heap
 pub record IsKept (texts : List (List ℕ)) (table : Table) : Type 0 where
+  pub some_columns : 1 ≤ length table.columns.items
+  pub few_columns : length table.columns.items ≤ max_columns
   pub width : table.heap.columns ≡ length table.columns.items
   pub rows : MeanRows texts table.columns.items table.heap.rows
 
@@ -48,6 +59,5 @@ pub record IsBatch (columns : List ColumnDef) (texts : List (List ℕ)) (rows : 
   pub words_fill_rows : length words ≡ rows * length columns
   pub rows_mean : MeanRows texts columns (cut_rows (length columns) rows words)
   pub row_means : MeansFront texts columns row
-  pub distinct_texts : IsDistinct bytes_eq texts
   pub exact_texts : texts ≡ with_texts [] (texts_in
       (map (row_of texts columns) (cut_rows (length columns) rows words) ++ row_of texts columns row ∷ []))

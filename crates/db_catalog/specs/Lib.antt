@@ -3,3 +3,4 @@ pub mod Refused
 pub mod Batch
 pub mod Meter
 pub mod Kept
+pub mod Recoded

@@ -1,7 +1,7 @@
 -- What is seen of a metered database.
 use Rattle.std.specs.Prelude.{◌≡◌, ℕ, ◌<◌, length, List, ℤ, Result}
 use Rattle.work_ledger.specs.Account.{Account, Pays}
-use Rattle.heap_pages.specs.Rows.{pages_of, rows_per_page, row_number}
+use Rattle.heap_pages.specs.Rows.{pages_of, rows_per_page, rows_on_page, row_number}
 use Rattle.db_catalog.specs.Database.{DatabaseState, table_at, IsRowAt}
 
 -- the database, and the account of what its reads cost
@@ -13,6 +13,12 @@ pub record MeterState : Type 0 where
 abbrev pub table_pages : DatabaseState → ℕ → ℕ
 table_pages database number =
     let table = table_at database number in pages_of (length table.columns) (length table.rows)
+
+-- how many rows stand on a page of a table
+abbrev pub page_rows : DatabaseState → ℕ → ℕ → ℕ
+page_rows database number page =
+    let table = table_at database number in
+    rows_on_page (length table.columns) (length table.rows) page
 
 -- the page has such a slot, and a row stands in it
 pub record HasSlot (database : DatabaseState) (number page slot : ℕ) : Type 0 where

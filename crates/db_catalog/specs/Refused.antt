@@ -32,12 +32,15 @@ length_fault Integer = None
 length_fault (Varchar n) =
     if nat_le min_length n && nat_le n max_length then None else Some (Limit limit.Length n)
 
--- the columns from left to right: the name of each, among those before it, then its length
+-- a column: its name, among those before it, then its length
+abbrev pub column_fault : List (List ℕ) → ColumnDef → Option DbFault
+column_fault before column = option_or (taken before column.name) (length_fault column.kind)
+
+-- columns from left to right
 abbrev pub columns_fault : List (List ℕ) → List ColumnDef → Option DbFault
 columns_fault before [] = None
 columns_fault before (column ∷ columns) =
-    option_or (taken before column.name)
-    (option_or (length_fault column.kind) (columns_fault (before ++ column.name ∷ []) columns))
+    option_or (column_fault before column) (columns_fault (before ++ column.name ∷ []) columns)
 
 -- a new table: how many tables there are, its name, how many columns it has, the columns
 abbrev pub creation_fault : DatabaseState → List ℕ → List ColumnDef → Option DbFault
@@ -50,13 +53,21 @@ creation_fault database name columns =
 abbrev pub words_in : List StoredTable → ℕ
 words_in tables = sum_by (λ table. length table.rows * length table.columns) tables
 
--- more rows: the table's rows, the words of all tables, the different texts and their bytes, each as it would be then
+-- a dictionary: how many texts there are, then how many bytes
+abbrev pub texts_fault : List (List ℕ) → Option DbFault
+texts_fault texts =
+    option_or (past limit.Texts max_texts (length texts))
+    (past limit.TextBytes max_text_bytes (sum_by length texts))
+
+-- so many rows more: the table's rows, then the words of all tables, each as it would be then
+abbrev pub room_fault : DatabaseState → ℕ → ℕ → Option DbFault
+room_fault database number rows =
+    let table = table_at database number in
+    option_or (past limit.Rows max_rows (length table.rows + rows))
+    (past limit.Words max_words (words_in database.tables + rows * length table.columns))
+
+-- more rows: room for them, then the dictionary that there would be
 abbrev pub append_fault : DatabaseState → ℕ → List ValueRow → Option DbFault
 append_fault database number rows =
-    let table = table_at database number in
-    let texts = with_texts database.texts (texts_in rows) in
-    option_or (past limit.Rows max_rows (length table.rows + length rows))
-    (option_or
-    (past limit.Words max_words (words_in database.tables + length rows * length table.columns))
-    (option_or (past limit.Texts max_texts (length texts))
-    (past limit.TextBytes max_text_bytes (sum_by length texts))))
+    option_or (room_fault database number (length rows))
+    (texts_fault (with_texts database.texts (texts_in rows)))

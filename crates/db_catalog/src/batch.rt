@@ -1,12 +1,15 @@
 // Rows on their way into a table: words in one flat vector, and the texts that they name in a dictionary of their own.
 // It relies on that dictionary, and never looks at a database.
 ghost use Rattle.std.specs.Prelude.{◌≡◌, ◌+◌, ◌*◌, ◌<◌, ◌≤◌, ◌^◌, [], ◌∷◌, ◌++◌, length, OnOk, OnErr, IfOk};
+ghost use Rattle.std.specs.Prelude.{vec_capacity};
 ghost use Rattle.sql_values.specs.declared.value.Value.TheVariants as value;
-ghost use Rattle.sql_values.specs.Limits.{max_columns};
+ghost use Rattle.sql_values.specs.Stored.{IsRowOf};
+ghost use Rattle.db_catalog.specs.Database.{FillRows, rows_in};
 ghost use Rattle.db_catalog.specs.Batch.{FitsNext, with_value, with_row_ended};
+ghost use Rattle.db_catalog.specs.Batch.{with_whole_row};
 
 use crate::columns::copy_of;
-use sql_values::{ColumnDef, NULL_WORD, Texts};
+use sql_values::{ColumnDef, NULL_WORD, Texts, Value};
 use std::alloc::{AllocError, Global};
 use std::marker::Model;
 
@@ -14,11 +17,11 @@ use std::marker::Model;
 /// batch hasn't had yet.
 #[derive(Drop)]
 pub struct Batch {
-    columns: Vec<ColumnDef>,
-    texts: Texts,
-    words: Vec<i64>,
-    rows: u64,
-    row: Vec<i64>,
+    pub(crate) columns: Vec<ColumnDef>,
+    pub(crate) texts: Texts,
+    pub(crate) words: Vec<i64>,
+    pub(crate) rows: u64,
+    pub(crate) row: Vec<i64>,
 }
 
 impl Model for Batch {
@@ -39,6 +42,17 @@ impl Model for Batch {
 
     ghost invariant = { λ b.
         IsBatch b.columns.items b.texts b.rows b.words.items b.row.items (vec_capacity b.row) };
+}
+
+// Puts a word behind those of a row, for which there is room.
+fn push_within(row: &mut Vec<i64>, word: i64)
+    requires { length row.old.items < vec_capacity row.old }
+    ensures words { row.new.items ≡ row.old.items ++ word ∷ [] }
+    ensures room { vec_capacity row.old ≤ vec_capacity row.new }
+{
+    let Ok(()) = row.push(word) else {
+        unreachable!()
+    };
 }
 
 impl Batch {
@@ -72,9 +86,7 @@ impl Batch {
         requires { FitsNext self.old value.Null }
         ensures { self.new ≡ with_value self.old value.Null }
     {
-        let Ok(()) = self.row.push(NULL_WORD) else {
-            unreachable!()
-        };
+        push_within(&mut self.row, NULL_WORD);
     }
 
     /// A number, in the next column.
@@ -82,9 +94,7 @@ impl Batch {
         requires { FitsNext self.old (value.Int number) }
         ensures { self.new ≡ with_value self.old (value.Int number) }
     {
-        let Ok(()) = self.row.push(number) else {
-            unreachable!()
-        };
+        push_within(&mut self.row, number);
     }
 
     /// A text, in the next column. A refusal changes nothing.
@@ -94,9 +104,7 @@ impl Batch {
         ensures unchanged { OnErr result (self.new ≡ self.old) }
     {
         let code = self.texts.add(text)?;
-        let Ok(()) = self.row.push(code) else {
-            unreachable!()
-        };
+        push_within(&mut self.row, code);
         Ok(())
     }
 
@@ -110,5 +118,55 @@ impl Batch {
         self.row.clear();
         self.rows += 1;
         Ok(())
+    }
+
+    // The rows of a table whose values follow one another.
+    pub(crate) fn filled(
+        alloc: Global,
+        columns: &[ColumnDef],
+        values: &[Value],
+    ) -> Result<Batch, AllocError>
+        requires some { 1 ≤ length columns.now }
+        requires fill { FillRows columns.now values.now }
+        ensures columns { IfOk result (λ batch. batch.columns ≡ columns.now) }
+        ensures rows { IfOk result (λ batch. batch.rows ≡ rows_in columns.now values.now) }
+        ensures row { IfOk result (λ batch. batch.row ≡ []) }
+    {
+        let mut batch = Batch::new(alloc, columns)?;
+        let width = columns.len();
+        for i in 0..values.len() / width {
+            batch.put_row(&values[i * width..i * width + width])?;
+        }
+        Ok(batch)
+    }
+
+    // A whole row, of which nothing is there yet.
+    fn put_row(&mut self, row: &[Value]) -> Result<(), AllocError>
+        requires empty { self.old.row ≡ [] }
+        requires fits { IsRowOf self.old.columns row.now }
+        ensures { OnOk result (self.new ≡ with_whole_row self.old row.now) }
+    {
+        for value in row {
+            self.put(value)?;
+        }
+        self.end_row()
+    }
+
+    // A value, in the next column.
+    fn put(&mut self, value: &Value) -> Result<(), AllocError>
+        requires { FitsNext self.old value.now }
+        ensures { OnOk result (self.new ≡ with_value self.old value.now) }
+    {
+        match value {
+            Value::Null => {
+                self.put_null();
+                Ok(())
+            }
+            Value::Int(number) => {
+                self.put_int(*number);
+                Ok(())
+            }
+            Value::Text(text) => self.put_text(text.bytes()),
+        }
     }
 }

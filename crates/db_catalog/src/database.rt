@@ -1,21 +1,31 @@
 // The database: tables under their names, and the one dictionary of their texts. It relies on the heap for rows and on
 // the batch for their words, and never drops or changes a row.
-ghost use Rattle.std.specs.Prelude.{◌≡◌, ◌+◌, ◌<◌, ◌≤◌, ◌^◌, [], length, map, All, OnOk, OnErr, IfOk};
+ghost use Rattle.std.specs.Prelude.{◌≡◌, ◌+◌, ◌*◌, ◌<◌, ◌≤◌, ◌^◌, [], ◌∷◌, ◌++◌, length, map, All};
+ghost use Rattle.std.specs.Prelude.{OnOk, OnErr, IfOk, vec_capacity};
 ghost use Rattle.std.specs.List.{IsDistinct};
 ghost use Rattle.std.specs.Str.{bytes_eq};
-ghost use Rattle.db_catalog.specs.Database as spec;
+ghost use Rattle.sql_values.specs.Limits.{max_tables, max_columns};
 ghost use Rattle.db_catalog.specs.Database.{with_table, with_rows, new_table, rows_in};
 ghost use Rattle.db_catalog.specs.Database.{table_at, table_number, FillRows, IsRowAt};
-ghost use Rattle.db_catalog.specs.Meter.{table_pages, HasSlot, IsRowIn};
+ghost use Rattle.db_catalog.specs.Meter.{table_pages, page_rows, HasSlot, IsRowIn};
 ghost use Rattle.work_ledger.specs.Account.{Pays};
 ghost use Rattle.work_ledger.specs.Charges.{page_charge, row_charge, fetch_charge};
 ghost use Rattle.db_catalog.specs.Refused.{Refuses, creation_fault, append_fault};
+ghost use Rattle.db_catalog.specs.Refused.{room_fault, texts_fault};
+ghost use Rattle.db_catalog.specs.Kept.{MeanRows, SameRows, kept_words};
+ghost use Rattle.heap_pages.specs.Rows.{cut_rows};
+ghost use Rattle.sql_values.specs.Dictionary.{with_texts};
 
 use crate::batch::Batch;
+use crate::check::{check_columns, check_limit, duplicate};
 use crate::fault::DbFault;
+use crate::recode::recode;
 use crate::table::Table;
 use heap_pages::PageView;
-use sql_values::{ColumnDef, Texts, Value};
+use sql_values::{
+    ColumnDef, LimitName, MAX_COLUMNS, MAX_ROWS, MAX_TABLES, MAX_TEXT_BYTES, MAX_TEXTS, MAX_WORDS,
+    Texts, Value,
+};
 use std::alloc::Global;
 use std::marker::Model;
 use work_ledger::{Exhausted, Ledger};
@@ -44,6 +54,73 @@ impl Model for Database {
     ghost invariant = { λ d. AreKept d.names d.texts d.tables.items };
 }
 
+// Puts a table behind the others, where there is room for it.
+fn push_within(tables: &mut Vec<Table>, table: Table)
+    requires { length tables.old.items < vec_capacity tables.old }
+    ensures { tables.new.items ≡ tables.old.items ++ table ∷ [] }
+{
+    let Ok(()) = tables.push(table) else {
+        unreachable!()
+    };
+}
+
+// How many words stand in these tables.
+fn words_in(tables: &[Table]) -> u128
+    requires { All (λ table. length table.columns.items ≤ max_columns) tables.now }
+    ensures { result ≡ kept_words tables.now }
+{
+    let mut words = 0u128;
+    for table in tables {
+        words += u128::from(table.heap.rows()) * table.columns.len() as u128;
+    }
+    words
+}
+
+// Takes the texts of a batch into a dictionary, and gives its words the codes that these texts have there. A refusal changes
+// no text.
+fn settle(
+    texts: &mut Texts,
+    more: Texts,
+    words: &mut [i64],
+    columns: &[ColumnDef],
+    rows: u64,
+) -> Result<(), DbFault>
+    requires filled { length words.old ≡ rows * length columns.now }
+    requires mean { MeanRows more columns.now (cut_rows (length columns.now) rows words.old) }
+    ensures texts { OnOk result (texts.new ≡ with_texts texts.old more) }
+    ensures words { OnOk result (SameRows columns.now more texts.new
+        (cut_rows (length columns.now) rows words.old)
+        (cut_rows (length columns.now) rows words.new)) }
+    ensures unchanged { OnErr result (texts.new ≡ texts.old) }
+    ensures refuses { Refuses (texts_fault (with_texts texts.old more)) result }
+{
+    let before = texts.len();
+    if before == 0 {
+        check_texts(&more)?;
+        *texts = more;
+        return Ok(());
+    }
+    let codes = texts.merge(more)?;
+    if let Err(fault) = check_texts(texts) {
+        texts.cut(before);
+        return Err(fault);
+    }
+    recode(words, columns, &codes, rows as usize);
+    Ok(())
+}
+
+// Refuses a dictionary past a limit.
+fn check_texts(texts: &Texts) -> Result<(), DbFault>
+    ensures { Refuses (texts_fault texts.now) result }
+{
+    check_limit(LimitName::Texts, MAX_TEXTS, texts.len() as u128)?;
+    check_limit(
+        LimitName::TextBytes,
+        MAX_TEXT_BYTES,
+        u128::from(texts.bytes()),
+    )
+}
+
 impl Database {
     /// A database without tables.
     pub fn new(alloc: Global) -> Database
@@ -69,7 +146,30 @@ impl Database {
         ensures unchanged { OnErr result (self.new ≡ self.old) }
         ensures refuses { Refuses (creation_fault self.old name.now columns.now) result }
     {
-        Err(DbFault::NoMemory)
+        self.check_creation(name, columns)?;
+        let number = self.tables.len() as u32;
+        let table = Table::new(self.alloc, name, columns)?;
+        self.tables.reserve(1)?;
+        self.names.add(name)?;
+        push_within(&mut self.tables, table);
+        Ok(number)
+    }
+
+    // The checks of `create_table`.
+    fn check_creation(&self, name: &[u8], columns: &[ColumnDef]) -> Result<(), DbFault>
+        ensures { Refuses (creation_fault self.now name.now columns.now) result }
+    {
+        let tables = self.names.len() as u128 + 1;
+        check_limit(LimitName::Tables, MAX_TABLES as u64, tables)?;
+        if self.names.code_of(name).is_some() {
+            return Err(duplicate(self.alloc, name));
+        }
+        check_limit(
+            LimitName::Columns,
+            MAX_COLUMNS as u64,
+            columns.len() as u128,
+        )?;
+        check_columns(self.alloc, columns)
     }
 
     /// Appends rows, whose values follow one another, to a table. The checks, in order, each of the number that there would
@@ -83,7 +183,8 @@ impl Database {
         ensures refuses { Refuses (append_fault self.old table
             (rows_in (table_at self.old table).columns rows.now)) result }
     {
-        Err(DbFault::NoMemory)
+        let batch = Batch::filled(self.alloc, self.columns(table), rows)?;
+        self.append_batch(table, batch)
     }
 
     /// Appends the rows of a batch to a table. The checks are those of `append_rows`. No word is copied where the table has
@@ -96,14 +197,47 @@ impl Database {
         ensures unchanged { OnErr result (self.new ≡ self.old) }
         ensures refuses { Refuses (append_fault self.old table batch.rows) result }
     {
-        Err(DbFault::NoMemory)
+        self.check_room(table, batch.rows)?;
+        let Batch {
+            columns,
+            texts,
+            mut words,
+            rows,
+            row: _,
+        } = batch;
+        let before = self.texts.len();
+        settle(&mut self.texts, texts, &mut words, &columns, rows)?;
+        let appended = self.tables[table as usize].heap.append_rows(words, rows);
+        if appended.is_err() {
+            self.texts.cut(before);
+            return Err(DbFault::NoMemory);
+        }
+        Ok(())
+    }
+
+    // The checks of an append that need no text.
+    fn check_room(&self, table: u32, rows: u64) -> Result<(), DbFault>
+        requires { table < length self.now.tables }
+        ensures { Refuses (room_fault self.now table rows) result }
+    {
+        let present = self.tables[table as usize].heap.rows();
+        check_limit(
+            LimitName::Rows,
+            MAX_ROWS,
+            u128::from(present) + u128::from(rows),
+        )?;
+        let width = self.tables[table as usize].columns.len();
+        let more = u128::from(rows) * width as u128;
+        check_limit(LimitName::Words, MAX_WORDS, words_in(&self.tables) + more)
     }
 
     /// How many tables there are.
     pub fn tables(&self) -> u32
-        ensures { result ≡ length self.now.tables }
+        ensures count { result ≡ length self.now.tables }
+        ensures limit { result ≤ max_tables }
+        ensures distinct { IsDistinct bytes_eq (map (λ table. table.name) self.now.tables) }
     {
-        self.tables.len() as u32
+        self.names.len() as u32
     }
 
     /// The number of the table of this name.
@@ -117,7 +251,9 @@ impl Database {
     /// A table's columns.
     pub fn columns(&self, table: u32) -> &[ColumnDef]
         requires { table < length self.now.tables }
-        ensures { result.now ≡ (table_at self.now table).columns }
+        ensures columns { result.now ≡ (table_at self.now table).columns }
+        ensures some { 1 ≤ length result.now }
+        ensures few { length result.now ≤ max_columns }
     {
         self.tables[table as usize].columns.as_slice()
     }
@@ -143,6 +279,7 @@ impl Database {
         requires { table < length self.now.tables }
         ensures { result.now ≡ (table_at self.now table).indexed }
     {
+        prove!((table as usize) < self.tables.len());
         &[]
     }
 
@@ -153,6 +290,15 @@ impl Database {
         ensures { IsRowAt self.now table i result.now }
     {
         self.tables[table as usize].heap.get(i)
+    }
+
+    // How many rows stand on page `no` of a table, from 0.
+    pub(crate) fn rows_on_page(&self, table: u32, no: u64) -> usize
+        requires there { table < length self.now.tables }
+        requires page { no < table_pages self.now table }
+        ensures { result ≡ page_rows self.now table no }
+    {
+        self.tables[table as usize].heap.rows_on_page(no)
     }
 
     // Opens page `no` of a table, from 0, which pays for it.

@@ -6,13 +6,18 @@
 #![tactic(auto)]
 
 mod batch;
+mod check;
 mod columns;
 mod database;
 mod fault;
 mod metered;
+mod recode;
 mod table;
 
 pub use batch::Batch;
 pub use database::Database;
 pub use fault::DbFault;
 pub use metered::Metered;
+
+#[cfg(test)]
+mod tests;

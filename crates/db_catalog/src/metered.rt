@@ -4,7 +4,7 @@ ghost use Rattle.std.specs.Prelude.{◌≡◌, ◌+◌, ◌<◌, ◌≤◌, ◌^
 ghost use Rattle.work_ledger.specs.Account.{IsInBounds};
 ghost use Rattle.work_ledger.specs.Charges.{page_charge, row_charge, fetch_charge};
 ghost use Rattle.db_catalog.specs.Database.{table_at, IsRowAt};
-ghost use Rattle.db_catalog.specs.Meter.{Reads, HasSlot, table_pages, IsRowIn};
+ghost use Rattle.db_catalog.specs.Meter.{Reads, HasSlot, table_pages, page_rows, IsRowIn};
 
 use crate::database::Database;
 use heap_pages::PageView;
@@ -89,6 +89,15 @@ impl<'d> Metered<'d> {
         ensures { result ≡ table_pages self.now.database table }
     {
         self.database.pages(table)
+    }
+
+    /// How many rows stand on page `no` of a table, from 0.
+    pub fn rows_on_page(&self, table: u32, no: u64) -> usize
+        requires there { table < length self.now.database.tables }
+        requires page { no < table_pages self.now.database table }
+        ensures { result ≡ page_rows self.now.database table no }
+    {
+        self.database.rows_on_page(table, no)
     }
 
     /// The different texts that stand in the tables.

@@ -1,2 +1,3 @@
 pub mod Dictionary
 pub mod ValueOrder
+pub mod Stored
