@@ -84,11 +84,11 @@ length-names_of (c ∷ cs) = ap suc (length-names_of cs)
 agreeing-le : (names fields : List (List ℕ)) → agreeing names fields ≤ length names
 agreeing-le [] fields = omega arith
 agreeing-le (n ∷ ns) [] = omega arith
-agreeing-le (n ∷ ns) (f ∷ fs) = by (bytes_eq (str_to_ascii_uppercase f) n)
+agreeing-le (n ∷ ns) (f ∷ fs) = by (bytes_eq (str_to_ascii_uppercase f) n) (agreeing ns fs) (agreeing-le ns fs)
   where
-    by : (b : Bool) → (if b then suc (agreeing ns fs) else 0) ≤ suc (length ns)
-    by true = omega (arith, agreeing-le ns fs)
-    by false = omega arith
+    by : (b : Bool) (more : ℕ) → more ≤ length ns → (if b then suc more else 0) ≤ suc (length ns)
+    by true more few = omega arith
+    by false more few = omega arith
 
 pub agreeing-le_columns : (columns : List ColumnDef) (fields : List (List ℕ)) → agreeing (names_of columns) fields ≤ length columns
 agreeing-le_columns columns fields = omega (arith, agreeing-le (names_of columns) fields, length-names_of columns)

@@ -38,7 +38,7 @@ integer_ascii [] e = IsAscii-nil
 integer_ascii (c ∷ cs) e = by (c == 45) refl (c == 43) refl e
   where
     by : (minus : Bool) → (c == 45) ≡ minus → (plus : Bool) → (c == 43) ≡ plus
-        → all_ascii_digits (cond minus cs (cond plus cs (c ∷ cs))) ≡ true → IsAscii (c ∷ cs)
+        → all_ascii_digits (cond minus cs (drop (cond plus 1 0) (c ∷ cs))) ≡ true → IsAscii (c ∷ cs)
     by true m plus p e = IsAscii-cons c cs (omega (arith, eqb-true c 45 m)) (digits_ascii cs e)
     by false m true p e = IsAscii-cons c cs (omega (arith, eqb-true c 43 p)) (digits_ascii cs e)
     by false m false p e = digits_ascii (c ∷ cs) e
@@ -71,17 +71,24 @@ text_fault-integer place text digits within =
     let inside : nat_lt greatest_integer (digits_value 10 (without_leading_sign text)) ≡ false = grind (arith, nat_tests) in
     rw (integer_utf8 text digits, digits, inside) refl
 
+signed : (text : List ℕ) (n : ℕ) (minus : Bool) → digits_value 10 (without_leading_sign text) ≡ n → starts_with_minus text ≡ minus
+    → signed_digits_value 10 text ≡ (cond minus (neg_ℤ (pos n)) (pos n))
+signed text n minus e sign = by (starts_with_minus text) (digits_value 10 (without_leading_sign text)) sign e
+  where
+    by : (m : Bool) (v : ℕ) → m ≡ minus → v ≡ n → (cond m (neg_ℤ (pos v)) (pos v)) ≡ (cond minus (neg_ℤ (pos n)) (pos n))
+    by m v s e = rw (s, e) refl
+
 pub positive : (text : List ℕ) (n : ℕ) → digits_value 10 (without_leading_sign text) ≡ n → n ≤ greatest_integer → starts_with_minus text ≡ false
     → to_z w64 n ≡ signed_digits_value 10 text
 positive text n e small sign =
     let number : to_z w64 n ≡ pos n = omega (arith, ints) in
-    rw (sign, e, number) refl
+    number ∙ sym (signed text n false e sign)
 
 pub negative : (text : List ℕ) (n : ℕ) → digits_value 10 (without_leading_sign text) ≡ n → n ≤ greatest_integer → starts_with_minus text ≡ true
     → to_z w64 (of_z w64 (pos 0 -ℤ to_z w64 n)) ≡ signed_digits_value 10 text
 negative text n e small sign =
     let number : to_z w64 (of_z w64 (pos 0 -ℤ to_z w64 n)) ≡ neg_ℤ (pos n) = omega (arith, ints) in
-    rw (sign, e, number) refl
+    number ∙ sym (signed text n true e sign)
 
 pub positive-not_null : (n : ℕ) → n ≤ greatest_integer → to_z w64 n ≢ null_word
 positive-not_null n small = λ e. omega (arith, ints)

@@ -23,17 +23,17 @@ abbrev pub first_fault : {A : Type 0} → (A → Option LoadFault) → List A �
 first_fault fault items = slice_get (filter_map fault items) 0
 
 -- what is wrong with the fields of entry n, which is one for each column; they are numbered from 1
-abbrev pub fields_fault : List ColumnDef → ℕ → Entry → Option LoadFault
+unfoldable pub fields_fault : List ColumnDef → ℕ → Entry → Option LoadFault
 fields_fault columns n fields =
     first_fault (λ f. field_fault (record { entry = n; field = f.0 }) f.1.0 f.1.1) (enumerate_from 1 (zip columns fields))
 
 -- what is wrong with entry n: how many fields it has, or one of them
-abbrev pub entry_fault : List ColumnDef → ℕ → Entry → Option LoadFault
+unfoldable pub entry_fault : List ColumnDef → ℕ → Entry → Option LoadFault
 entry_fault columns n fields =
     if length fields == length columns then fields_fault columns n fields else Some (FieldCount n (length fields) (length columns))
 
 -- what is wrong with the entries below a header, which are numbered from 1
-abbrev pub entries_fault : List ColumnDef → List Entry → Option LoadFault
+unfoldable pub entries_fault : List ColumnDef → List Entry → Option LoadFault
 entries_fault columns entries = first_fault (λ e. entry_fault columns e.0 e.1) (enumerate_from 1 entries)
 
 -- what is wrong with a file: its header, which is its first entry, or one of the others
@@ -42,7 +42,7 @@ file_fault columns [] = Some (Header 1)
 file_fault columns (header ∷ entries) = option_or (header_fault columns header) (entries_fault columns entries)
 
 -- the row of an entry
-abbrev pub entry_row : List ColumnDef → Entry → ValueRow
+unfoldable pub entry_row : List ColumnDef → Entry → ValueRow
 entry_row columns fields = map (λ f. field_value f.0 f.1) (zip columns fields)
 
 -- the rows of a file: those of the entries below its header
