@@ -3,3 +3,4 @@ pub mod Ascending
 pub mod RowsInOrder
 pub mod SortKeys
 pub mod TextWriter
+pub mod Values

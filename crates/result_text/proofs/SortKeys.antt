@@ -1,5 +1,5 @@
 -- Rows compare as their first words do, unless these tie.
-use Rattle.std.proofs.Common.{◌≡◌, [], ◌∷◌, refl, sym, ap, ◌∙◌, arith}
+use Rattle.std.proofs.Common.{◌≡◌, ℕ, zero, suc, ◌<◌, [], ◌∷◌, take, refl, sym, ap, ◌∙◌, arith}
 use Rattle.std.proofs.lemmas.Int.{ints}
 use Rattle.std.specs.Prelude.{ℤ, ◌≤ℤ◌, ◌<ℤ◌, pos}
 use Rattle.std.specs.Cmp.{int_ranks, int_cmp_is, int_cmp_total}
@@ -81,3 +81,18 @@ key_decides {k} {l} {xs} {ys} p q differs =
     let same : int_cmp k l ≡ int_cmp (key_of (word_at 0 xs) (word_at 1 xs)) (key_of (word_at 0 ys) (word_at 1 ys)) = λ i. int_cmp (p.is i) (q.is i) in
     let ranks = same ∙ keys_rank (word_at 0 xs) (word_at 1 xs) (word_at 0 ys) (word_at 1 ys) p.low_second p.high_second q.low_second q.high_second in
     ranks ∙ words_decide xs ys p.low_first q.low_first p.low_second q.low_second (int_cmp (word_at 0 xs) (word_at 0 ys)) refl (λ tie. differs (ranks ∙ tie))
+
+word_at-take : (place count : ℕ) (row : WordRow) → place < count → word_at place (take count row) ≡ word_at place row
+word_at-take place zero row below = absurd (omega arith)
+word_at-take place (suc count) [] below = refl
+word_at-take zero (suc count) (word ∷ row) below = refl
+word_at-take (suc place) (suc count) (word ∷ row) below = word_at-take place count row (omega arith)
+
+-- rows that begin with the same two words have the same key
+pub key_same : {k l : ℤ} {xs ys : WordRow} → IsSortKey k xs → IsSortKey l ys → (count : ℕ) → 1 < count → take count xs ≡ take count ys → k ≡ l
+key_same {k} {l} {xs} {ys} p q count two same =
+    let at : (place : ℕ) → place < count → word_at place xs ≡ word_at place ys = λ place below.
+    sym (word_at-take place count xs below) ∙ ap (word_at place) same ∙ word_at-take place count ys below in
+    let first : word_at 0 xs ≡ word_at 0 ys = at 0 (omega arith) in
+    let second : word_at 1 xs ≡ word_at 1 ys = at 1 two in
+    p.is ∙ (λ i. key_of (first i) (second i)) ∙ sym q.is

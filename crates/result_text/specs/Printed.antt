@@ -5,6 +5,8 @@ use Rattle.csv.specs.Writing.{row_text, default_writer}
 use Rattle.sql_values.specs.declared.value.Value.{Value}
 use Rattle.sql_values.specs.declared.value.Value.TheVariants as value
 use Rattle.sql_values.specs.Stored.{ValueRow}
+use Rattle.sql_values.specs.declared.column.ColumnType.{ColumnType}
+use Rattle.result_text.specs.Rows.{WordRow, values_of}
 use Rattle.result_text.specs.Order.{in_order}
 
 -- the field of a value: NULL is empty, a number is decimal, a text is its bytes
@@ -16,6 +18,10 @@ field_of (value.Text text) = text
 -- the record of a row
 abbrev pub record_of : ValueRow → List ℕ
 record_of row = row_text default_writer (map field_of row)
+
+-- the records of rows of words as they stand
+abbrev pub records_of : List (List ℕ) → List ColumnType → List WordRow → List ℕ
+records_of texts kinds rows = flat_map (λ row. record_of (values_of texts kinds row)) rows
 
 -- the names of the columns as a record, and the records of the rows in order
 abbrev pub table_text : List (List ℕ) → List ValueRow → List ℕ

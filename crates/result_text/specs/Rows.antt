@@ -1,8 +1,8 @@
 -- Rows of words, and the values for which they stand.
-use Rattle.std.specs.Prelude.{ℤ, ℕ, List, [], ◌∷◌, flat_map}
+use Rattle.std.specs.Prelude.{ℤ, ℕ, ◌≤ℤ◌, List, [], ◌∷◌, All, flat_map}
 use Rattle.std.specs.List.{AllZip}
 use Rattle.sql_values.specs.declared.column.ColumnType.{ColumnType}
-use Rattle.sql_values.specs.Words.{value_of, IsWord}
+use Rattle.sql_values.specs.Words.{null_word, value_of, IsWord}
 use Rattle.sql_values.specs.Stored.{ValueRow}
 
 -- a row of words has a word in each column
@@ -22,3 +22,7 @@ AreWordsOf texts kinds words = AllZip (IsWord texts) kinds words
 -- the words of rows, one row after the other
 abbrev pub words_of : List WordRow → List ℤ
 words_of rows = flat_map (λ row. row) rows
+
+-- no word is less than that of NULL
+abbrev pub AreNumbers : WordRow → Type 0
+AreNumbers words = All (λ word. null_word ≤ℤ word) words

@@ -4,8 +4,12 @@
 //! It never copies a row that the order of its numbers decides, nor compares two texts where their places will do.
 #![tactic(auto)]
 
+mod decide;
+mod print;
 mod row;
+mod sort;
 mod table;
+mod texts;
 
 pub use row::LentRow;
 pub use table::{rows_in_order, table_text};
