@@ -1,1 +1,3 @@
 pub mod BatchParts
+pub mod Tables
+pub mod Cut
