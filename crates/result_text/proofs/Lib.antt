@@ -4,3 +4,4 @@ pub mod RowsInOrder
 pub mod SortKeys
 pub mod TextWriter
 pub mod Values
+pub mod Ranks

@@ -3,3 +3,4 @@ pub mod Order
 pub mod Printed
 pub mod SortKey
 pub mod TextWriter
+pub mod Ranks

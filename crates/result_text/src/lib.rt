@@ -5,11 +5,16 @@
 #![tactic(auto)]
 
 mod decide;
+mod places;
 mod print;
 mod row;
+mod short_text;
 mod sort;
 mod table;
 mod texts;
 
 pub use row::LentRow;
 pub use table::{rows_in_order, table_text};
+
+#[cfg(test)]
+mod tests;

@@ -1,6 +1,7 @@
 // A row of a table, lent.
 ghost use Rattle.std.specs.Prelude.{◌≡◌};
 
+use std::alloc::{AllocError, Global};
 use std::marker::Model;
 
 /// A row that is lent by its table, seen as its words, one a column.
@@ -31,4 +32,20 @@ impl<'a> LentRow<'a> {
     {
         self.words
     }
+}
+
+/// Lends the rows of these words, which stand one row after the other, each as long as the row at its place in `like`.
+pub(crate) fn lend<'a>(
+    alloc: Global,
+    like: &[LentRow<'_>],
+    words: &'a [i64],
+) -> Result<Vec<LentRow<'a>>, AllocError> {
+    let mut lent = Vec::with_capacity(alloc, like.len())?;
+    let mut left = words;
+    for row in like {
+        let (first, rest) = left.split_at(row.words().len());
+        lent.push(LentRow::new(first))?;
+        left = rest;
+    }
+    Ok(lent)
 }
