@@ -1,5 +1,5 @@
 -- How far a scan has come.
-use Rattle.std.specs.Prelude.{◌≡◌, ℕ, ℤ, ◌+◌, ◌*◌, All, List, length, map, take}
+use Rattle.std.specs.Prelude.{◌≡◌, ℕ, ℤ, ◌+◌, ◌*◌, All, List, length, map, min, take}
 use Rattle.work_ledger.specs.Charges.{page_charge, row_charge, emit_charge}
 use Rattle.heap_pages.specs.Rows.{row_number, rows_on_page}
 use Rattle.sql_values.specs.Stored.{StoredTable, AreWords, row_of}
@@ -16,6 +16,10 @@ pub record AreRows (database : DatabaseState) (number count : ℕ) (words : List
 abbrev pub AreRowsBefore : DatabaseState → ℕ → ℕ → ℕ → List (List ℤ) → Type 0
 AreRowsBefore database number page slot words =
     AreRows database number (row_number (length (table_at database number).columns) page slot) words
+
+-- how many rows stand on the pages before this one
+abbrev pub rows_before : StoredTable → ℕ → ℕ
+rows_before table page = min (row_number (length table.columns) page 0) (length table.rows)
 
 -- the work of this page and of the rows on it
 abbrev pub page_work : StoredTable → ℕ → ℕ

@@ -1,7 +1,8 @@
 // Answers a query of a whole table: its budget is granted, its rows are scanned, sorted and printed, and its work is
 // reported. It relies on the meter for what it paid, and never prints a work that wasn't spent.
-ghost use Rattle.std.specs.Prelude.{◌≡◌, ◌<◌, length, IfOk, OnOk};
+ghost use Rattle.std.specs.Prelude.{◌≡◌, ◌<◌, ◌≤◌, length, IfOk, OnOk};
 ghost use Rattle.db_catalog.specs.Database.{table_at};
+ghost use Rattle.shell.specs.Limits.{max_work};
 ghost use Rattle.shell.specs.Printed.{answer_text, scan_work};
 
 use crate::columns::{kinds_of, names_of};
@@ -29,13 +30,15 @@ pub(crate) fn answer(
         (scan_work (table_at database.now table))) }
     ensures paid { OnOk result
         (meter.new.account.spent ≡ scan_work (table_at database.now table)) }
+    ensures within { OnOk result (meter.new.account.spent ≤ max_work) }
 {
+    let columns = database.columns(table);
+    let count = meter.rows(table);
     meter.grant(MAX_WORK);
     let rows = scan(alloc, meter, table)?;
-    let columns = database.columns(table);
     let kinds = kinds_of(alloc, columns)?;
     let names = names_of(alloc, columns)?;
     let mut text = table_text(alloc, database.texts(), &kinds, &names, &rows)?;
-    lines::push_report(&mut text, meter.rows(table), meter.spent())?;
+    lines::push_report(&mut text, count, meter.spent())?;
     Ok(text)
 }

@@ -3,6 +3,7 @@
 ghost use Rattle.std.specs.Prelude.{◌≡◌, ◌+◌, ◌^◌, ◌<◌, ◌≤◌, length, IfOk, OnOk};
 ghost use Rattle.work_ledger.specs.Charges.{page_charge, row_charge, emit_charge};
 ghost use Rattle.heap_pages.specs.Rows.{rows_on_page};
+ghost use Rattle.sql_values.specs.Limits.{max_columns};
 ghost use Rattle.db_catalog.specs.Database.{table_at};
 ghost use Rattle.db_catalog.specs.Meter.{table_pages};
 ghost use Rattle.shell.specs.Printed.{scan_work};
@@ -21,6 +22,8 @@ pub(crate) fn scan<'d>(
     table: u32,
 ) -> Result<Vec<LentRow<'d>>, AllocError>
     requires there { table < length meter.old.database.tables }
+    requires some { 1 ≤ length (table_at meter.old.database table).columns }
+    requires few { length (table_at meter.old.database table).columns ≤ max_columns }
     requires granted { meter.old.account.spent + scan_work (table_at meter.old.database table)
         ≤ meter.old.account.limit }
     ensures rows { IfOk result (λ rows. AreRows meter.old.database table
