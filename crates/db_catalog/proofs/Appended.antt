@@ -136,23 +136,26 @@ pub batch_appended : (names texts more new : List (List ℕ)) (tables tables' : 
     columns ≡ (table_at (database_of texts tables) number).columns → new ≡ with_texts texts more → IsDistinct bytes_eq new →
     SameRows columns more new (cut_rows (length columns) rows words) (cut_rows (length columns) rows words') → AppendsWords number rows words' tables tables' →
     AreKept names new tables' × (database_of new tables' ≡ with_rows (database_of texts tables) number (rows_of more columns rows words))
-batch_appended names texts more new tables tables' number columns rows words words' row room kept there batch whole same_columns is_new distinct same appends =
-    (
-      subst (AreKept names new) (sym appends.tables) done.kept,
-      λ i. record { tables = (ap (map (stored_table new)) appends.tables ∙ done.seen) i; texts = (is_new ∙ batch_texts columns more rows words row room texts batch whole) i }
-    )
+batch_appended names texts more new tables tables' number columns rows words words' row room kept there batch whole same_columns is_new distinct same appends = (
+  subst (AreKept names new) (sym appends.tables) done.kept,
+  λ i. record { tables = (ap (map (stored_table new)) appends.tables ∙ done.seen) i; texts = (is_new ∙ batch_texts columns more rows words row room texts batch whole) i },
+)
   where
     columns_are : columns ≡ appends.table.columns.items
     columns_are = same_columns ∙ ap (λ t. t.columns) (table_at-database_of texts tables number appends.table there appends.there)
+
     width_is : appends.table.heap.columns ≡ length columns
     width_is = (kept_at names texts tables number appends.table kept there appends.there).width ∙ ap length (sym columns_are)
+
     mean : MeanRows new appends.table.columns.items (cut_rows appends.table.heap.columns rows words')
     mean = subst (λ cs. MeanRows new cs (cut_rows appends.table.heap.columns rows words')) columns_are (subst (λ w. MeanRows new columns (cut_rows w rows words')) (sym width_is) same.mean)
+
     valued : map (row_of new appends.table.columns.items) (cut_rows appends.table.heap.columns rows words') ≡ rows_of more columns rows words
     valued = (λ i. map (row_of new (sym columns_are i)) (cut_rows (width_is i) rows words')) ∙ same.same
+
     done : HasAppended names texts new tables number (record appends.table { heap = appends.heap }) (rows_of more columns rows words)
     done = appended names texts new tables number appends.table (record appends.table { heap = appends.heap }) (cut_rows appends.table.heap.columns rows words') (rows_of more columns rows words)
-      kept there appends.there (subst (Begins texts) (sym is_new) (Begins-with_texts texts texts more (Begins_itself texts))) distinct refl refl appends.columns appends.appended mean valued
+        kept there appends.there (subst (Begins texts) (sym is_new) (Begins-with_texts texts texts more (Begins_itself texts))) distinct refl refl appends.columns appends.appended mean valued
 
 -- a table without rows comes behind the others
 pub table_appended : (names texts : List (List ℕ)) (tables : List Table) (table : Table) (name : List ℕ) (columns : List ColumnDef) →
@@ -160,8 +163,8 @@ pub table_appended : (names texts : List (List ℕ)) (tables : List Table) (tabl
     table.name ≡ name → table.columns.items ≡ columns → table.heap.columns ≡ length columns → table.heap.rows ≡ [] → AreKept (with_text names name) texts (tables ++ table ∷ [])
 table_appended names texts tables table name columns kept new few some few_columns named has wide none = record {
   names_of_tables =
-    ap (λ b. if b then names else names ++ name ∷ []) new
-    ∙ (λ i. kept.names_of_tables i ++ sym named i ∷ []) ∙ sym (map-append (λ t. t.name) tables (table ∷ []));
+      ap (λ b. if b then names else names ++ name ∷ []) new
+      ∙ (λ i. kept.names_of_tables i ++ sym named i ∷ []) ∙ sym (map-append (λ t. t.name) tables (table ∷ []));
   few_tables = omega (arith, few, length-append tables (table ∷ []));
   each_kept = All-push (IsKept texts) tables table kept.each_kept (record {
     some_columns = omega (arith, some, ap length has);

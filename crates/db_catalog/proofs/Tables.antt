@@ -96,5 +96,5 @@ pub has_words : (names texts : List (List ℕ)) (tables : List Table) (number wo
 has_words names texts tables number words rows columns kept there same filled =
     let (table, (at, is)) = some_at tables number there in
     let width : length columns ≡ table.heap.columns =
-      ap length (same ∙ ap (λ t. t.columns) (table_at-database_of texts tables number table there is)) ∙ sym (kept_at names texts tables number table kept there is).width in
+    ap length (same ∙ ap (λ t. t.columns) (table_at-database_of texts tables number table there is)) ∙ sym (kept_at names texts tables number table kept there is).width in
     subst (λ o. IsSomeAnd o (λ t. words ≡ rows * t.heap.columns)) (sym at) (filled ∙ ap (λ n. rows * n) width)

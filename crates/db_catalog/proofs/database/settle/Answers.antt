@@ -18,7 +18,7 @@ returns-in_err-check_texts-clause-refuses c =
     let none : c.args.texts.now ≡ [] = nil_from_length c.args.texts.now (omega (arith, c.len-before.ensures.count, c.if-before-eq0.true)) in
     let same : with_texts c.args.texts.now c.args.more ≡ c.args.more = ap (λ t. with_texts t c.args.more) none ∙ with_texts-distinct c.args.more c.len-added.ensures.distinct in
     handed_on (texts_fault (with_texts c.args.texts.now c.args.more)) c.from_residual.result c.in_err-check_texts.field-0.0 c.from_residual.ensures.1
-      (subst (λ t. Refuses (texts_fault t) (Err c.in_err-check_texts.field-0.0)) (sym same) c.in_err-check_texts.ensures)
+    (subst (λ t. Refuses (texts_fault t) (Err c.in_err-check_texts.field-0.0)) (sym same) c.in_err-check_texts.ensures)
 
 pub returns-then-before-eq0-clause-texts : goal.returns-then-before-eq0-clause-texts
 returns-then-before-eq0-clause-texts c =
@@ -46,14 +46,14 @@ returns-clause-words c =
     let width = length c.args.columns.now in
     let rows = cut_rows width c.args.rows c.args.words.now in
     elim c.if-added-gt0.branch [
-      then-added-gt0 w ↦
-        let now : cut_rows width c.args.rows c.if-added-gt0.words ≡ map (recoded_row c.in_ok-codes.codes.items c.args.columns.now) rows =
+      | then-added-gt0 w ↦
+          let now : cut_rows width c.args.rows c.if-added-gt0.words ≡ map (recoded_row c.in_ok-codes.codes.items c.args.columns.now) rows =
           ap (cut_rows width c.args.rows) w.words-is ∙ w.recode.ensures ∙ ap (λ cs. map (recoded_row cs c.args.columns.now) rows) w.deref.ensures.value in
-        subst (SameRows c.args.columns.now c.args.more c.merge.new.self rows) (sym now)
+          subst (SameRows c.args.columns.now c.args.more c.merge.new.self rows) (sym now)
           (rows_recoded c.args.more c.merge.new.self c.in_ok-codes.codes.items c.in_ok-codes.ensures.codes c.args.columns.now rows c.requires.mean)
       | else-added-gt0 w ↦
-        let none : c.args.more ≡ [] = nil_from_length c.args.more (omega (arith, c.len-added.ensures.count, w.if-added-gt0.false)) in
-        let begins : Begins c.args.more c.merge.new.self = subst (λ m. Begins m c.merge.new.self) (sym none) (c.merge.new.self, refl) in
-        subst (λ ws. SameRows c.args.columns.now c.args.more c.merge.new.self rows (cut_rows width c.args.rows ws)) (sym w.words-is)
+          let none : c.args.more ≡ [] = nil_from_length c.args.more (omega (arith, c.len-added.ensures.count, w.if-added-gt0.false)) in
+          let begins : Begins c.args.more c.merge.new.self = subst (λ m. Begins m c.merge.new.self) (sym none) (c.merge.new.self, refl) in
+          subst (λ ws. SameRows c.args.columns.now c.args.more c.merge.new.self rows (cut_rows width c.args.rows ws)) (sym w.words-is)
           (record { mean = MeanRows-Begins c.args.more c.merge.new.self c.args.columns.now rows begins c.requires.mean; same = map-row_of-Begins c.args.more c.merge.new.self c.args.columns.now rows begins c.requires.mean.allowed })
     ]

@@ -17,7 +17,7 @@ returns-then-is_some c =
     let has : has_text c.self.inside.names c.args.name.now ≡ true = sym (has_from_code c.self.inside.names c.args.name.now) ∙ ap is_some (sym c.code_of.ensures) ∙ sym c.is_some.ensures ∙ c.if-is_some.true in
     let is_taken : taken names c.args.name.now ≡ Some (Duplicate c.args.name.now) = ap (λ ns. taken ns c.args.name.now) seen ∙ ap (λ b. if b then Some (Duplicate c.args.name.now) else None) has in
     not_first (past limit.Tables max_tables (length c.args.self.now.tables + 1)) _ _ (ap (past limit.Tables max_tables) count ∙ c.in_ok-check_limit.ensures.answered)
-      (refused_first (taken names c.args.name.now) _ c.duplicate.result (λ other. is_taken ∙ ap Some (sym (c.duplicate.ensures other))))
+    (refused_first (taken names c.args.name.now) _ c.duplicate.result (λ other. is_taken ∙ ap Some (sym (c.duplicate.ensures other))))
 
 pub returns-in_err-check_limit-2 : goal.returns-in_err-check_limit-2
 returns-in_err-check_limit-2 c =
@@ -27,8 +27,8 @@ returns-in_err-check_limit-2 c =
     let has : has_text c.self.inside.names c.args.name.now ≡ false = sym (has_from_code c.self.inside.names c.args.name.now) ∙ ap is_some (sym c.code_of.ensures) ∙ sym c.is_some.ensures ∙ c.if-is_some.false in
     let is_free : taken names c.args.name.now ≡ None = ap (λ ns. taken ns c.args.name.now) seen ∙ ap (λ b. if b then Some (Duplicate c.args.name.now) else None) has in
     not_first (past limit.Tables max_tables (length c.args.self.now.tables + 1)) _ _ (ap (past limit.Tables max_tables) count ∙ c.in_ok-check_limit.ensures.answered)
-      (not_first (taken names c.args.name.now) _ _ is_free
-        (handed_on_first (past limit.Columns max_columns (length c.args.columns.now)) (columns_fault [] c.args.columns.now) c.from_residual-in_err-check_limit-2.result c.in_err-check_limit-2.field-0.0 c.from_residual-in_err-check_limit-2.ensures.1 c.in_err-check_limit-2.ensures))
+    (not_first (taken names c.args.name.now) _ _ is_free
+    (handed_on_first (past limit.Columns max_columns (length c.args.columns.now)) (columns_fault [] c.args.columns.now) c.from_residual-in_err-check_limit-2.result c.in_err-check_limit-2.field-0.0 c.from_residual-in_err-check_limit-2.ensures.1 c.in_err-check_limit-2.ensures))
 
 pub returns : goal.returns
 returns c =
@@ -38,5 +38,5 @@ returns c =
     let has : has_text c.self.inside.names c.args.name.now ≡ false = sym (has_from_code c.self.inside.names c.args.name.now) ∙ ap is_some (sym c.code_of.ensures) ∙ sym c.is_some.ensures ∙ c.if-is_some.false in
     let is_free : taken names c.args.name.now ≡ None = ap (λ ns. taken ns c.args.name.now) seen ∙ ap (λ b. if b then Some (Duplicate c.args.name.now) else None) has in
     not_first (past limit.Tables max_tables (length c.args.self.now.tables + 1)) _ _ (ap (past limit.Tables max_tables) count ∙ c.in_ok-check_limit.ensures.answered)
-      (not_first (taken names c.args.name.now) _ _ is_free
-        (not_first (past limit.Columns max_columns (length c.args.columns.now)) (columns_fault [] c.args.columns.now) c.check_columns.result c.in_ok-check_limit-2.ensures.answered c.check_columns.ensures))
+    (not_first (taken names c.args.name.now) _ _ is_free
+    (not_first (past limit.Columns max_columns (length c.args.columns.now)) (columns_fault [] c.args.columns.now) c.check_columns.result c.in_ok-check_limit-2.ensures.answered c.check_columns.ensures))

@@ -24,17 +24,17 @@ returns c =
     let there : c.args.table < length c.self.inside.tables.items = is_kept _ _ _ _ c.self.view_is c.requires in
     let here = c.index.result.now in
     let seen : table_at c.args.self.now c.args.table ≡ stored_table c.self.inside.texts here =
-      ap (λ db. table_at db c.args.table) (sym c.self.view_is) ∙ table_at-database_of c.self.inside.texts c.self.inside.tables.items c.args.table here there c.index.ensures in
+    ap (λ db. table_at db c.args.table) (sym c.self.view_is) ∙ table_at-database_of c.self.inside.texts c.self.inside.tables.items c.args.table here there c.index.ensures in
     let seen_again : table_at c.args.self.now c.args.table ≡ stored_table c.self.inside.texts c.index-2.result.now =
-      ap (λ db. table_at db c.args.table) (sym c.self.view_is) ∙ table_at-database_of c.self.inside.texts c.self.inside.tables.items c.args.table c.index-2.result.now there c.index-2.ensures in
+    ap (λ db. table_at db c.args.table) (sym c.self.view_is) ∙ table_at-database_of c.self.inside.texts c.self.inside.tables.items c.args.table c.index-2.result.now there c.index-2.ensures in
     let rows : length (table_at c.args.self.now c.args.table).rows + c.args.rows ≡ c.from.result + c.from-2.result =
-      omega (arith, ap (λ t. length t.rows) seen, length-map here.heap.rows (row_of c.self.inside.texts here.columns.items), c.rows-present.ensures.count, c.from.ensures, c.from-2.ensures) in
+    omega (arith, ap (λ t. length t.rows) seen, length-map here.heap.rows (row_of c.self.inside.texts here.columns.items), c.rows-present.ensures.count, c.from.ensures, c.from-2.ensures) in
     let width : length (table_at c.args.self.now c.args.table).columns ≡ c.len-width.result =
-      ap (λ t. length t.columns) seen_again ∙ search rules in
+    ap (λ t. length t.columns) seen_again ∙ search rules in
     let words : words_in c.args.self.now.tables ≡ c.words_in.result =
-      ap (λ db. words_in db.tables) (sym c.self.view_is) ∙ words_seen c.self.inside.texts c.self.inside.tables.items ∙ ap kept_words (sym c.deref.ensures.value) ∙ sym c.words_in.ensures.words in
+    ap (λ db. words_in db.tables) (sym c.self.view_is) ∙ words_seen c.self.inside.texts c.self.inside.tables.items ∙ ap kept_words (sym c.deref.ensures.value) ∙ sym c.words_in.ensures.words in
     let all : words_in c.args.self.now.tables + c.args.rows * length (table_at c.args.self.now c.args.table).columns ≡ c.words_in.result + c.from-3.result * c.len-width.result =
-      λ i. words i + sym c.from-3.ensures i * width i in
+    λ i. words i + sym c.from-3.ensures i * width i in
     not_first (past limit.Rows max_rows (length (table_at c.args.self.now c.args.table).rows + c.args.rows)) _ c.check_limit-2.result
-      (ap (past limit.Rows max_rows) rows ∙ c.in_ok-check_limit.ensures.answered)
-      (subst (λ n. Refuses (past limit.Words max_words n) c.check_limit-2.result) (sym all) c.check_limit-2.ensures)
+    (ap (past limit.Rows max_rows) rows ∙ c.in_ok-check_limit.ensures.answered)
+    (subst (λ n. Refuses (past limit.Words max_words n) c.check_limit-2.result) (sym all) c.check_limit-2.ensures)

@@ -20,9 +20,9 @@ invariant_of-self-2 c =
     let columns = neither (past limit.Columns max_columns (length c.args.columns.now)) (columns_fault [] c.args.columns.now) name.1 in
     let free : has_text c.self.inside.names c.args.name.now ≡ false = subst (λ ns. has_text ns c.args.name.now ≡ false) seen (not_taken names c.args.name.now name.0) in
     let few : length c.self.inside.tables.items + 1 ≤ max_tables =
-      omega (arith, within limit.Tables max_tables (length c.args.self.now.tables + 1) tables.0, ap (λ db. length db.tables) c.self.view_is, length-map c.self.inside.tables.items (stored_table c.self.inside.texts)) in
+    omega (arith, within limit.Tables max_tables (length c.args.self.now.tables + 1) tables.0, ap (λ db. length db.tables) c.self.view_is, length-map c.self.inside.tables.items (stored_table c.self.inside.texts)) in
     let put : c.push_within.new.tables.items ≡ c.self.inside.tables.items ++ c.in_ok-table.table ∷ [] = c.push_within.ensures ∙ ap (λ l. l ++ c.in_ok-table.table ∷ []) c.in_ok-reserve.ensures.items in
     subst (λ ns. AreKept ns c.self.inside.texts c.push_within.new.tables.items) (sym c.in_ok-add.ensures.texts)
-      (subst (AreKept (with_text c.self.inside.names c.args.name.now) c.self.inside.texts) (sym put)
-        (table_appended c.self.inside.names c.self.inside.texts c.self.inside.tables.items c.in_ok-table.table c.args.name.now c.args.columns.now c.self.invariant free few c.requires.some
-          (within limit.Columns max_columns (length c.args.columns.now) columns.0) c.in_ok-table.ensures.name c.in_ok-table.ensures.columns c.in_ok-table.ensures.width c.in_ok-table.ensures.rows))
+    (subst (AreKept (with_text c.self.inside.names c.args.name.now) c.self.inside.texts) (sym put)
+    (table_appended c.self.inside.names c.self.inside.texts c.self.inside.tables.items c.in_ok-table.table c.args.name.now c.args.columns.now c.self.invariant free few c.requires.some
+    (within limit.Columns max_columns (length c.args.columns.now) columns.0) c.in_ok-table.ensures.name c.in_ok-table.ensures.columns c.in_ok-table.ensures.width c.in_ok-table.ensures.rows))
