@@ -1,5 +1,6 @@
 -- What is seen of tables, read from how they are kept.
-use Rattle.std.proofs.Common.{◌≡◌, ℕ, zero, suc, ◌+◌, ◌<◌, ◌≤◌, List, [], ◌∷◌, length, map, get_or, Option, Some, None, option_map, Result, ℤ, pos, nat_abs, refl, sym, ap, subst, ◌∙◌, arith, slice_get, position, IfOk, Ok, Err}
+use Rattle.std.proofs.Common.{◌≡◌, ℕ, zero, suc, ◌+◌, ◌*◌, ◌<◌, ◌≤◌, List, [], ◌∷◌, length, map, get_or, Option, Some, None, option_map, Result, ℤ, pos, nat_abs, refl, sym, ap, subst, ◌∙◌, arith, slice_get, position, IfOk, Ok, Err}
+use Rattle.std.specs.Prelude.{IsSomeAnd}
 use Rattle.std.specs.List.{IsDistinct}
 use Rattle.std.specs.Str.{bytes_eq}
 use Rattle.std.proofs.lemmas.List.{length-map}
@@ -11,7 +12,7 @@ use Rattle.sql_values.specs.Stored.{StoredTable, StandsFor, IsRowOf, AreWords, r
 use Rattle.sql_values.proofs.Stored.{StandsFor-row_of}
 use Rattle.db_catalog.specs.declared.table.Table.{Table}
 use Rattle.db_catalog.specs.Database.{DatabaseState, new_table, table_at, row_at, table_number, IsRowAt}
-use Rattle.db_catalog.specs.Kept.{MeanRows, stored_table, IsKept, AreKept}
+use Rattle.db_catalog.specs.Kept.{MeanRows, HasWords, stored_table, IsKept, AreKept}
 
 pub get_or-map : {X Y : Type 0} (f : X → Y) (xs : List X) (i : ℕ) (d : X) (e : Y) → i < length xs → get_or (map f xs) i e ≡ f (get_or xs i d)
 get_or-map f [] i d e h = absurd (omega (arith, h))
@@ -42,7 +43,7 @@ row_is_seen names texts tables number i table words kept there is row =
     let fit : IsRowOf table.columns.items (row_of texts table.columns.items words) = subst (λ w. IsRowOf table.columns.items (row_of texts table.columns.items w)) words_are (mean.fit i words within) in
     let seen : row_at (stored_table texts table) i ≡ row_of texts table.columns.items words = get_or-map (row_of texts table.columns.items) table.heap.rows i words [] within ∙ ap (row_of texts table.columns.items) words_are in
     subst (λ t. StandsFor texts t.columns words (row_at t i)) (sym (table_at-database_of texts tables number table there is))
-      (subst (StandsFor texts table.columns.items words) (sym seen) (StandsFor-row_of texts table.columns.items words kept.distinct_texts allowed fit))
+    (subst (StandsFor texts table.columns.items words) (sym seen) (StandsFor-row_of texts table.columns.items words kept.distinct_texts allowed fit))
 
 pub IfOk-map : {T E : Type 0} {P Q : T → Type 0} (r : Result T E) → ((x : T) → P x → Q x) → IfOk r P → IfOk r Q
 IfOk-map (Ok x) weaker h = weaker x h
@@ -82,3 +83,18 @@ no_indexes texts (t ∷ ts) (suc number) = no_indexes texts ts number
 pub number_seen : (names texts : List (List ℕ)) (tables : List Table) (name : List ℕ) → names ≡ map (λ table. table.name) tables → option_map nat_abs (code_of names name) ≡ table_number (database_of texts tables) name
 number_seen names texts tables name are =
     number-of_code names name ∙ ap (position (bytes_eq name)) (are ∙ sym (names_seen texts tables))
+
+-- there is something at a place
+pub some_at : {X : Type 0} (xs : List X) (i : ℕ) → i < length xs → (x : X) × ((slice_get xs i ≡ Some x) × (x ≡ get_or xs i x))
+some_at [] i h = absurd (omega (arith, h))
+some_at (x ∷ xs) zero h = (x, (refl, refl))
+some_at (x ∷ xs) (suc i) h = some_at xs i (omega (arith, h))
+
+-- so many words make rows of the table at a place
+pub has_words : (names texts : List (List ℕ)) (tables : List Table) (number words rows : ℕ) (columns : List ColumnDef) → AreKept names texts tables → number < length tables →
+    columns ≡ (table_at (database_of texts tables) number).columns → words ≡ rows * length columns → HasWords number words rows tables
+has_words names texts tables number words rows columns kept there same filled =
+    let (table, (at, is)) = some_at tables number there in
+    let width : length columns ≡ table.heap.columns =
+    ap length (same ∙ ap (λ t. t.columns) (table_at-database_of texts tables number table there is)) ∙ sym (kept_at names texts tables number table kept there is).width in
+    subst (λ o. IsSomeAnd o (λ t. words ≡ rows * t.heap.columns)) (sym at) (filled ∙ ap (λ n. rows * n) width)

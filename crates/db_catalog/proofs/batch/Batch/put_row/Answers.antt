@@ -10,9 +10,9 @@ use Rattle.db_catalog.proofs.batch.Batch.put_row.Goals as goal
 pub put-requires : goal.put-requires
 put-requires c =
     let here : IsSomeAnd (slice_get c.args.self.now.columns c.loop-value.value-index) (λ column. IsValueOf column c.value-item.result) =
-      subst (λ v. IsSomeAnd (slice_get c.args.self.now.columns c.loop-value.value-index) (λ column. IsValueOf column v)) (sym c.value-item.is) (fits_at _ _ _ c.value-item.result c.requires.fits c.loop-value-test.true) in
+    subst (λ v. IsSomeAnd (slice_get c.args.self.now.columns c.loop-value.value-index) (λ column. IsValueOf column v)) (sym c.value-item.is) (fits_at _ _ _ c.value-item.result c.requires.fits c.loop-value-test.true) in
     subst (λ b. FitsNext b c.value-item.result) (sym c.loop-value.invariant)
-      (subst (λ n. IsSomeAnd (slice_get c.args.self.now.columns n) (λ column. IsValueOf column c.value-item.result)) (sym (length-take-le c.loop-value.value-index c.args.row.now (omega arith))) here)
+    (subst (λ n. IsSomeAnd (slice_get c.args.self.now.columns n) (λ column. IsValueOf column c.value-item.result)) (sym (length-take-le c.loop-value.value-index c.args.row.now (omega arith))) here)
 
 pub end_row-requires : goal.end_row-requires
 end_row-requires c =
