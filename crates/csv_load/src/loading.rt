@@ -31,7 +31,8 @@ fn put_entry(
     requires few { length columns.now < 2 ^ 31 }
     requires whole { batch.old.row ≡ [] }
     ensures row { OnOk result (batch.new ≡ record batch.old {
-        rows = batch.old.rows ++ entry_row columns.now (fields_of entry.now) ∷ []; }) }
+      rows = batch.old.rows ++ entry_row columns.now (fields_of entry.now) ∷ [];
+    }) }
     ensures refuses { Refuses (entry_fault columns.now n (fields_of entry.now)) result }
 {
     if entry.len() != columns.len() {
@@ -70,7 +71,8 @@ fn put_entries<R: Read>(
     requires empty { batch.old.rows ≡ [] }
     requires whole { batch.old.row ≡ [] }
     ensures rows { OnOk result (batch.new ≡ record batch.old {
-        rows = map (entry_row columns.now) (entries_left R.remaining reader.old); }) }
+      rows = map (entry_row columns.now) (entries_left R.remaining reader.old);
+    }) }
     ensures refuses { Refuses (entries_fault columns.now (entries_left R.remaining reader.old)) result }
 {
     for n in 1..u64::MAX {
@@ -110,12 +112,7 @@ fn batch_of(alloc: Global, columns: &[ColumnDef], bytes: &[u8]) -> Result<Batch,
 /// The first entry and field that are faulty are named. An entry's count of fields is looked at before its fields, and a
 /// field may be: not UTF-8, no INTEGER, out of range, NULL where the column refuses it, too long. Limits of the database come
 /// when all entries are good.
-pub fn load(
-    alloc: Global,
-    db: &mut Database,
-    table: u32,
-    bytes: &[u8],
-) -> Result<u64, LoadFault>
+pub fn load(alloc: Global, db: &mut Database, table: u32, bytes: &[u8]) -> Result<u64, LoadFault>
     requires there { table < length db.old.tables }
     ensures loaded { IfOk result (λ count. IsOkAnd (load_due db.old table bytes.now)
         (λ rows. Appends table db.old db.new count rows)) }
