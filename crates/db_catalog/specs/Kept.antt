@@ -1,12 +1,12 @@
 -- How tables and batches are kept: as words, of which each means something.
-use Rattle.std.specs.Prelude.{◌≡◌, ℕ, ◌*◌, ◌≤◌, ℤ, List, [], ◌∷◌, ◌++◌, All, length, map, take, sum_by}
+use Rattle.std.specs.Prelude.{◌≡◌, ℕ, ◌*◌, ◌≤◌, ℤ, List, [], ◌∷◌, ◌++◌, All, length, map, take, sum_by, slice_get, slice_index_or, slice_set, IsSomeAnd}
 use Rattle.std.specs.List.{IsDistinct}
 use Rattle.std.specs.Str.{bytes_eq}
 use Rattle.sql_values.specs.declared.column.ColumnDef.{ColumnDef}
 use Rattle.sql_values.specs.Limits.{max_tables, max_columns}
 use Rattle.sql_values.specs.Dictionary.{with_texts}
 use Rattle.sql_values.specs.Stored.{StoredTable, ValueRow, IsRowOf, AreWords, row_of, texts_in}
-use Rattle.heap_pages.specs.Rows.{cut_rows}
+use Rattle.heap_pages.specs.Rows.{HeapState, cut_rows}
 use Rattle.db_catalog.specs.declared.table.Table.{Table}
 
 -- each row of words means a row that fits the columns
@@ -37,6 +37,20 @@ stored_table texts table = record {
 -- how many words stand in tables
 abbrev pub kept_words : List Table → ℕ
 kept_words tables = sum_by (λ table. length table.heap.rows * length table.columns.items) tables
+
+-- so many words make so many rows of the table at this place
+abbrev pub HasWords : ℕ → ℕ → ℕ → List Table → Type 0
+HasWords number words rows tables =
+    IsSomeAnd (slice_get tables number) (λ table. words ≡ rows * table.heap.columns)
+
+-- rows of words more in the table at this place
+pub record AppendsWords (number rows : ℕ) (words : List ℤ) (old new : List Table) : Type 0 where
+  pub table : Table
+  pub heap : HeapState
+  pub there : table ≡ slice_index_or old number table
+  pub columns : heap.columns ≡ table.heap.columns
+  pub appended : heap.rows ≡ table.heap.rows ++ cut_rows table.heap.columns rows words
+  pub tables : new ≡ slice_set old number (record table { heap = heap })
 
 -- a table's columns and words, and the width of its heap
 pub record IsKept (texts : List (List ℕ)) (table : Table) : Type 0 where

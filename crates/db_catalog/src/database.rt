@@ -4,7 +4,7 @@ ghost use Rattle.std.specs.Prelude.{◌≡◌, ◌+◌, ◌*◌, ◌<◌, ◌≤
 ghost use Rattle.std.specs.Prelude.{OnOk, OnErr, IfOk, vec_capacity};
 ghost use Rattle.std.specs.List.{IsDistinct};
 ghost use Rattle.std.specs.Str.{bytes_eq};
-ghost use Rattle.sql_values.specs.Limits.{max_tables, max_columns};
+ghost use Rattle.sql_values.specs.Limits.{max_tables, max_columns, max_rows};
 ghost use Rattle.db_catalog.specs.Database.{with_table, with_rows, new_table, rows_in};
 ghost use Rattle.db_catalog.specs.Database.{table_at, table_number, FillRows, IsRowAt};
 ghost use Rattle.db_catalog.specs.Meter.{table_pages, page_rows, HasSlot, IsRowIn};
@@ -12,7 +12,7 @@ ghost use Rattle.work_ledger.specs.Account.{Pays};
 ghost use Rattle.work_ledger.specs.Charges.{page_charge, row_charge, fetch_charge};
 ghost use Rattle.db_catalog.specs.Refused.{Refuses, creation_fault, append_fault};
 ghost use Rattle.db_catalog.specs.Refused.{room_fault, texts_fault};
-ghost use Rattle.db_catalog.specs.Kept.{MeanRows, SameRows, kept_words};
+ghost use Rattle.db_catalog.specs.Kept.{MeanRows, SameRows, AppendsWords, HasWords, kept_words};
 ghost use Rattle.heap_pages.specs.Rows.{cut_rows};
 ghost use Rattle.sql_values.specs.Dictionary.{with_texts};
 
@@ -21,7 +21,7 @@ use crate::check::{check_columns, check_limit, duplicate};
 use crate::fault::DbFault;
 use crate::recode::recode;
 use crate::table::Table;
-use heap_pages::PageView;
+use heap_pages::{HeapFault, PageView};
 use sql_values::{
     ColumnDef, LimitName, MAX_COLUMNS, MAX_ROWS, MAX_TABLES, MAX_TEXT_BYTES, MAX_TEXTS, MAX_WORDS,
     Texts, Value,
@@ -67,7 +67,8 @@ fn push_within(tables: &mut Vec<Table>, table: Table)
 // How many words stand in these tables.
 fn words_in(tables: &[Table]) -> u128
     requires { All (λ table. length table.columns.items ≤ max_columns) tables.now }
-    ensures { result ≡ kept_words tables.now }
+    ensures words { result ≡ kept_words tables.now }
+    ensures bound { result ≤ length tables.now * (max_rows * max_columns) }
 {
     let mut words = 0u128;
     for table in tables {
@@ -95,6 +96,7 @@ fn settle(
     ensures refuses { Refuses (texts_fault (with_texts texts.old more)) result }
 {
     let before = texts.len();
+    let added = more.len();
     if before == 0 {
         check_texts(&more)?;
         *texts = more;
@@ -105,8 +107,26 @@ fn settle(
         texts.cut(before);
         return Err(fault);
     }
-    recode(words, columns, &codes, rows as usize);
+    if added > 0 {
+        recode(words, columns, &codes, rows as usize);
+    }
     Ok(())
+}
+
+// Puts the words of rows behind those of a table. Out of memory changes nothing.
+fn append_words(
+    tables: &mut [Table],
+    number: usize,
+    words: Vec<i64>,
+    rows: u64,
+) -> Result<(), HeapFault>
+    requires there { number < length tables.old }
+    requires few { rows ≤ 2 ^ 62 }
+    requires filled { HasWords number (length words.items) rows tables.old }
+    ensures appended { OnOk result (AppendsWords number rows words.items tables.old tables.new) }
+    ensures unchanged { OnErr result (tables.new ≡ tables.old) }
+{
+    tables[number].heap.append_rows(words, rows)
 }
 
 // Refuses a dictionary past a limit.
@@ -207,8 +227,8 @@ impl Database {
         } = batch;
         let before = self.texts.len();
         settle(&mut self.texts, texts, &mut words, &columns, rows)?;
-        let appended = self.tables[table as usize].heap.append_rows(words, rows);
-        if appended.is_err() {
+        prove!(before <= self.texts.len());
+        if append_words(&mut self.tables, table as usize, words, rows).is_err() {
             self.texts.cut(before);
             return Err(DbFault::NoMemory);
         }
@@ -269,7 +289,8 @@ impl Database {
     /// How many rows a table has.
     pub fn rows(&self, table: u32) -> u64
         requires { table < length self.now.tables }
-        ensures { result ≡ length (table_at self.now table).rows }
+        ensures count { result ≡ length (table_at self.now table).rows }
+        ensures few { result ≤ max_rows }
     {
         self.tables[table as usize].heap.rows()
     }

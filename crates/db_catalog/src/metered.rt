@@ -3,12 +3,13 @@
 ghost use Rattle.std.specs.Prelude.{◌≡◌, ◌+◌, ◌<◌, ◌≤◌, ◌^◌, length, IfOk};
 ghost use Rattle.work_ledger.specs.Account.{IsInBounds};
 ghost use Rattle.work_ledger.specs.Charges.{page_charge, row_charge, fetch_charge};
+ghost use Rattle.sql_values.specs.Limits.{max_columns, max_rows};
 ghost use Rattle.db_catalog.specs.Database.{table_at, IsRowAt};
 ghost use Rattle.db_catalog.specs.Meter.{Reads, HasSlot, table_pages, page_rows, IsRowIn};
 
 use crate::database::Database;
 use heap_pages::PageView;
-use sql_values::Texts;
+use sql_values::{ColumnDef, Texts};
 use std::marker::Model;
 use work_ledger::{Exhausted, Ledger};
 
@@ -75,10 +76,21 @@ impl<'d> Metered<'d> {
         self.ledger.pay(n)
     }
 
+    /// A table's columns.
+    pub fn columns(&self, table: u32) -> &'d [ColumnDef]
+        requires { table < length self.now.database.tables }
+        ensures columns { result.now ≡ (table_at self.now.database table).columns }
+        ensures some { 1 ≤ length result.now }
+        ensures few { length result.now ≤ max_columns }
+    {
+        self.database.columns(table)
+    }
+
     /// How many rows a table has.
     pub fn rows(&self, table: u32) -> u64
         requires { table < length self.now.database.tables }
-        ensures { result ≡ length (table_at self.now.database table).rows }
+        ensures count { result ≡ length (table_at self.now.database table).rows }
+        ensures few { result ≤ max_rows }
     {
         self.database.rows(table)
     }

@@ -4,6 +4,7 @@ use Rattle.std.specs.List.{list_any, position_or_len, IsDistinct, AllByRecursion
 use Rattle.std.specs.Str.{bytes_eq}
 use Rattle.std.proofs.lemmas.List.{length-map, map-append}
 use Rattle.std.proofs.lemmas.List.Folds.{list_any-append}
+use Rattle.std.proofs.lemmas.List.Sums.{fold-append}
 use Rattle.std.proofs.lemmas.Slice.Eq.{bytes_eq-Decides}
 use Rattle.std.proofs.Math.Seq.{take-append_seam}
 use Rattle.indexmap.specs.IndexSet.{insert_key}
@@ -72,7 +73,7 @@ module _ (t : List ℕ) (texts : List (List ℕ)) where
   same_text : bytes_eq t t ≡ true
   same_text = (bytes_eq-Decides t t).1 refl
 
-  has-last : has_text (texts ++ t ∷ []) t ≡ true
+  pub has-last : has_text (texts ++ t ∷ []) t ≡ true
   has-last = by (has_text texts t) (list_any-append (bytes_eq t) texts (t ∷ []) ∙ ap (λ b. has_text texts t || (b || false)) same_text)
     where
       by : (b : Bool) → has_text (texts ++ t ∷ []) t ≡ (b || true) → has_text (texts ++ t ∷ []) t ≡ true
@@ -175,5 +176,37 @@ next_put self new keys rest v codes pushed code all coded first put has_code pus
           ∙ ap (λ k. map Some codes ++ map (code_of all) (texts_of k)) (sym first)
           ∙ before,
     )
+
+-- a text that is there, or comes, is there afterwards
+pub has_text-with_texts : (texts ts : List (List ℕ)) (u : List ℕ) → has_text texts u ≡ true → has_text (with_texts texts ts) u ≡ true
+has_text-with_texts texts ts u h =
+    let (more, is) = Begins-with_texts texts texts ts (Begins_itself texts) in
+    ap (λ l. has_text l u) is ∙ list_any-append (bytes_eq u) texts more ∙ ap (λ b. b || has_text more u) h
+
+has_text-with_text : (texts : List (List ℕ)) (t : List ℕ) → has_text (with_text texts t) t ≡ true
+has_text-with_text texts t = by (has_text texts t) refl
+  where
+    by : (b : Bool) → has_text texts t ≡ b → has_text (if b then texts else texts ++ t ∷ []) t ≡ true
+    by true e = e
+    by false e = has-last t texts
+
+has_text-came : (texts ts : List (List ℕ)) (t : List ℕ) → has_text ts t ≡ true → has_text (with_texts texts ts) t ≡ true
+has_text-came texts [] t h = absurd (true≢false (sym h))
+has_text-came texts (u ∷ us) t h = by (bytes_eq t u) refl (λ e. has_text-came (with_text texts u) us t (sym (ap (λ b. b || has_text us t) e) ∙ h))
+  where
+    by : (b : Bool) → bytes_eq t u ≡ b → (bytes_eq t u ≡ false → has_text (with_texts (with_text texts u) us) t ≡ true) → has_text (with_texts (with_text texts u) us) t ≡ true
+    by true e rest =
+        let same : t ≡ u = (bytes_eq-Decides t u).0 e in
+        has_text-with_texts (with_text texts u) us t (ap (has_text (with_text texts u)) same ∙ has_text-with_text texts u)
+    by false e rest = rest e
+
+-- the texts of a dictionary are put as those of which it was made
+pub with_texts-with_texts : (old mid ts : List (List ℕ)) → with_texts old (with_texts mid ts) ≡ with_texts (with_texts old mid) ts
+with_texts-with_texts old mid [] = refl
+with_texts-with_texts old mid (t ∷ ts) = with_texts-with_texts old (with_text mid t) ts ∙ ap (λ l. with_texts l ts) (by (has_text mid t) refl)
+  where
+    by : (b : Bool) → has_text mid t ≡ b → with_texts old (if b then mid else mid ++ t ∷ []) ≡ with_text (with_texts old mid) t
+    by true e = ap (λ b. if b then with_texts old mid else with_texts old mid ++ t ∷ []) (sym (has_text-came old mid t e))
+    by false e = fold-append with_text old mid (t ∷ [])
 
 pub ruleset of_texts = (position-map, IsDistinct-map, with_text-there, take-Begins, length-Begins)

@@ -140,13 +140,14 @@ number_is_int texts kind number is_integer other = ap (λ k. value_of texts k nu
 pub IsWord-int : (texts : List (List ℕ)) (kind : ColumnType) (number : ℤ) → kind ≡ Integer → IsWord texts kind number
 IsWord-int texts kind number is_integer = subst (λ k. IsWord texts k number) (sym is_integer) tt
 
+-- a code means its text
+pub text_code_means : (texts : List (List ℕ)) (n : ℕ) (t : List ℕ) (code : ℤ) → text_of texts code ≡ Some t → value_of texts (Varchar n) code ≡ value.Text t
+text_code_means texts n t (pos place) e = ap (λ o. value.Text (unwrap_or o [])) e
+text_code_means texts n t (negsuc k) e = cc
+
 pub code_is_text : (texts : List (List ℕ)) (kind : ColumnType) (t : List ℕ) (code : ℤ) → IsTextOf kind t → code_of texts t ≡ Some code → value_of texts kind code ≡ value.Text t
 code_is_text texts Integer t code fits h = absurd fits
-code_is_text texts (Varchar n) t code fits h = of_text code (text_of-code_of texts t code h)
-  where
-    of_text : (code : ℤ) → text_of texts code ≡ Some t → value_of texts (Varchar n) code ≡ value.Text t
-    of_text (pos place) e = ap (λ o. value.Text (unwrap_or o [])) e
-    of_text (negsuc k) e = cc
+code_is_text texts (Varchar n) t code fits h = text_code_means texts n t code (text_of-code_of texts t code h)
 
 pub IsWord-code : (texts : List (List ℕ)) (kind : ColumnType) (t : List ℕ) (code : ℤ) → IsTextOf kind t → code_of texts t ≡ Some code → IsWord texts kind code
 IsWord-code texts Integer t code fits h = absurd fits
