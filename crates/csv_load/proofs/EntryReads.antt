@@ -2,11 +2,12 @@
 use Rattle.std.proofs.Common.{◌≡◌, ℕ, zero, suc, ◌+◌, ◌<◌, ◌≤◌, Bool, true, false, List, [], ◌∷◌, ◌++◌, drop, length, length-drop, Option, Some, None, refl, sym, ap, ◌∙◌, arith, inl}
 use Rattle.std.specs.Prelude.{if◌then◌else◌, IsSome}
 use Rattle.csv.specs.Machine.{Read, step, is_end, ends_at_end, fields_after, field_after, next_record}
-use Rattle.csv.specs.Reading.{records_from, records_next, source_of, pending_of, NextIs, ReadsNext, ReadRecord, default_config, took_first}
+use Rattle.csv.specs.Reading.{records_from, records_next, source_of, pending_of, NextIs, ReadsNext, ReadRecord, default_config, took_first, records, strip_bom, is_bom}
 use Rattle.csv.specs.declared.parser.Config.{Config}
 use Rattle.csv.specs.declared.parser.State.{State}
 use Rattle.csv.specs.declared.parser.State.TheVariants as st
 use Rattle.csv.specs.declared.reader.Reader.{Reader}
+use Rattle.csv_load.specs.Load.{entries_of}
 use Rattle.csv_load.specs.Entries.{records_after, entries_left, GivesEntries}
 
 -- a record leaves fewer bytes than it was read from, unless there were none
@@ -94,3 +95,30 @@ entries_left-read remaining old new found fields g r first =
       record { known = rw now left.0; config = r.2 ∙ g.config; untrimmed = r.3 ∙ g.untrimmed; ready = inl first },
       rw now left.1,
     )
+
+-- a text has no more records than are asked for
+length-records_from : (cfg : Config) (n : ℕ) (s : State) (xs : List ℕ) → length (records_from cfg n s xs) ≤ n
+unfolding records_from
+length-records_from cfg zero s xs = omega arith
+length-records_from cfg (suc n) s xs = by (next_record cfg s [] [] xs) (λ s2 ys. length-records_from cfg n s2 ys)
+  where
+    by : (o : Option Read) → ((s2 : State) (ys : List ℕ) → length (records_from cfg n s2 ys) ≤ n) → length (records_next (records_from cfg n) o) ≤ suc n
+    by None few = omega arith
+    by (Some p) few = omega (arith, few p.1 p.2)
+
+length-strip_bom : (bytes : List ℕ) → length (strip_bom bytes) ≤ length bytes
+unfolding strip_bom
+length-strip_bom [] = omega arith
+length-strip_bom (a ∷ []) = omega arith
+length-strip_bom (a ∷ b ∷ []) = omega arith
+length-strip_bom (a ∷ b ∷ c ∷ rest) = by (is_bom a b c)
+  where
+    by : (marked : Bool) → length (if marked then rest else a ∷ b ∷ c ∷ rest) ≤ suc (suc (suc (length rest)))
+    by true = omega arith
+    by false = omega arith
+
+-- a file has at most one entry more than bytes
+pub length-entries_of : (bytes : List ℕ) → length (entries_of bytes) ≤ length bytes + 1
+length-entries_of bytes = omega (arith, length-records_from default_config (length (strip_bom bytes) + 1) st.StartRecord (strip_bom bytes), length-strip_bom bytes)
+
+pub ruleset of_lengths = (length-entries_of)

@@ -18,8 +18,8 @@ use Rattle.csv_load.specs.Field.{field_fault, field_value, kind_value, fault_whe
 pub field_fault-null : (place : Place) (column : ColumnDef) (field : List ℕ) → length field ≡ 0 → column.not_null ≡ true
     → field_fault place column field ≡ Some (NullInNotNull place.entry place.field)
 unfolding field_fault
-field_fault-null place column [] e refuses = rw refuses refl
-field_fault-null place column (b ∷ bs) e refuses = absurd (omega arith)
+field_fault-null place column [] e full = rw full refl
+field_fault-null place column (b ∷ bs) e full = absurd (omega arith)
 
 pub field_fault-empty : (place : Place) (column : ColumnDef) (field : List ℕ) → length field ≡ 0 → column.not_null ≡ false → field_fault place column field ≡ None
 unfolding field_fault

@@ -33,18 +33,23 @@ fault_where there fault = if there then Some fault else None
 abbrev pub kind_fault : Place → ColumnType → List ℕ → Option LoadFault
 kind_fault place Integer text =
     let digits = without_leading_sign text in
+    let past = nat_lt greatest_integer (digits_value 10 digits) in
     option_or (fault_where (not (are_digits digits)) (NotInteger place.entry place.field))
-    (fault_where (nat_lt greatest_integer (digits_value 10 digits)) (OutOfRange place.entry place.field))
-kind_fault place (Varchar most) text = fault_where (nat_lt most (characters text)) (TooLong place.entry place.field)
+    (fault_where past (OutOfRange place.entry place.field))
+kind_fault place (Varchar most) text =
+    fault_where (nat_lt most (characters text)) (TooLong place.entry place.field)
 
--- the same, and in a column of any kind that it isn't UTF-8
+-- the same, and before it, in a column of any kind, that it isn't UTF-8
 unfoldable pub text_fault : Place → ColumnType → List ℕ → Option LoadFault
-text_fault place kind text = option_or (fault_where (not (is_utf8 text)) (NotUtf8 place.entry place.field)) (kind_fault place kind text)
+text_fault place kind text =
+    let other = fault_where (not (is_utf8 text)) (NotUtf8 place.entry place.field) in
+    option_or other (kind_fault place kind text)
 
 -- what is wrong with a field of a column, at this place
 unfoldable pub field_fault : Place → ColumnDef → List ℕ → Option LoadFault
 field_fault place column field =
-    if is_null field then fault_where column.not_null (NullInNotNull place.entry place.field) else text_fault place column.kind field
+    let refused = fault_where column.not_null (NullInNotNull place.entry place.field) in
+    if is_null field then refused else text_fault place column.kind field
 
 -- the value that a text is in a column of this kind
 abbrev pub kind_value : ColumnType → List ℕ → Value

@@ -19,5 +19,5 @@ agreeing (name ∷ names) (field ∷ fields) =
 -- the first field that differs, is missing or is too many, from 1
 abbrev pub header_fault : List ColumnDef → List (List ℕ) → Option LoadFault
 header_fault columns header =
-    let names = names_of columns in
-    if agreeing names header == length names && agreeing names header == length header then None else Some (Header (agreeing names header + 1))
+    let same = agreeing (names_of columns) header in
+    if same == length columns && same == length header then None else Some (Header (same + 1))

@@ -1,5 +1,5 @@
 pub mod Field
-pub mod Refused
+pub mod Fault
 pub mod Header
 pub mod Load
 pub mod Entries

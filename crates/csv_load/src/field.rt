@@ -2,7 +2,7 @@
 ghost use Rattle.std.specs.Prelude.{◌≡◌, length, Some, OnOk, slice_get};
 ghost use Rattle.db_catalog.specs.Batch.{with_value};
 ghost use Rattle.csv_load.specs.Field.{field_fault, field_value};
-ghost use Rattle.csv_load.specs.Refused.{Refuses};
+ghost use Rattle.csv_load.specs.Fault.{GivesFault};
 
 use crate::fault::LoadFault;
 use crate::integer::integer_of;
@@ -22,7 +22,7 @@ pub(crate) fn put_field(
     requires next { slice_get batch.old.columns (length batch.old.row) ≡ Some column.now }
     ensures put { OnOk result
         (batch.new ≡ with_value batch.old (field_value column.now field.now)) }
-    ensures refuses { Refuses (field_fault place column.now field.now) result }
+    ensures fault { GivesFault (field_fault place column.now field.now) result }
 {
     if field.is_empty() {
         if column.not_null {

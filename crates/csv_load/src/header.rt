@@ -3,7 +3,7 @@ ghost use Rattle.std.specs.Prelude.{◌≡◌, ◌<◌, ◌^◌, length, bytes_e
 ghost use Rattle.std.specs.Str.{str_to_ascii_uppercase};
 ghost use Rattle.csv.specs.Records.{fields_of};
 ghost use Rattle.csv_load.specs.Header.{names_of, agreeing, header_fault};
-ghost use Rattle.csv_load.specs.Refused.{Refuses};
+ghost use Rattle.csv_load.specs.Fault.{GivesFault};
 
 use crate::fault::LoadFault;
 use csv::ByteRecord;
@@ -45,7 +45,7 @@ fn agreeing(entry: &ByteRecord, columns: &[ColumnDef]) -> usize
 #[tactic(auto, using(crate::proofs::Headers::of_lengths))]
 pub(crate) fn check_header(entry: &ByteRecord, columns: &[ColumnDef]) -> Result<(), LoadFault>
     requires few { length columns.now < 2 ^ 31 }
-    ensures refuses { Refuses (header_fault columns.now (fields_of entry.now)) result }
+    ensures fault { GivesFault (header_fault columns.now (fields_of entry.now)) result }
 {
     let agreeing = agreeing(entry, columns);
     if agreeing == columns.len() && agreeing == entry.len() {

@@ -4,7 +4,7 @@ ghost use Rattle.std.specs.Str.Parse.{digits_value, signed_digits_value, without
 ghost use Rattle.sql_values.specs.Words.{null_word};
 ghost use Rattle.sql_values.specs.declared.column.ColumnType.TheVariants.{Integer};
 ghost use Rattle.csv_load.specs.Field.{greatest_integer, are_digits, text_fault};
-ghost use Rattle.csv_load.specs.Refused.{Refuses};
+ghost use Rattle.csv_load.specs.Fault.{GivesFault};
 
 use crate::fault::LoadFault;
 use crate::place::Place;
@@ -61,7 +61,7 @@ fn is_negative(text: &[u8]) -> bool
 pub(crate) fn integer_of(text: &[u8], place: Place) -> Result<i64, LoadFault>
     ensures number { IfOk result (λ number. number ≡ signed_digits_value 10 text.now) }
     ensures not_null { IfOk result (λ number. number ≢ null_word) }
-    ensures refuses { Refuses (text_fault place Integer text.now) result }
+    ensures fault { GivesFault (text_fault place Integer text.now) result }
 {
     let Place { entry, field } = place;
     let Some(magnitude) = magnitude_of(digits_of(text)) else {

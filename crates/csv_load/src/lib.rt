@@ -16,3 +16,5 @@ mod text;
 pub use fault::LoadFault;
 pub use loading::load;
 
+#[cfg(test)]
+mod tests;

@@ -6,7 +6,7 @@ ghost use Rattle.sql_values.specs.Limits.{max_columns};
 ghost use Rattle.db_catalog.specs.Database.{table_at};
 ghost use Rattle.csv_load.specs.Entries.{entries_left, GivesEntries};
 ghost use Rattle.csv_load.specs.Load.{entry_fault, entry_row, entries_fault, file_fault, file_rows, entries_of, load_due, Appends};
-ghost use Rattle.csv_load.specs.Refused.{Refuses};
+ghost use Rattle.csv_load.specs.Fault.{GivesFault};
 
 use crate::entries::{next_entry, reader_of};
 use crate::fault::LoadFault;
@@ -31,8 +31,9 @@ fn put_entry(
     requires few { length columns.now < 2 ^ 31 }
     requires whole { batch.old.row ≡ [] }
     ensures row { OnOk result (batch.new ≡ record batch.old {
-        rows = batch.old.rows ++ entry_row columns.now (fields_of entry.now) ∷ []; }) }
-    ensures refuses { Refuses (entry_fault columns.now n (fields_of entry.now)) result }
+      rows = batch.old.rows ++ entry_row columns.now (fields_of entry.now) ∷ [];
+    }) }
+    ensures fault { GivesFault (entry_fault columns.now n (fields_of entry.now)) result }
 {
     if entry.len() != columns.len() {
         return Err(LoadFault::FieldCount {
@@ -70,8 +71,10 @@ fn put_entries<R: Read>(
     requires empty { batch.old.rows ≡ [] }
     requires whole { batch.old.row ≡ [] }
     ensures rows { OnOk result (batch.new ≡ record batch.old {
-        rows = map (entry_row columns.now) (entries_left R.remaining reader.old); }) }
-    ensures refuses { Refuses (entries_fault columns.now (entries_left R.remaining reader.old)) result }
+      rows = map (entry_row columns.now) (entries_left R.remaining reader.old);
+    }) }
+    ensures fault { GivesFault (entries_fault columns.now
+        (entries_left R.remaining reader.old)) result }
 {
     for n in 1..u64::MAX {
         if !next_entry(reader, entry)? {
@@ -90,7 +93,7 @@ fn batch_of(alloc: Global, columns: &[ColumnDef], bytes: &[u8]) -> Result<Batch,
     ensures whole { IfOk result (λ batch. batch.row ≡ []) }
     ensures rows { IfOk result (λ batch.
         batch.rows ≡ file_rows columns.now (entries_of bytes.now)) }
-    ensures refuses { Refuses (file_fault columns.now (entries_of bytes.now)) result }
+    ensures fault { GivesFault (file_fault columns.now (entries_of bytes.now)) result }
 {
     let mut reader = reader_of(alloc, bytes);
     let mut entry = ByteRecord::new(alloc);
@@ -110,12 +113,8 @@ fn batch_of(alloc: Global, columns: &[ColumnDef], bytes: &[u8]) -> Result<Batch,
 /// The first entry and field that are faulty are named. An entry's count of fields is looked at before its fields, and a
 /// field may be: not UTF-8, no INTEGER, out of range, NULL where the column refuses it, too long. Limits of the database come
 /// when all entries are good.
-pub fn load(
-    alloc: Global,
-    db: &mut Database,
-    table: u32,
-    bytes: &[u8],
-) -> Result<u64, LoadFault>
+#[tactic(auto, unfolding(crate::specs::Load::load_of, crate::specs::Load::load_due))]
+pub fn load(alloc: Global, db: &mut Database, table: u32, bytes: &[u8]) -> Result<u64, LoadFault>
     requires there { table < length db.old.tables }
     ensures loaded { IfOk result (λ count. IsOkAnd (load_due db.old table bytes.now)
         (λ rows. Appends table db.old db.new count rows)) }

@@ -4,7 +4,7 @@ ghost use Rattle.std.specs.Str.{is_utf8};
 ghost use Rattle.sql_values.specs.Stored.{characters};
 ghost use Rattle.sql_values.specs.declared.column.ColumnType.TheVariants.{Varchar};
 ghost use Rattle.csv_load.specs.Field.{text_fault};
-ghost use Rattle.csv_load.specs.Refused.{Refuses};
+ghost use Rattle.csv_load.specs.Fault.{GivesFault};
 
 use crate::fault::LoadFault;
 use crate::place::Place;
@@ -29,7 +29,7 @@ fn characters(text: &[u8]) -> usize
 /// Whether a text at this place is UTF-8 of at most so many characters.
 #[tactic(auto, using(crate::proofs::Texts::of_lengths), unfolding(crate::specs::Field::text_fault))]
 pub(crate) fn check_text(text: &[u8], most: u64, place: Place) -> Result<(), LoadFault>
-    ensures refuses { Refuses (text_fault place (Varchar most) text.now) result }
+    ensures fault { GivesFault (text_fault place (Varchar most) text.now) result }
 {
     let Place { entry, field } = place;
     if !is_utf8(text) {

@@ -6,11 +6,11 @@ use Rattle.csv_load.specs.Load.{entry_fault, entry_row}
 use Rattle.csv_load.proofs.Rows.{fields_fault_from-more, fields_fault_from-bad, entry_row-more, entry_row-all, row_ended}
 use Rattle.csv_load.proofs.loading.put_entry.Goals as goal
 
-pub returns-in_err-put_field-clause-refuses : goal.returns-in_err-put_field-clause-refuses
-returns-in_err-put_field-clause-refuses c =
-    let refuses = c.in_err-put_field.ensures.refuses.refused in
+pub returns-in_err-put_field-clause-fault : goal.returns-in_err-put_field-clause-fault
+returns-in_err-put_field-clause-fault c =
+    let due = c.in_err-put_field.ensures.fault.refused in
     let bad : c.in_err-put_field.field-0.0 ≢ NoMemory → entry_fault c.args.columns.now c.args.n (fields_of c.args.entry.now) ≡ Some c.in_err-put_field.field-0.0 =
-        λ other. c.loop-i.invariant.good ∙ fields_fault_from-bad c.loop-i.i c.args.n c.args.columns.now (fields_of c.args.entry.now) c.index-columns-i.result c.in-Some.field.now c.in_err-put_field.field-0.0 c.loop-i-test.true c.index-columns-i.is c.in-Some.ensures.value (refuses other) in
+    λ other. c.loop-i.invariant.good ∙ fields_fault_from-bad c.loop-i.i c.args.n c.args.columns.now (fields_of c.args.entry.now) c.index-columns-i.result c.in-Some.field.now c.in_err-put_field.field-0.0 c.loop-i-test.true c.index-columns-i.is c.in-Some.ensures.value (due other) in
     search rules
 
 pub loop-i-preserved : goal.loop-i-preserved
@@ -25,7 +25,7 @@ loop-i-preserved c =
       place = omega (arith, ap (λ b. length b.row) put, length-append c.loop-i.batch.row (field_value c.index-columns-i.result c.in-Some.field.now ∷ []), c.loop-i.invariant.place);
       row = ap (λ b. b.row ++ entry_row (drop (c.loop-i.i + 1) columns) (drop (c.loop-i.i + 1) fields)) put
           ∙ append_assoc c.loop-i.batch.row _ _ ∙ ap (λ row. c.loop-i.batch.row ++ row) (sym value) ∙ c.loop-i.invariant.row;
-      good = c.loop-i.invariant.good ∙ fields_fault_from-more c.loop-i.i c.args.n columns fields c.index-columns-i.result c.in-Some.field.now c.loop-i-test.true c.index-columns-i.is c.in-Some.ensures.value c.in_ok-put_field.ensures.refuses.answered;
+      good = c.loop-i.invariant.good ∙ fields_fault_from-more c.loop-i.i c.args.n columns fields c.index-columns-i.result c.in-Some.field.now c.loop-i-test.true c.index-columns-i.is c.in-Some.ensures.value c.in_ok-put_field.ensures.fault.answered;
     }
 
 pub returns-clause-row : goal.returns-clause-row
@@ -33,5 +33,5 @@ returns-clause-row c =
     let last : length c.args.columns.now ≤ c.loop-i.i = omega arith in
     let none = entry_row-all c.loop-i.i c.args.columns.now (drop c.loop-i.i (fields_of c.args.entry.now)) last in
     let whole : c.loop-i.batch.row ≡ entry_row c.args.columns.now (fields_of c.args.entry.now) =
-        sym (append-nil c.loop-i.batch.row) ∙ ap (λ rest. c.loop-i.batch.row ++ rest) (sym none) ∙ c.loop-i.invariant.row in
+    sym (append-nil c.loop-i.batch.row) ∙ ap (λ rest. c.loop-i.batch.row ++ rest) (sym none) ∙ c.loop-i.invariant.row in
     row_ended c.args.batch.now c.loop-i.batch c.end_row.new.self _ c.in_ok-end_row.ensures.ended (c.loop-i.invariant.columns ∙ sym c.requires.columns) c.loop-i.invariant.rows whole c.requires.whole
