@@ -5,3 +5,6 @@ pub mod SortKeys
 pub mod TextWriter
 pub mod Values
 pub mod Ranks
+pub mod Ascent
+pub mod Zips
+pub mod Placing
