@@ -8,3 +8,4 @@ pub mod Ranks
 pub mod Ascent
 pub mod Zips
 pub mod Placing
+pub mod TableText
