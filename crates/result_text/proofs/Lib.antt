@@ -5,3 +5,7 @@ pub mod SortKeys
 pub mod TextWriter
 pub mod Values
 pub mod Ranks
+pub mod Ascent
+pub mod Zips
+pub mod Placing
+pub mod TableText

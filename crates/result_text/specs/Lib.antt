@@ -4,3 +4,5 @@ pub mod Printed
 pub mod SortKey
 pub mod TextWriter
 pub mod Ranks
+pub mod Lists
+pub mod Placing

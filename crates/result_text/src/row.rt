@@ -1,5 +1,6 @@
 // A row of a table, lent.
-ghost use Rattle.std.specs.Prelude.{◌≡◌};
+ghost use Rattle.std.specs.Prelude.{◌≡◌, IfOk, length, map, sum_by};
+ghost use Rattle.result_text.specs.Rows.{words_of};
 
 use std::alloc::{AllocError, Global};
 use std::marker::Model;
@@ -39,7 +40,11 @@ pub(crate) fn lend<'a>(
     alloc: Global,
     like: &[LentRow<'_>],
     words: &'a [i64],
-) -> Result<Vec<LentRow<'a>>, AllocError> {
+) -> Result<Vec<LentRow<'a>>, AllocError>
+    requires { sum_by length like.now ≡ length words.now }
+    ensures words { IfOk result (λ lent. words_of lent.items ≡ words.now) }
+    ensures long { IfOk result (λ lent. map length lent.items ≡ map length like.now) }
+{
     let mut lent = Vec::with_capacity(alloc, like.len())?;
     let mut left = words;
     for row in like {

@@ -1,11 +1,16 @@
-// A text that is lent, in the order of bytes.
-ghost use Rattle.std.specs.Prelude.{◌≡◌, ℕ, List};
+// Texts that are lent, in the order of their bytes.
+ghost use Rattle.std.specs.Prelude.{◌≡◌, ◌↔◌, false, IfOk, IfSome, IsSome, IsTrue, OnOk, Some, []};
 ghost use Rattle.std.proofs.Common.{rules};
 ghost use Rattle.std.specs.Cmp.{partial_order_from_own_ties, eq_by_cmp_equiv};
 ghost use Rattle.std.specs.Cmp.Rules.{comparing};
 ghost use Rattle.std.specs.Cmp.Lexicographic.{slice_cmp};
-ghost use Rattle.std.specs.Ordering.{nat_cmp, as_partial_cmp, eq_by_cmp};
+ghost use Rattle.std.specs.Ordering.{nat_cmp, as_partial_cmp, eq_by_cmp, is_gt};
+ghost use Rattle.sql_values.specs.Dictionary.{text_of, Begins};
+ghost use Rattle.result_text.specs.Ranks.{AreAscending};
+ghost use Rattle.result_text.specs.Lists.{last_of};
 
+use crate::texts::TextList;
+use std::alloc::{AllocError, Global};
 use std::cmp::Ordering;
 use std::marker::Model;
 
@@ -74,5 +79,72 @@ impl Ord for ShortText<'_> {
     #[inline]
     fn cmp(&self, other: &Self) -> Ordering {
         self.text.cmp(other.text)
+    }
+}
+
+/// Texts in ascending order, each with its place, from 0.
+#[derive(Drop)]
+pub(crate) struct SortedTexts<'a> {
+    texts: Vec<ShortText<'a>>,
+}
+
+impl<'a> Model for SortedTexts<'a> {
+    ghost use Rattle.std.specs.Prelude.{ℕ, List};
+
+    ghost Value = { List (List ℕ) };
+
+    ghost view = { λ s. s.texts.items };
+}
+
+impl<'a> SortedTexts<'a> {
+    /// No texts yet, and room for so many.
+    pub(crate) fn with_capacity(alloc: Global, count: usize) -> Result<Self, AllocError>
+        ensures { IfOk result (λ texts. texts ≡ []) }
+    {
+        let texts = Vec::with_capacity(alloc, count)?;
+        Ok(SortedTexts { texts })
+    }
+
+    // Whether this is the last text.
+    fn ends_with(&self, text: &ShortText<'_>) -> bool
+        ensures { IsTrue result ↔ (last_of self.now ≡ Some text.now) }
+    {
+        match self.texts.last() {
+            Some(last) => *last == *text,
+            None => false,
+        }
+    }
+
+    // The place of the last text.
+    fn last_place(&self) -> i64
+        requires { IsSome (last_of self.now) }
+        ensures { text_of self.now result ≡ last_of self.now }
+    {
+        (self.texts.len() - 1) as i64
+    }
+
+    /// The place of this text, which comes to the end where it doesn't stand there.
+    pub(crate) fn place_of_last(&mut self, text: ShortText<'a>) -> Result<i64, AllocError>
+        requires ascending { AreAscending self.old }
+        requires not_less { IfSome (last_of self.old)
+            (λ last. is_gt (slice_cmp nat_cmp last text) ≡ false) }
+        ensures ascending { OnOk result (AreAscending self.new) }
+        ensures begins { OnOk result (Begins self.old self.new) }
+        ensures last { OnOk result (last_of self.new ≡ Some text.entry) }
+        ensures place { IfOk result (λ place. text_of self.new place ≡ Some text.entry) }
+    {
+        if self.ends_with(&text) {
+            return Ok(self.last_place());
+        }
+        self.texts.push(text)?;
+        Ok(self.last_place())
+    }
+}
+
+impl TextList for SortedTexts<'_> {
+    ghost texts = { λ t. t };
+
+    fn text_at(&self, place: i64) -> &[u8] {
+        self.texts[place as usize].bytes()
     }
 }

@@ -7,7 +7,8 @@ use Rattle.sql_values.specs.Words.{IsWord, value_of}
 use Rattle.result_text.specs.Printed.{field_of}
 use Rattle.result_text.specs.Rows.{values_of}
 use Rattle.result_text.proofs.TextWriter.{writes_more, writes_record}
-use Rattle.result_text.proofs.Values.{length-AllZip, AllZip-at, values_of-more}
+use Rattle.result_text.proofs.Values.{values_of-more}
+use Rattle.result_text.proofs.Zips.{length-AllZip, AllZip-at}
 use Rattle.result_text.proofs.print.write_row.Goals as goal
 
 pub bounds-row-place : goal.bounds-row-place
