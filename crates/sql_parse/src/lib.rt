@@ -1,8 +1,8 @@
 //! The statements of a script, read from its tokens.
 //! It promises that `read_script` returns exactly one statement for each piece between semicolons that isn't empty, as
-//! the grammar relates them to their tokens, or the start of the first piece that is no statement; and that two
-//! statements of the same tokens are the same. Its depth on the stack is bounded by the nesting of parentheses. `print`
-//! returns exactly a statement's canonical text, which is read as that statement and as no other.
+//! the grammar relates them to their tokens, or the start of the first piece that is no statement; laws say that tokens
+//! are read in no second way. Its depth on the stack is bounded by the nesting of parentheses. `print` returns exactly a
+//! statement's canonical text, which is read as that statement and as no other.
 //! It never looks up a name, never compares kinds, and takes no memory but for statements and texts.
 #![tactic(auto)]
 
