@@ -24,7 +24,7 @@ text_at_place t [] h = absurd (true≢false (sym h))
 text_at_place t (x ∷ xs) h = by (bytes_eq t x) refl (λ e. text_at_place t xs (sym (ap (λ b. b || has_text xs t) e) ∙ h))
   where
     by : (b : Bool) → bytes_eq t x ≡ b → (bytes_eq t x ≡ false → slice_get xs (position_or_len (bytes_eq t) xs) ≡ Some t) →
-      slice_get (x ∷ xs) (cond (not (bytes_eq t x)) (1 + position_or_len (bytes_eq t) xs) 0) ≡ Some t
+        slice_get (x ∷ xs) (cond (not (bytes_eq t x)) (1 + position_or_len (bytes_eq t) xs) 0) ≡ Some t
     by true e rest = rw e (ap Some (sym ((bytes_eq-Decides t x).0 e)))
     by false e rest =
         let next : 1 + position_or_len (bytes_eq t) xs ≡ suc (position_or_len (bytes_eq t) xs) = omega arith in
@@ -90,8 +90,8 @@ own_place [] place distinct there = absurd (omega (arith, there))
 own_place (x ∷ xs) zero distinct there = rw (bytes_eq-Decides x x).1 refl
 own_place (x ∷ xs) (suc place) distinct there =
     by (unwrap_or (slice_get xs place) [])
-      (at_place (λ y. bytes_eq x y ≡ false) xs place (IsDistinct-head bytes_eq x xs distinct) (omega (arith, there)))
-      (own_place xs place (IsDistinct-tail bytes_eq x xs distinct) (omega (arith, there)))
+    (at_place (λ y. bytes_eq x y ≡ false) xs place (IsDistinct-head bytes_eq x xs distinct) (omega (arith, there)))
+    (own_place xs place (IsDistinct-tail bytes_eq x xs distinct) (omega (arith, there)))
   where
     by : (t : List ℕ) → bytes_eq x t ≡ false → position_or_len (bytes_eq t) xs ≡ place → cond (not (bytes_eq t x)) (1 + position_or_len (bytes_eq t) xs) 0 ≡ suc place
     by t other rest = case (bytes_eq t x) refl
