@@ -112,7 +112,6 @@ impl RowStack {
     #[cold]
     #[inline(never)]
     fn grow(&mut self) -> Result<(), AllocError>
-        requires { self.old.spare ≡ 0 }
         ensures rows { self.new.rows ≡ self.old.rows }
         ensures width { self.new.width ≡ self.old.width }
         ensures some { OnOk result (1 ≤ self.new.spare) }
