@@ -2,8 +2,8 @@
 //! again, and the rows of a result.
 //! To the layers above a stack is a list of rows and the number of rows that are spare, both exact after each call. A
 //! push where a row is spare can't fail, and a release gives all that it releases back to the spare rows.
-//! It never lets go of memory before its end, never copies more than the row that is pushed, and never knows what a
-//! word stands for.
+//! It never lets go of memory before its end, never takes memory where a row is spare, and never knows what a word
+//! stands for.
 #![tactic(auto)]
 
 mod space;
