@@ -1,14 +1,7 @@
--- The limits of a table.
+-- The limits of a table, which are those of the whole product, and the size of a page.
 use Rattle.std.specs.Prelude.{ℕ}
+pub use Rattle.sql_values.specs.Limits.{max_rows, max_columns}
 
 -- how many words stand on a page
 abbrev pub page_words : ℕ
 page_words = 1024
-
--- the most rows of a table
-abbrev pub max_rows : ℕ
-max_rows = 4194304
-
--- the most columns of a table
-abbrev pub max_columns : ℕ
-max_columns = 32

@@ -7,24 +7,13 @@ ghost use Rattle.heap_pages.specs.Limits.{max_rows, max_columns};
 ghost use Rattle.heap_pages.specs.Refused.{KeepsRowLimit};
 ghost use Rattle.heap_pages.specs.Rows.{cut_rows, rows_per_page, pages_of, rows_on_page, row_number};
 
+use sql_values::MAX_ROWS;
 use std::alloc::{AllocError, Global};
 use std::marker::Model;
 use work_ledger::{Exhausted, Ledger, charge};
 
 /// How many words stand on a page.
 const PAGE_WORDS: usize = 1024;
-
-/// The most rows of a table.
-pub const MAX_ROWS: u64 = 4194304;
-
-/// The most columns of a table.
-pub const MAX_COLUMNS: usize = 32;
-
-/// Each constant is the limit that the definitions state.
-pub fn limits_are_as_stated()
-    ensures rows { MAX_ROWS ≡ max_rows }
-    ensures columns { MAX_COLUMNS ≡ max_columns }
-{}
 
 /// Why a heap took no rows.
 #[derive(Clone, Copy, Debug, PartialEq, Eq)]

@@ -6,7 +6,8 @@
 
 mod heap;
 
-pub use heap::{Heap, HeapFault, MAX_COLUMNS, MAX_ROWS, PageView, limits_are_as_stated};
+pub use heap::{Heap, HeapFault, PageView};
+pub use sql_values::{MAX_COLUMNS, MAX_ROWS};
 
 #[cfg(test)]
 mod tests {

@@ -1,6 +1,2 @@
--- The limits.
-use Rattle.std.specs.Prelude.{ℕ}
-
--- the most bytes of one file
-abbrev pub max_file_bytes : ℕ
-max_file_bytes = 268435456
+-- The limit of a file, which is one of those of the whole product.
+pub use Rattle.sql_values.specs.Limits.{max_file_bytes}

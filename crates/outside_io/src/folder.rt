@@ -6,10 +6,8 @@ ghost use Rattle.outside_io.specs.Files.{FolderState, IsReadAnswer, KeepsFileLim
 ghost use Rattle.outside_io.specs.Files.{KeepsOthers, OnlyReads, OnlyWrites, with_file};
 
 use crate::FileFault;
+use sql_values::MAX_FILE_BYTES;
 use std::alloc::Global;
-
-/// The most bytes of one file.
-pub const MAX_FILE_BYTES: u64 = 268435456;
 
 /// Refuses a file that is longer than the limit.
 pub(crate) fn check_len(len: u64) -> Result<(), FileFault>

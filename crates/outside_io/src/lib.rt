@@ -21,13 +21,14 @@ mod writer_sink;
 
 pub use dir_folder::DirFolder;
 pub use fault::{Failed, FileFault, PutFault};
-pub use folder::{Folder, MAX_FILE_BYTES};
+pub use folder::Folder;
 pub use memory_folder::MemoryFolder;
 pub use memory_sink::MemorySink;
 pub use memory_source::MemorySource;
 pub use reader_source::{ReaderSource, StdSource};
 pub use sink::Sink;
 pub use source::Source;
+pub use sql_values::MAX_FILE_BYTES;
 pub use writer_sink::{StdSink, WriterSink};
 
 #[cfg(test)]

@@ -1,16 +1,23 @@
 //! The values of SQL as every layer above passes them: texts, values, the columns of a table, and the operators that
-//! compare values.
+//! compare values. The limits of the whole product stand here too, under their names.
 //! It promises that a `Text` is exactly the bytes that it was made from, and that two of them are equal exactly where
 //! their bytes are.
 //! It never looks into the bytes of a `Text` (they need not be UTF-8), and only `Text::new` and `clone` take memory.
 #![tactic(auto)]
 
 mod column;
+mod limit;
 mod op;
 mod text;
 mod value;
 
 pub use column::{ColumnDef, ColumnType};
+pub use limit::{
+    DEFAULT_THRESHOLD, LimitName, MAX_AXES, MAX_COLUMNS, MAX_FILE_BYTES, MAX_LENGTH, MAX_LEVELS,
+    MAX_PLANS, MAX_POINTS, MAX_PRODUCT, MAX_PROJECTION, MAX_RELATIONS, MAX_ROWS, MAX_SCRIPT_BYTES,
+    MAX_TABLES, MAX_TEXT_BYTES, MAX_TEXTS, MAX_THRESHOLD, MAX_WORDS, MIN_LENGTH, MIN_LEVELS,
+    limits_are_as_stated,
+};
 pub use op::Op;
 pub use text::Text;
 pub use value::Value;
@@ -60,5 +67,12 @@ mod tests {
         );
         assert!(rt; Op::Lt != Op::Le);
         Ok(())
+    }
+
+    #[test]
+    fn a_limit_has_a_word_and_a_figure(rt: HostRuntime) {
+        assert_eq!(rt; LimitName::Rows.word(), "rows");
+        assert_eq!(rt; LimitName::TextBytes.word(), "textbytes");
+        assert_eq!(rt; MAX_PRODUCT, 1 << 100);
     }
 }
