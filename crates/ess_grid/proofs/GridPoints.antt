@@ -36,9 +36,9 @@ pub All-points_of : (grid : GridShape) → IsGrid grid → All (IsPoint grid) (p
 All-points_of grid is_grid =
     All-from_get_or (IsPoint grid) (points_of grid) []
     (λ i there.
-      let below : i < grid.levels ^ grid.axes = omega (arith, there, length-points_of grid) in
-      let is_point = IsPoint-levels_at grid i is_grid in
-      rw (among.get_or-points_among grid.levels grid.axes i (some_levels grid is_grid) below) is_point)
+    let below : i < grid.levels ^ grid.axes = omega (arith, there, length-points_of grid) in
+    let is_point = IsPoint-levels_at grid i is_grid in
+    rw (among.get_or-points_among grid.levels grid.axes i (some_levels grid is_grid) below) is_point)
 
 -- a point of the grid is at its place
 pub place_at-below : (grid : GridShape) (point : List ℕ) → IsPoint grid point → place_at grid.levels point < grid.levels ^ grid.axes

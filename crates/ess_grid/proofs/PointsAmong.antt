@@ -97,8 +97,8 @@ levels_at-place_at levels [] all = refl
 levels_at-place_at levels (level ∷ rest) all =
     let here : level < levels = all 0 level (omega arith) in
     λ i. mod-mul-add (place_at levels rest) levels level here i
-      ∷ (ap (levels_at levels (length rest)) (div-mul-add (place_at levels rest) levels level here)
-         ∙ levels_at-place_at levels rest (All-rest levels level rest all)) i
+    ∷ (ap (levels_at levels (length rest)) (div-mul-add (place_at levels rest) levels level here)
+    ∙ levels_at-place_at levels rest (All-rest levels level rest all)) i
 
 -- the place of a point is one of the grid's
 pub place_at-below : (levels : ℕ) (point : List ℕ) → All (λ level. level < levels) point → place_at levels point < levels ^ length point

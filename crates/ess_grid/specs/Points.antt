@@ -1,5 +1,5 @@
 -- A grid, and its points in order. A point is the list of its levels, that of axis 0 first.
-use Rattle.std.specs.Prelude.{◌≡◌, ℕ, zero, suc, ◌-◌, ◌^◌, ◌<◌, ◌≤◌, List, [], ◌∷◌, map, length, All, replicate}
+use Rattle.std.specs.Prelude.{◌≡◌, ℕ, zero, suc, ◌-◌, ◌^◌, ◌<◌, ◌≤◌, List, [], ◌∷◌, map, length, All, replicate, Option, slice_get}
 use Rattle.std.specs.List.{flat_map, range_with_len}
 use Rattle.sql_values.specs.Limits.{max_axes, min_levels, max_levels, max_points}
 
@@ -28,6 +28,10 @@ points_among levels (suc others) =
 
 abbrev pub points_of : GridShape → List (List ℕ)
 points_of grid = points_among grid.levels grid.axes
+
+-- the point at this place, from 0, if there is one
+abbrev pub point_at : GridShape → ℕ → Option (List ℕ)
+point_at grid place = slice_get (points_of grid) place
 
 -- the lowest level on every axis
 abbrev pub bottom_of : GridShape → List ℕ

@@ -1,8 +1,8 @@
 // The grid: its axes and levels, and two numbers that are worked out once. It never takes memory.
-ghost use Rattle.std.specs.Prelude.{◌≡◌, ◌↔◌, ◌+◌, ◌^◌, ◌<◌, ◌≤◌, ℕ, length, List, None, Some, Err, IsTrue, IsNone, IsOk, IfOk, IfSome, slice_get, slice_index, ◌⊎◌};
+ghost use Rattle.std.specs.Prelude.{◌≡◌, ◌↔◌, ◌+◌, ◌^◌, ◌<◌, ◌≤◌, ℕ, length, None, Some, Err, IsTrue, IsNone, IsOk, IfOk, IfSome, slice_index};
 ghost use Rattle.sql_values.specs.Limits.{max_axes};
-ghost use Rattle.ess_grid.specs.Levels.{default_levels, levels_of, step_of, halvings_of, selectivity_of, full_selectivity};
-ghost use Rattle.ess_grid.specs.Points.{IsGrid, IsPoint, points_of};
+ghost use Rattle.ess_grid.specs.Levels.{selectivity_bits, full_selectivity, default_levels, levels_of, halvings_of, selectivity_of};
+ghost use Rattle.ess_grid.specs.Points.{IsGrid, IsPoint, points_of, point_at};
 ghost use Rattle.ess_grid.specs.Order.{PointBelow, next_point};
 ghost use Rattle.ess_grid.specs.Refused.{HasBadLevels, HasTooManyPoints};
 
@@ -98,8 +98,7 @@ impl Grid {
 
     /// How many axes it has.
     pub fn axes(&self) -> usize
-        ensures axes { result ≡ self.now.axes }
-        ensures grid { IsGrid self.now }
+        ensures { result ≡ self.now.axes }
     {
         self.axes
     }
@@ -124,7 +123,7 @@ impl Grid {
     /// The point at this place, from 0. Axis 0 runs fastest.
     pub fn point(&self, i: usize) -> Point
         requires { i < length (points_of self.now) }
-        ensures point { slice_get (points_of self.now) i ≡ Some result }
+        ensures point { point_at self.now i ≡ Some result }
         ensures of_grid { IsPoint self.now result }
     {
         let mut levels = [0; MAX_AXES];
@@ -139,7 +138,7 @@ impl Grid {
     /// The place of a point, from 0.
     pub fn place_of(&self, p: &Point) -> usize
         requires { IsPoint self.now p.now }
-        ensures place { slice_get (points_of self.now) result ≡ Some p.now }
+        ensures place { point_at self.now result ≡ Some p.now }
         ensures there { result < length (points_of self.now) }
     {
         let levels = p.levels();
@@ -153,7 +152,8 @@ impl Grid {
     /// How often the whole is halved to come to the selectivity for which this level, from 0, stands.
     pub fn halvings(&self, level: u8) -> u32
         requires { level < self.now.levels }
-        ensures { result ≡ halvings_of self.now.levels level }
+        ensures halvings { result ≡ halvings_of self.now.levels level }
+        ensures few { result ≤ selectivity_bits }
     {
         self.step * (self.levels as u32 - 1 - u32::from(level))
     }
@@ -174,13 +174,8 @@ impl Grid {
         requires axis { axis < self.now.axes }
         ensures highest { IsNone result ↔ (slice_index p.now axis + 1 ≡ self.now.levels) }
         ensures next { IfSome result (λ next. next ≡ next_point p.now axis) }
-
-        // What the next point is to the point.
         ensures of_grid { IfSome result (IsPoint self.now) }
         ensures above { IfSome result (PointBelow p.now) }
-        ensures adjacent { IfSome result (λ next. (between : List ℕ) →
-            PointBelow p.now between → PointBelow between next →
-            (between ≡ p.now) ⊎ (between ≡ next)) }
     {
         let level = p.levels()[axis];
         if level as usize + 1 == self.levels {

@@ -8,9 +8,10 @@ use Rattle.ess_grid.proofs.grid.Grid.point.Goals as goal
 
 pub loop-axis-preserved : goal.loop-axis-preserved
 loop-axis-preserved c =
-    let loop = c.loop-axis in
-    (length-set loop.levels loop.axis _ ∙ loop.invariant.0,
-     levels_at-set _ _ loop.axis _ loop.rest loop.levels (omega arith) (omega (arith, loop.invariant.0)) loop.invariant.1)
+    let loop = c.loop-axis in (
+      length-set loop.levels loop.axis _ ∙ loop.invariant.0,
+      levels_at-set _ _ loop.axis _ loop.rest loop.levels (omega arith) (omega (arith, loop.invariant.0)) loop.invariant.1,
+    )
 
 pub returns-clause-point : goal.returns-clause-point
 returns-clause-point c =
@@ -18,7 +19,7 @@ returns-clause-point c =
     let loop = c.loop-axis in
     let all : grid.axes ≡ loop.axis = omega arith in
     let found : c.new.result ≡ levels_at grid.levels grid.axes c.args.i =
-      c.new.ensures ∙ ap (λ n. take n loop.levels) all ∙ levels_at-all grid.levels grid.axes loop.axis c.args.i loop.rest loop.levels (omega arith) loop.invariant.1 in
+    c.new.ensures ∙ ap (λ n. take n loop.levels) all ∙ levels_at-all grid.levels grid.axes loop.axis c.args.i loop.rest loop.levels (omega arith) loop.invariant.1 in
     let there : c.args.i < length (points_of grid) = subst (λ g. c.args.i < length (points_of g)) (sym c.self.view_is) c.requires in
     let below : c.args.i < grid.levels ^ grid.axes = omega (arith, there, length-points_of grid) in
     subst (λ g. slice_get (points_of g) c.args.i ≡ Some c.new.result) c.self.view_is
@@ -30,5 +31,5 @@ returns-clause-of_grid c =
     let loop = c.loop-axis in
     let all : grid.axes ≡ loop.axis = omega arith in
     let found : c.new.result ≡ levels_at grid.levels grid.axes c.args.i =
-      c.new.ensures ∙ ap (λ n. take n loop.levels) all ∙ levels_at-all grid.levels grid.axes loop.axis c.args.i loop.rest loop.levels (omega arith) loop.invariant.1 in
+    c.new.ensures ∙ ap (λ n. take n loop.levels) all ∙ levels_at-all grid.levels grid.axes loop.axis c.args.i loop.rest loop.levels (omega arith) loop.invariant.1 in
     subst (λ g. IsPoint g c.new.result) c.self.view_is (rw found (IsPoint-levels_at grid c.args.i c.self.invariant.is_grid))
