@@ -100,12 +100,25 @@ impl RowStack {
         if self.rows == self.room {
             self.grow()?;
         }
+        Ok(self.put(row))
+    }
+
+    // Puts a row at the end, where one is spare.
+    fn put(&mut self, row: &[i64]) -> u64
+        requires room { 0 < self.old.spare }
+        requires width { length row.now ≡ self.old.width }
+        ensures place { result ≡ length self.old.rows }
+        ensures rows { self.new.rows ≡ self.old.rows ++ row.now ∷ [] }
+        ensures width { self.new.width ≡ self.old.width }
+        ensures spare { self.new.spare + 1 ≡ self.old.spare }
+        ensures stack { IsRowStack self.new }
+    {
         let Ok(()) = self.words.extend_from_slice(row) else {
             unreachable!()
         };
         let place = self.rows;
         self.rows += 1;
-        Ok(place)
+        place
     }
 
     // Makes room for as many rows more as there are. It stands apart, so that what is inlined of a push stays small.
