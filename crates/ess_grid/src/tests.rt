@@ -46,6 +46,7 @@ fn grids_are_made_and_refused(rt: HostRuntime) -> Result<(), Fail> {
 #[test]
 fn axis_0_runs_fastest(rt: HostRuntime) -> Result<(), Fail> {
     let grid = Grid::new(2, Some(3))?;
+    assert_eq!(rt; grid.points(), 9);
     for (place, levels) in [
         (0, [0, 0]),
         (1, [1, 0]),
