@@ -1,9 +1,7 @@
 -- The order of points: it is a partial order, and nothing lies between a point and the next one on an axis.
-use Rattle.std.proofs.Common.{◌≡◌, ◌⊎◌, inl, inr, ℕ, zero, suc, ◌+◌, ◌-◌, ◌*◌, ◌<◌, ◌≤◌, List, [], ◌∷◌, length, get_or, refl, ap, sym, ◌∙◌, ⊎_elim, le_refl, arith, sum}
-use Rattle.std.specs.Prelude.{All, slice_index, slice_set}
-use Rattle.std.specs.List.{AllZip}
+use Rattle.std.proofs.Common.{◌≡◌, ◌⊎◌, inl, inr, ℕ, zero, suc, ◌+◌, ◌<◌, ◌≤◌, List, [], ◌∷◌, length, refl, ap, ⊎_elim, le_refl, arith}
+use Rattle.std.specs.Prelude.{slice_index}
 use Rattle.std.proofs.lemmas.Bool.{cases_lt}
-use Rattle.std.proofs.Common.{length-set}
 use Rattle.ess_grid.specs.Order.{PointBelow, next_point}
 
 -- a point has as many levels as one that it is below
@@ -73,3 +71,5 @@ next_point-adjacent (x ∷ xs) (suc axis) (y ∷ ys) above below =
     (λ rest. inl (λ i. same i ∷ rest i))
     (λ rest. inr (λ i. same i ∷ rest i))
     (next_point-adjacent xs axis ys above.1 below.1)
+
+pub ruleset of_order = (length-below, level-below, PointBelow-from_levels)

@@ -1,7 +1,7 @@
 -- Selectivities double from halving to halving, and grow from level to level.
-use Rattle.std.proofs.Common.{◌≡◌, ℕ, suc, ◌+◌, ◌-◌, ◌*◌, ◌/◌, ◌^◌, ◌<◌, ◌≤◌, refl, ap, sym, ◌∙◌, arith}
+use Rattle.std.proofs.Common.{◌≡◌, ℕ, ◌+◌, ◌-◌, ◌*◌, ◌^◌, ◌<◌, ◌≤◌, ap, sym, ◌∙◌, arith}
 use Rattle.std.proofs.lemmas.Nat.{pow_below, pow_pos, pow-add, le-div}
-use Rattle.std.proofs.Math.Nat.{div-mul-le_self, mul-le-mul_left, pow-le-pow_right, one-le-pow, mul_comm}
+use Rattle.std.proofs.Math.Nat.{div-mul-le_self, mul-le-mul_left, pow-le-pow_right}
 use Rattle.ess_grid.specs.Levels.{selectivity_bits, full_selectivity, step_of, halvings_of, selectivity_of}
 
 -- the whole isn't halved more often than it has bits

@@ -1,5 +1,5 @@
 -- The levels of an axis, and the selectivities for which they stand.
-use Rattle.std.specs.Prelude.{ℕ, ◌+◌, ◌-◌, ◌*◌, ◌/◌, ◌^◌, ◌==◌, nat_le, if◌then◌else◌, Option, unwrap_or}
+use Rattle.std.specs.Prelude.{ℕ, ◌-◌, ◌*◌, ◌/◌, ◌^◌, ◌==◌, nat_le, if◌then◌else◌, Option, unwrap_or}
 
 -- a selectivity is a number of parts of which 2^24 make the whole
 abbrev pub selectivity_bits : ℕ

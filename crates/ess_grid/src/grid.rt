@@ -78,10 +78,10 @@ impl Grid {
             (result ≡ Err (GridFault.TooManyPoints points)) ↔ HasTooManyPoints axes levels points }
         ensures default { levels ≡ None → IsOk result }
     {
-        if let Some(given) = levels {
-            if given < MIN_LEVELS || given > MAX_LEVELS {
-                return Err(GridFault::BadLevels { given });
-            }
+        if let Some(given) = levels
+            && !(MIN_LEVELS..=MAX_LEVELS).contains(&given)
+        {
+            return Err(GridFault::BadLevels { given });
         }
         let levels = levels.unwrap_or(levels_by_default(axes));
         let points = levels.pow(axes as u32);

@@ -1,5 +1,5 @@
 // A point: the levels of its axes in an array, so that it is copied and never takes memory.
-ghost use Rattle.std.specs.Prelude.{◌≡◌, ◌≤◌, ◌↔◌, ◌<◌, length, slice_set, IsTrue};
+ghost use Rattle.std.specs.Prelude.{◌≡◌, ◌≤◌, ◌↔◌, ◌<◌, length, slice_set, slice_index, EachIndex, IsTrue};
 ghost use Rattle.sql_values.specs.Limits.{max_axes};
 ghost use Rattle.ess_grid.specs.Order.{PointBelow};
 
@@ -39,9 +39,7 @@ impl Point {
         ensures { result ≡ levels.now }
     {
         let mut padded = [0; MAX_AXES];
-        for axis in 0..levels.len() {
-            padded[axis] = levels[axis];
-        }
+        padded[..levels.len()].copy_from_slice(levels);
         Point {
             axes: levels.len(),
             levels: padded,
@@ -70,19 +68,26 @@ impl Point {
     }
 }
 
+// Whether each level is at most the other one on its axis.
+fn is_at_most(levels: &[u8], others: &[u8]) -> bool
+    requires { length levels.now ≡ length others.now }
+    ensures { IsTrue result ↔ EachIndex levels.now
+        (λ axis. slice_index levels.now axis ≤ slice_index others.now axis) }
+{
+    for (level, higher) in levels.iter().zip(others) {
+        if level > higher {
+            return false;
+        }
+    }
+    true
+}
+
 /// Whether `point` is at most `other` on every axis. Points with different numbers of axes aren't below one another.
+#[tactic(auto, using(crate::proofs::PointOrder::of_order))]
 pub fn below(point: &Point, other: &Point) -> bool
     ensures { IsTrue result ↔ PointBelow point.now other.now }
 {
     let levels = point.levels();
     let others = other.levels();
-    if levels.len() != others.len() {
-        return false;
-    }
-    for axis in 0..levels.len() {
-        if levels[axis] > others[axis] {
-            return false;
-        }
-    }
-    true
+    levels.len() == others.len() && is_at_most(levels, others)
 }
