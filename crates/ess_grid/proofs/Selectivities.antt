@@ -2,6 +2,7 @@
 use Rattle.std.proofs.Common.{◌≡◌, ℕ, ◌+◌, ◌-◌, ◌*◌, ◌^◌, ◌<◌, ◌≤◌, ap, sym, ◌∙◌, arith}
 use Rattle.std.proofs.lemmas.Nat.{pow_below, pow_pos, pow-add, le-div}
 use Rattle.std.proofs.Math.Nat.{div-mul-le_self, mul-le-mul_left, pow-le-pow_right}
+use Rattle.sql_values.specs.Limits.{min_levels, max_levels}
 use Rattle.ess_grid.specs.Levels.{selectivity_bits, full_selectivity, step_of, halvings_of, selectivity_of}
 
 -- the whole isn't halved more often than it has bits
@@ -25,11 +26,11 @@ selectivity_of-le levels level =
     pow-le-pow_right (omega arith) fewer
 
 -- a level is halved once at least to come to the one below
-pub step_of-some : (levels : ℕ) → 2 ≤ levels → levels ≤ 25 → 1 ≤ step_of levels
+pub step_of-some : (levels : ℕ) → min_levels ≤ levels → levels ≤ max_levels → 1 ≤ step_of levels
 step_of-some levels some few = le-div 1 selectivity_bits (levels - 1) (omega arith) (omega arith)
 
 -- selectivities grow with the level
-pub selectivity_of-lt : (levels lower higher : ℕ) → 2 ≤ levels → levels ≤ 25 → lower < higher → higher < levels → selectivity_of levels lower < selectivity_of levels higher
+pub selectivity_of-lt : (levels lower higher : ℕ) → min_levels ≤ levels → levels ≤ max_levels → lower < higher → higher < levels → selectivity_of levels lower < selectivity_of levels higher
 selectivity_of-lt levels lower higher some few less there =
     let fewer : levels - 1 - higher + 1 ≤ levels - 1 - lower = omega arith in
     let product = mul-le-mul_left (step_of levels) fewer in

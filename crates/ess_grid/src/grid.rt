@@ -1,5 +1,5 @@
 // The grid: its axes and levels, and two numbers that are worked out once. It never takes memory.
-ghost use Rattle.std.specs.Prelude.{◌≡◌, ◌↔◌, ◌+◌, ◌^◌, ◌<◌, ◌≤◌, ℕ, length, None, Some, Err, IsTrue, IsNone, IsOk, IfOk, IfSome, slice_index};
+ghost use Rattle.std.specs.Prelude.{◌≡◌, ◌↔◌, ◌+◌, ◌^◌, ◌<◌, ◌≤◌, ℕ, length, None, Some, Err, IsNone, IsOk, IfOk, IfSome, slice_index};
 ghost use Rattle.sql_values.specs.Limits.{max_axes};
 ghost use Rattle.ess_grid.specs.Levels.{selectivity_bits, full_selectivity, default_levels, levels_of, halvings_of, selectivity_of};
 ghost use Rattle.ess_grid.specs.Points.{IsGrid, IsPoint, points_of, point_at};
@@ -34,7 +34,8 @@ impl Model for Grid {
 
     ghost view = { λ g. record { axes = g.axes; levels = g.levels } };
 
-    ghost invariant = { λ g. IsWorkedOut (record { axes = g.axes; levels = g.levels }) g.step g.points };
+    ghost invariant = { λ g.
+        IsWorkedOut (record { axes = g.axes; levels = g.levels }) g.step g.points };
 
     ghost inverse = { λ grid. record {
       axes = grid.axes;
