@@ -2,7 +2,7 @@
 use Rattle.std.proofs.Common.{◌≡◌, ℕ, zero, suc, ◌+◌, ◌<◌, ◌≤◌, Bool, true, false, List, [], ◌∷◌, ◌++◌, drop, length, length-drop, Option, Some, None, refl, sym, ap, ◌∙◌, arith, inl}
 use Rattle.std.specs.Prelude.{if◌then◌else◌, IsSome}
 use Rattle.csv.specs.Machine.{Read, step, is_end, ends_at_end, fields_after, field_after, next_record}
-use Rattle.csv.specs.Reading.{records_from, records_next, source_of, pending_of, NextIs, ReadsNext, ReadRecord, default_config, took_first, records, strip_bom, is_bom}
+use Rattle.csv.specs.Reading.{records_from, records_next, source_of, pending_of, NextIs, ReadsNext, ReadRecord, default_config, took_first, strip_bom, is_bom}
 use Rattle.csv.specs.declared.parser.Config.{Config}
 use Rattle.csv.specs.declared.parser.State.{State}
 use Rattle.csv.specs.declared.parser.State.TheVariants as st

@@ -1,17 +1,15 @@
 -- The faults and the value of a field.
-use Rattle.std.proofs.Common.{◌≡◌, ◌≢◌, ℕ, ◌≤◌, Bool, true, false, List, [], ◌∷◌, length, Option, Some, None, refl, arith}
+use Rattle.std.proofs.Common.{◌≡◌, ◌≢◌, ℕ, ◌≤◌, Bool, true, false, List, [], ◌∷◌, length, Some, None, refl, arith}
 use Rattle.std.specs.Prelude.{◌==◌, nat_lt, not}
 use Rattle.std.specs.Option.{option_or}
 use borrow.Author.Tests.{ne_eqb}
 use Rattle.std.proofs.lemmas.Bool.Decides.{nat_tests}
 use Rattle.std.specs.Str.{is_utf8}
 use Rattle.sql_values.specs.declared.value.Value.TheVariants as value
-use Rattle.sql_values.specs.declared.column.ColumnType.{ColumnType}
-use Rattle.sql_values.specs.declared.column.ColumnType.TheVariants.{Integer, Varchar}
+use Rattle.sql_values.specs.declared.column.ColumnType.TheVariants.{Varchar}
 use Rattle.sql_values.specs.declared.column.ColumnDef.{ColumnDef}
 use Rattle.sql_values.specs.Stored.{characters}
 use Rattle.csv_load.specs.declared.place.Place.{Place}
-use Rattle.csv_load.specs.declared.fault.LoadFault.{LoadFault}
 use Rattle.csv_load.specs.declared.fault.LoadFault.TheVariants.{NullInNotNull, NotUtf8, TooLong}
 use Rattle.csv_load.specs.Field.{field_fault, field_value, kind_value, fault_where, text_fault}
 

@@ -1,6 +1,6 @@
 -- The INTEGER of a text is its digits' number below its sign; such a text is UTF-8.
-use Rattle.std.proofs.Common.{◌≡◌, ◌≢◌, ℕ, ◌<◌, ◌≤◌, Bool, true, false, ◌&&◌, List, [], ◌∷◌, length, drop, get_or, Option, Some, None, refl, sym, ap, ◌∙◌, arith}
-use Rattle.std.specs.Prelude.{nat_le, nat_lt, not, ◌==◌, pos, neg_ℤ, ◌-ℤ◌, ℤ, if◌then◌else◌, cond}
+use Rattle.std.proofs.Common.{◌≡◌, ◌≢◌, ℕ, ◌<◌, ◌≤◌, Bool, true, false, ◌&&◌, List, [], ◌∷◌, length, drop, Some, None, refl, sym, ◌∙◌, arith}
+use Rattle.std.specs.Prelude.{nat_le, nat_lt, ◌==◌, pos, neg_ℤ, ◌-ℤ◌, cond}
 use Rattle.std.specs.Str.{IsAscii, is_utf8, all_ascii_digits}
 use Rattle.std.specs.Char.{is_ascii_digit}
 use Rattle.std.specs.Str.Parse.{digits_value, signed_digits_value, without_leading_sign, starts_with_minus}
@@ -8,14 +8,13 @@ use Rattle.std.proofs.lemmas.Str.{IsUtf8-from_ascii, is_utf8-from_IsUtf8}
 use Rattle.std.proofs.lemmas.Str.Ascii.{IsAscii-cons, IsAscii-nil}
 use Rattle.std.proofs.lemmas.Bool.Decides.{nat_tests}
 use Rattle.std.proofs.lemmas.Int.{ints}
-use borrow.Author.Tests.{lt-ltb, le-leb, eqb-true}
+use borrow.Author.Tests.{lt-ltb, eqb-true}
 use mir.Syntax.{w64}
 use mir.Val.{to_z, of_z}
 use Rattle.sql_values.specs.Words.{null_word}
 use Rattle.sql_values.specs.declared.column.ColumnType.{ColumnType}
 use Rattle.sql_values.specs.declared.column.ColumnType.TheVariants.{Integer}
 use Rattle.csv_load.specs.declared.place.Place.{Place}
-use Rattle.csv_load.specs.declared.fault.LoadFault.{LoadFault}
 use Rattle.csv_load.specs.declared.fault.LoadFault.TheVariants.{NotUtf8, NotInteger, OutOfRange}
 use Rattle.csv_load.specs.Field.{greatest_integer, are_digits, text_fault}
 

@@ -1,14 +1,12 @@
 -- Rows read one by one, and where the first fault is.
 use Rattle.std.proofs.Common.{◌≡◌, ◌≢◌, ℕ, zero, suc, ◌+◌, ◌<◌, ◌≤◌, Bool, true, false, List, [], ◌∷◌, ◌++◌, map, length, drop, get_or, Option, Some, None, refl, sym, ap, ◌∙◌, arith, append_assoc, append-nil}
-use Rattle.std.specs.Prelude.{◌==◌, if◌then◌else◌, slice_get}
-use Rattle.std.specs.List.{zip, enumerate_from, filter_map}
+use Rattle.std.specs.List.{zip, enumerate_from}
 use Rattle.std.proofs.lemmas.List.{drop_more, drop_all}
 use borrow.Author.Tests.{eq-eqb, ne_eqb}
 use Rattle.csv.specs.Records.{field_at}
 use Rattle.sql_values.specs.declared.column.ColumnDef.{ColumnDef}
 use Rattle.sql_values.specs.Stored.{ValueRow}
 use Rattle.db_catalog.specs.Batch.{BatchState, with_row_ended}
-use Rattle.csv_load.specs.declared.place.Place.{Place}
 use Rattle.csv_load.specs.declared.fault.LoadFault.{LoadFault}
 use Rattle.csv_load.specs.declared.fault.LoadFault.TheVariants.{FieldCount}
 use Rattle.csv_load.specs.Field.{field_fault, field_value}

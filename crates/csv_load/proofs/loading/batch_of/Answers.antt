@@ -1,5 +1,4 @@
-use Rattle.std.proofs.Common.{◌≡◌, ◌∷◌, length, sym, ap, ◌∙◌, rules, true, arith}
-use Rattle.csv.specs.Records.{fields_of}
+use Rattle.std.proofs.Common.{◌≡◌, length, sym, ap, ◌∙◌, rules, true, arith}
 use Rattle.csv_load.proofs.EntryReads.{length-entries_of}
 use Rattle.csv_load.proofs.loading.batch_of.Goals as goal
 

@@ -1,4 +1,4 @@
-use Rattle.std.proofs.Common.{◌≡◌, ◌≢◌, ◌+◌, ◌≤◌, ◌∷◌, [], ◌++◌, drop, length, length-append, Some, Ok, Err, refl, sym, ap, ◌∙◌, append_assoc, append-nil, arith, rules}
+use Rattle.std.proofs.Common.{◌≡◌, ◌≢◌, ◌+◌, ◌≤◌, ◌∷◌, [], ◌++◌, drop, length, length-append, Some, sym, ap, ◌∙◌, append_assoc, append-nil, arith, rules}
 use Rattle.csv.specs.Records.{fields_of}
 use Rattle.csv_load.specs.declared.fault.LoadFault.TheVariants.{NoMemory}
 use Rattle.csv_load.specs.Field.{field_value}
