@@ -1,21 +1,19 @@
 -- The codes of rows' texts, and the words that stand for the same values over sorted texts.
-use Rattle.std.proofs.Common.{All, Contains, ◌≡◌, ◌≢◌, ℕ, zero, suc, ℤ, pos, negsuc, ◌+◌, ◌-◌, ◌<◌, ◌≤◌, ◌≤ℤ◌, Bool, true, false, true≢false, cond, List, [], ◌∷◌, ◌++◌, length, get_or, map, flat_map, take, sum_by, slice_get, option_map, unwrap_or, Some, None, Ok, Err, Result, IsSome, IfSome, Option, IsSorted, IsPermutation, MatchResult, inl, inr, refl, sym, ap, ◌∙◌, subst, arith, append_assoc, append-nil, length-append, add-one}
+use Rattle.std.proofs.Common.{All, Contains, ◌≡◌, ◌≢◌, ℕ, zero, suc, ℤ, pos, negsuc, ◌+◌, ◌<◌, true, false, true≢false, cond, List, [], ◌∷◌, ◌++◌, length, get_or, map, flat_map, take, slice_get, option_map, unwrap_or, Some, None, Ok, Err, Result, IsSome, IfSome, Option, IsSorted, MatchResult, inl, inr, refl, sym, ap, ◌∙◌, subst, arith, append_assoc, append-nil, add-one}
 use Rattle.std.proofs.lemmas.Bool.{cases_lt}
 use Rattle.std.proofs.lemmas.Bool.Decides.{Decides-int_eq}
-use Rattle.std.proofs.lemmas.Int.{ints}
-use Rattle.std.proofs.lemmas.List.{get_or_default, get_or-map, length-map, take_more}
-use Rattle.std.proofs.lemmas.List.Elements.{All-nil, All-cons, All-head, All-tail, All-append, All-contains, Contains-append_left, Contains-append_right, Contains-append_cases}
+use Rattle.std.proofs.lemmas.List.{get_or_default, get_or-map, length-map}
+use Rattle.std.proofs.lemmas.List.Elements.{All-nil, All-cons, All-head, All-tail, All-append, All-contains, Contains-append_left, Contains-append_right}
 use Rattle.std.proofs.lemmas.List.Sorted.{searchable_from_sorted}
 use Rattle.std.proofs.lemmas.Option.{slice_get_within, slice_get-get_or}
 use Rattle.std.specs.List.{AllZip}
 use Rattle.std.specs.List.Sorted.{IsBinarySearchResult}
-use Rattle.std.specs.Cmp.{int_cmp_is, int_cmp_total, int_ranks, tied_itself}
+use Rattle.std.specs.Cmp.{int_cmp_total, int_ranks, tied_itself}
 use Rattle.std.specs.Cmp.Lexicographic.{slice_cmp}
 use Rattle.std.proofs.lemmas.Cmp.{nat_list_cmp_total}
-use Rattle.std.specs.Ordering.{MatchOrdering, int_cmp, int_eq, nat_cmp, is_gt, is_lt, ordering_then, ordering_reverse}
+use Rattle.std.specs.Ordering.{int_cmp, int_eq, nat_cmp, is_gt, is_lt, ordering_then, ordering_reverse}
 use Rattle.std.specs.declared.cmp.Ordering.{Ordering}
 use Rattle.std.specs.declared.cmp.Ordering.TheVariants.{Less, Equal, Greater}
-use Rattle.sql_values.specs.declared.value.Value.{Value}
 use Rattle.sql_values.specs.declared.value.Value.TheVariants as value
 use Rattle.sql_values.specs.declared.column.ColumnType.{ColumnType}
 use Rattle.sql_values.specs.declared.column.ColumnType.TheVariants.{Integer, Varchar}
@@ -25,7 +23,7 @@ use Rattle.result_text.specs.declared.places.CodedText.{CodedText}
 use Rattle.result_text.specs.declared.places.Placed.{Placed}
 use Rattle.result_text.specs.Lists.{last_of}
 use Rattle.result_text.specs.Placing.{text_code, text_codes, IsCodedText, HasPlace, IsPlaced, placed_cmp, codes_of, HavePlaces, IsPlacedWord, IsPlacedRow}
-use Rattle.result_text.specs.Rows.{WordRow, values_of, AreWordsOf, words_of}
+use Rattle.result_text.specs.Rows.{WordRow, values_of, AreWordsOf}
 use Rattle.result_text.proofs.Ascent.{last_of-take}
 use Rattle.result_text.proofs.Ranks.{value_cases}
 

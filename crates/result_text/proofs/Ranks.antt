@@ -1,5 +1,5 @@
 -- Rows of words compare as their values do: where each column's words do, or where the first columns tell them apart.
-use Rattle.std.proofs.Common.{All, ◌≡◌, ◌≢◌, ℕ, ℤ, zero, suc, ◌+◌, ◌<◌, ◌≤ℤ◌, ◌<ℤ◌, pos, negsuc, cond, true, false, true≢false, List, [], ◌∷◌, length, get_or, map, take, unwrap_or, refl, sym, ap, ◌∙◌, subst, arith}
+use Rattle.std.proofs.Common.{All, ◌≡◌, ◌≢◌, ℕ, ℤ, zero, suc, ◌<◌, ◌≤ℤ◌, ◌<ℤ◌, pos, negsuc, cond, true, false, true≢false, List, [], ◌∷◌, length, get_or, take, refl, sym, ap, ◌∙◌, subst, arith}
 use Rattle.std.proofs.lemmas.Bool.Decides.{Decides-int_eq}
 use Rattle.std.proofs.lemmas.Int.{ints}
 use Rattle.std.proofs.lemmas.List.Elements.{All-head, All-tail}
@@ -8,14 +8,13 @@ use Rattle.std.specs.Cmp.{int_cmp_is, int_ranks, tied_itself}
 use Rattle.std.specs.Cmp.Lexicographic.{slice_cmp}
 use Rattle.std.proofs.lemmas.Cmp.{nat_list_cmp_total}
 use Rattle.std.specs.Ordering.{MatchOrdering, nat_cmp, int_cmp, int_eq, ordering_then, ordering_reverse}
-use Rattle.std.specs.declared.cmp.Ordering.{Ordering}
 use Rattle.std.specs.declared.cmp.Ordering.TheVariants.{Less, Equal, Greater}
 use Rattle.sql_values.specs.declared.value.Value.{Value}
 use Rattle.sql_values.specs.declared.value.Value.TheVariants as value
 use Rattle.sql_values.specs.declared.column.ColumnType.{ColumnType}
 use Rattle.sql_values.specs.declared.column.ColumnType.TheVariants.{Integer, Varchar}
 use Rattle.sql_values.specs.Order.{value_cmp}
-use Rattle.sql_values.specs.Words.{null_word, value_of, meaning_of, IsTextWord, IsWord}
+use Rattle.sql_values.specs.Words.{null_word, value_of, meaning_of, IsTextWord}
 use Rattle.result_text.specs.Order.{row_cmp, word_row_cmp}
 use Rattle.result_text.specs.Ranks.{AreAscending, Ranks}
 use Rattle.result_text.specs.Rows.{WordRow, values_of, AreWordsOf, AreNumbers}

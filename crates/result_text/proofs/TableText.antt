@@ -1,5 +1,5 @@
 -- Rows sorted by their words are their values in order, where words compare as values do.
-use Rattle.std.proofs.Common.{All, ◌≡◌, ◌≢◌, ℕ, zero, suc, ◌+◌, ◌<◌, ◌≤◌, false, List, [], ◌∷◌, ◌++◌, length, get_or, map, flat_map, take, drop, sum_by, IsPermutation, IsSorted, refl, sym, ap, ◌∙◌, subst, arith, append_assoc, length-append}
+use Rattle.std.proofs.Common.{All, ◌≡◌, ◌≢◌, ℕ, ◌+◌, ◌<◌, List, [], ◌∷◌, ◌++◌, length, get_or, map, flat_map, take, drop, sum_by, IsPermutation, IsSorted, refl, sym, ap, ◌∙◌, subst, arith, length-append}
 use Rattle.std.proofs.Math.Seq.{take-append_seam, drop-append_seam}
 use Rattle.std.proofs.lemmas.List.{get_or-map, length-map}
 use Rattle.std.proofs.lemmas.List.Elements.{All-get_or, All-weaker}
@@ -10,7 +10,6 @@ use Rattle.std.specs.Ordering.{is_lt}
 use Rattle.csv.specs.Writing.{row_text, default_writer}
 use Rattle.sql_values.specs.declared.column.ColumnType.{ColumnType}
 use Rattle.sql_values.specs.declared.column.ColumnType.TheVariants.{Integer}
-use Rattle.sql_values.specs.Stored.{ValueRow}
 use Rattle.result_text.specs.Order.{row_cmp, word_row_cmp, in_order}
 use Rattle.result_text.specs.Printed.{record_of, records_of, table_text}
 use Rattle.result_text.specs.Ranks.{Ranks}
@@ -48,7 +47,7 @@ module _ (texts : List (List ℕ)) (kinds : List ColumnType) where
       ap (λ l. row_text default_writer names ++ l) (sym (flat_map-of_map record_of values sorted) ∙ ap (flat_map record_of) order)
 
   module _ (names : List (List ℕ)) (rows sorted : List WordRow) (moved : IsPermutation rows sorted) (up : IsSorted word_row_cmp sorted)
-    (are : All (AreWordsOf texts kinds) rows) (low : All AreNumbers rows) where
+      (are : All (AreWordsOf texts kinds) rows) (low : All AreNumbers rows) where
     are' : All (AreWordsOf texts kinds) sorted
     are' = All-permutation (AreWordsOf texts kinds) rows sorted moved are
 
@@ -59,21 +58,21 @@ module _ (texts : List (List ℕ)) (kinds : List ColumnType) where
     pub text_where_ranked : All (Ranks texts) kinds → row_text default_writer names ++ records_of texts kinds sorted ≡ table_text names (map (values_of texts kinds) rows)
     text_where_ranked ranks =
         in_turn names rows sorted moved up (λ k d below.
-          let first : k < length sorted = omega arith in
-          rows_rank texts kinds ranks (get_or sorted (k + 1) d) (get_or sorted k d)
-          (All-get_or (AreWordsOf texts kinds) sorted (k + 1) d below are') (All-get_or (AreWordsOf texts kinds) sorted k d first are')
-          (All-get_or AreNumbers sorted (k + 1) d below low') (All-get_or AreNumbers sorted k d first low'))
+        let first : k < length sorted = omega arith in
+        rows_rank texts kinds ranks (get_or sorted (k + 1) d) (get_or sorted k d)
+        (All-get_or (AreWordsOf texts kinds) sorted (k + 1) d below are') (All-get_or (AreWordsOf texts kinds) sorted k d first are')
+        (All-get_or AreNumbers sorted (k + 1) d below low') (All-get_or AreNumbers sorted k d first low'))
 
     -- where the first columns, which are INTEGER, tell each row from the one after it
     pub text_where_decided : (count : ℕ) → All (λ kind. kind ≡ Integer) (take count kinds) → AllAdjacentBelow (λ x y. take count x ≢ take count y) sorted (length sorted) →
         row_text default_writer names ++ records_of texts kinds sorted ≡ table_text names (map (values_of texts kinds) rows)
     text_where_decided count integers differ =
         in_turn names rows sorted moved up (λ k d below.
-          let first : k < length sorted = omega arith in
-          first_columns_rank texts kinds count (λ i e inside. Ranks-integer texts (get_or (take count kinds) i e) (integers i e inside)) (get_or sorted (k + 1) d) (get_or sorted k d)
-          (All-get_or (AreWordsOf texts kinds) sorted (k + 1) d below are') (All-get_or (AreWordsOf texts kinds) sorted k d first are')
-          (All-get_or AreNumbers sorted (k + 1) d below low') (All-get_or AreNumbers sorted k d first low')
-          (λ same. differ k d below (sym same)))
+        let first : k < length sorted = omega arith in
+        first_columns_rank texts kinds count (λ i e inside. Ranks-integer texts (get_or (take count kinds) i e) (integers i e inside)) (get_or sorted (k + 1) d) (get_or sorted k d)
+        (All-get_or (AreWordsOf texts kinds) sorted (k + 1) d below are') (All-get_or (AreWordsOf texts kinds) sorted k d first are')
+        (All-get_or AreNumbers sorted (k + 1) d below low') (All-get_or AreNumbers sorted k d first low')
+        (λ same. differ k d below (sym same)))
 
 head_same : (a b : WordRow) (xs ys : List ℕ) → length a ∷ xs ≡ length b ∷ ys → (length a ≡ length b) × (xs ≡ ys)
 head_same a b xs ys same = (cc, cc)

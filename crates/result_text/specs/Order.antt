@@ -1,5 +1,5 @@
 -- Rows in ascending order: the leftmost column first, and in it NULL, then numbers by value, then texts by their bytes.
-use Rattle.std.specs.Prelude.{ℤ, List, [], ◌∷◌, if◌then◌else◌}
+use Rattle.std.specs.Prelude.{List, [], ◌∷◌, if◌then◌else◌}
 use Rattle.std.specs.declared.cmp.Ordering.{Ordering}
 use Rattle.std.specs.Ordering.{int_cmp, is_gt}
 use Rattle.std.specs.Cmp.Lexicographic.{slice_cmp}

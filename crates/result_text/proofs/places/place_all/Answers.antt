@@ -1,4 +1,4 @@
-use Rattle.std.proofs.Common.{◌≡◌, ◌++◌, ◌∷◌, [], ◌<◌, ◌∙◌, IfSome, Some, List, ℕ, ap, false, length, get_or, option_map, subst, sym, take, to_z, of_z, w64, arith}
+use Rattle.std.proofs.Common.{◌≡◌, ◌<◌, ◌∙◌, IfSome, Some, List, ℕ, ap, false, length, get_or, option_map, subst, sym, take, to_z, of_z, w64, arith}
 use Rattle.std.proofs.lemmas.Int.{to_z-of_z}
 use Rattle.std.proofs.lemmas.List.{take_more}
 use Rattle.std.specs.Cmp.Lexicographic.{slice_cmp}
@@ -35,8 +35,8 @@ loop-one-preserved c =
     record {
       ascending = c.in_ok-place.ensures.ascending;
       placed =
-        rw (take_more coded at one below, c.in_ok-push.ensures.items)
-        (AllZip-more (HasPlace new) (take at coded) c.loop-one.placed.items (get_or coded at one) _
+          rw (take_more coded at one below, c.in_ok-push.ensures.items)
+          (AllZip-more (HasPlace new) (take at coded) c.loop-one.placed.items (get_or coded at one) _
           (AllZip-weaker (HasPlace old) (HasPlace new) (λ a b h. (h.0, text_of-Begins old new c.in_ok-place.ensures.begins b.place a.text h.1)) (take at coded) c.loop-one.placed.items c.loop-one.invariant.placed)
           (same ∙ ap (λ (o : CodedText). o.code) c.one-item.is, rw same' (c.in_ok-place.ensures.place ∙ ap Some (sym text))));
       last = c.in_ok-place.ensures.last ∙ ap Some (sym text) ∙ sym (ap (option_map (λ (o : CodedText). o.text)) (last_of-take coded at one below));

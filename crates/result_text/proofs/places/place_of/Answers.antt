@@ -1,4 +1,4 @@
-use Rattle.std.proofs.Common.{rules, ◌≡◌, ◌∙◌, Ok, Err, ap, arith, get_or, pos, subst, sym, to_z, of_z, w64, ℤ, Contains}
+use Rattle.std.proofs.Common.{rules, ◌≡◌, Ok, Err, arith, get_or, pos, subst, sym, to_z, of_z, w64, ℤ, Contains}
 use Rattle.std.proofs.lemmas.Int.{to_z-of_z}
 use Rattle.std.proofs.lemmas.List.Sorted.{answers_always}
 use Rattle.result_text.specs.declared.places.Placed.{Placed}

@@ -1,4 +1,4 @@
-use Rattle.std.proofs.Common.{All, Contains, ◌≡◌, ◌∙◌, ℤ, List, IsSome, length, map, flat_map, subst, sym, arith}
+use Rattle.std.proofs.Common.{All, Contains, ◌≡◌, ◌∙◌, ℤ, IsSome, length, map, subst, sym}
 use Rattle.std.proofs.lemmas.Bool.Decides.{Decides-int_eq}
 use Rattle.std.proofs.lemmas.Cmp.{int_eq_equiv}
 use Rattle.std.proofs.lemmas.List.Elements.{All-weaker}
@@ -9,7 +9,7 @@ use Rattle.sql_values.specs.Dictionary.{text_of}
 use Rattle.sql_values.specs.Words.{IsWord}
 use Rattle.result_text.specs.declared.places.CodedText.{CodedText}
 use Rattle.result_text.specs.declared.places.Placed.{Placed}
-use Rattle.result_text.specs.Placing.{codes_of, text_codes, IsCodedText, IsPlaced}
+use Rattle.result_text.specs.Placing.{IsCodedText, IsPlaced}
 use Rattle.result_text.specs.Rows.{WordRow, AreWordsOf}
 use Rattle.result_text.proofs.Placing.{codes_of-placed, HasText-rows, HavePlaces-rows, IsPlaced-placed}
 use Rattle.result_text.proofs.Zips.{length-AllZip}
@@ -42,10 +42,10 @@ returns-clause-all c =
     let code_of = λ (one : CodedText). one.code in
     let code_of' = λ (one : Placed). one.code in
     HavePlaces-rows _ kinds rows (λ code there.
-      let collected = subst (λ l. Contains l code) (sym c.in_ok-codes.ensures) there in
-      let sorted = Contains-permutation _ _ code c.sort_unstable.ensures.permutation collected in
-      let once = Contains-dedup int_eq_equiv (λ x y e. (Decides-int_eq x y).0 e) _ code sorted in
-      let lent = subst (λ l. Contains l code) (sym (c.in_ok-coded.ensures.codes ∙ c.deref.ensures.value ∙ dedup_is _ _ _ c.dedup.ensures.filtered)) once in
-      let by_text = Contains-permutation _ _ code (IsPermutation-map code_of _ _ c.sort_unstable-2.ensures.permutation) lent in
-      let placed = subst (λ l. Contains l code) (sym (codes_of-placed c.in_ok-places.places.texts _ _ c.in_ok-places.ensures.placed)) (subst (λ l. Contains (map code_of l) code) (sym c.deref-2.ensures.value) by_text) in
-      Contains-permutation _ _ code (IsPermutation-map code_of' _ _ c.sort_unstable-3.ensures.permutation) placed)
+    let collected = subst (λ l. Contains l code) (sym c.in_ok-codes.ensures) there in
+    let sorted = Contains-permutation _ _ code c.sort_unstable.ensures.permutation collected in
+    let once = Contains-dedup int_eq_equiv (λ x y e. (Decides-int_eq x y).0 e) _ code sorted in
+    let lent = subst (λ l. Contains l code) (sym (c.in_ok-coded.ensures.codes ∙ c.deref.ensures.value ∙ dedup_is _ _ _ c.dedup.ensures.filtered)) once in
+    let by_text = Contains-permutation _ _ code (IsPermutation-map code_of _ _ c.sort_unstable-2.ensures.permutation) lent in
+    let placed = subst (λ l. Contains l code) (sym (codes_of-placed c.in_ok-places.places.texts _ _ c.in_ok-places.ensures.placed)) (subst (λ l. Contains (map code_of l) code) (sym c.deref-2.ensures.value) by_text) in
+    Contains-permutation _ _ code (IsPermutation-map code_of' _ _ c.sort_unstable-3.ensures.permutation) placed)

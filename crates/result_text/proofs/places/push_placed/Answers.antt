@@ -1,7 +1,6 @@
-use Rattle.std.proofs.Common.{◌≡◌, ◌++◌, ◌∷◌, [], ◌<◌, ◌∙◌, ap, add-one, append_assoc, length, get_or, take, w64, to_z, of_z, pos, arith}
+use Rattle.std.proofs.Common.{◌≡◌, ◌++◌, ◌∷◌, [], ◌<◌, ◌∙◌, ap, add-one, append_assoc, length, get_or, w64, to_z, of_z, pos, arith}
 use Rattle.std.proofs.lemmas.Int.{to_z-of_z}
 use Rattle.sql_values.specs.declared.column.ColumnType.TheVariants.{Integer}
-use Rattle.result_text.specs.Placing.{IsPlacedRow, IsPlacedWord}
 use Rattle.result_text.proofs.Placing.{Contains-text_codes, IsPlacedRow-more}
 use Rattle.result_text.proofs.places.push_placed.Goals as goal
 

@@ -1,11 +1,9 @@
-use Rattle.std.proofs.Common.{◌≡◌, ◌<◌, ◌+◌, suc, add-one, map, take, length, get_or, w64, to_z, of_z, pos, arith}
+use Rattle.std.proofs.Common.{◌≡◌, ◌<◌, add-one, take, length, get_or, w64, to_z, of_z, pos, arith}
 use Rattle.std.proofs.lemmas.Int.{to_z-of_z}
 use Rattle.std.proofs.lemmas.List.{map-append, take_all}
 use Rattle.std.proofs.lemmas.Result.{on_ok_weaker}
 use Rattle.sql_values.specs.declared.column.ColumnType.TheVariants.{Integer}
-use Rattle.sql_values.specs.Words.{IsWord, value_of}
-use Rattle.result_text.specs.Printed.{field_of}
-use Rattle.result_text.specs.Rows.{values_of}
+use Rattle.sql_values.specs.Words.{IsWord}
 use Rattle.result_text.proofs.TextWriter.{writes_more, writes_record}
 use Rattle.result_text.proofs.Values.{values_of-more}
 use Rattle.result_text.proofs.Zips.{length-AllZip, AllZip-at}

@@ -1,4 +1,4 @@
-use Rattle.std.proofs.Common.{arith, subst, ◌∙◌, sym, ap}
+use Rattle.std.proofs.Common.{arith, subst, ◌∙◌}
 use Rattle.std.proofs.lemmas.List.Elements.{All-more}
 use Rattle.result_text.specs.Rows.{AreNumbers}
 use Rattle.result_text.proofs.sort.rows_are_numbers.Goals as goal

@@ -1,4 +1,4 @@
-use Rattle.std.proofs.Common.{pos, arith, rules, get_or, ◌≤ℤ◌, to_z, of_z, w64}
+use Rattle.std.proofs.Common.{pos, arith, get_or, ◌≤ℤ◌}
 use Rattle.std.proofs.lemmas.Int.{ints}
 use Rattle.std.proofs.lemmas.List.Elements.{All-more}
 use Rattle.sql_values.specs.Words.{null_word}

@@ -1,4 +1,4 @@
-use Rattle.std.proofs.Common.{All, ◌≡◌, ◌∙◌, IfOk, List, ℕ, ap, length, map, subst, sym}
+use Rattle.std.proofs.Common.{All, ◌≡◌, ◌∙◌, IfOk, List, ap, length, map, subst, sym}
 use Rattle.std.proofs.lemmas.List.Elements.{All-weaker}
 use Rattle.sql_values.specs.Stored.{ValueRow}
 use Rattle.sql_values.specs.Words.{IsWord}

@@ -1,4 +1,4 @@
-use Rattle.std.proofs.Common.{All, ◌≡◌, ◌≤◌, ◌∙◌, ◌++◌, List, ℕ, ap, length, subst, sym, take, ◌≢◌}
+use Rattle.std.proofs.Common.{All, ◌≤◌, ◌∙◌, ◌++◌, List, ap, length, subst, sym, take, ◌≢◌}
 use Rattle.std.specs.List.{AllAdjacentBelow}
 use Rattle.std.proofs.lemmas.List.Elements.{All-weaker}
 use Rattle.std.proofs.lemmas.List.Sorted.{All-permutation}
@@ -18,7 +18,7 @@ neighbours_differ-requires c =
     let wide = λ (row : WordRow). c.args.count ≤ length row in
     subst (All wide) (sym c.deref.ensures.value)
     (All-permutation wide _ _ c.in_ok-sorted.ensures.permutation
-      (All-weaker are wide (λ row h. subst (λ n. c.args.count ≤ n) (length-AllZip (IsWord texts) kinds row h) c.requires.inside) _ c.requires.words))
+    (All-weaker are wide (λ row h. subst (λ n. c.args.count ≤ n) (length-AllZip (IsWord texts) kinds row h) c.requires.inside) _ c.requires.words))
 
 pub text_in_turn-requires : goal.text_in_turn-requires
 text_in_turn-requires c =

@@ -1,4 +1,4 @@
-use Rattle.std.proofs.Common.{◌≡◌, ◌++◌, ◌∷◌, [], ◌∙◌, Some, List, ℕ, ap, sym, arith, subst, to_z, of_z, w64, true≢false}
+use Rattle.std.proofs.Common.{◌≡◌, ◌++◌, ◌∷◌, [], ◌∙◌, Some, ap, sym, arith, subst, to_z, of_z, w64, true≢false}
 use Rattle.std.proofs.lemmas.Int.{to_z-of_z}
 use Rattle.result_text.specs.Lists.{last_of}
 use Rattle.result_text.specs.Ranks.{AreAscending}
