@@ -1,5 +1,5 @@
 -- A set of vectors of bytes, read as a list of texts; and what becomes of the codes of texts where more come.
-use Rattle.std.proofs.Common.{◌≡◌, ℕ, zero, suc, ◌+◌, ◌<◌, ◌≤◌, Bool, true, false, not, cond, ◌||◌, List, [], ◌∷◌, ◌++◌, length, map, take, Option, Some, None, option_map, ℤ, pos, refl, sym, ap, subst, ◌∙◌, true≢false, arith, length-append, position, Vec, if◌then◌else◌, nat_lt, add-zero, append-nil, lt-ltb, le-ltb, Global, append_assoc}
+use Rattle.std.proofs.Common.{◌≡◌, ℕ, zero, suc, ◌+◌, ◌<◌, ◌≤◌, Bool, true, false, not, cond, ◌||◌, List, [], ◌∷◌, ◌++◌, length, map, take, Option, Some, None, option_map, ℤ, pos, refl, sym, ap, ◌∙◌, true≢false, arith, length-append, position, Vec, if◌then◌else◌, nat_lt, add-zero, append-nil, lt-ltb, le-ltb, Global, append_assoc}
 use Rattle.std.specs.List.{list_any, position_or_len, IsDistinct, AllByRecursion}
 use Rattle.std.specs.Str.{bytes_eq}
 use Rattle.std.proofs.lemmas.List.{length-map, map-append}

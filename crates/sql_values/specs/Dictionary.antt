@@ -1,6 +1,6 @@
 -- A dictionary: a list of different texts. The code of a text is its place, from 0.
 use Rattle.std.specs.Prelude.{◌≡◌, ℕ, Bool, ℤ, pos, negsuc, List, [], ◌∷◌, ◌++◌, fold, Option, None, option_map, slice_get, position, if◌then◌else◌}
-use Rattle.std.specs.List.{list_any, position_or_len}
+use Rattle.std.specs.List.{list_any}
 use Rattle.std.specs.Str.{bytes_eq}
 
 -- whether the text is in the list

@@ -1,5 +1,5 @@
 -- A stored table, over plain data: columns, rows of values, and the words that stand for them.
-use Rattle.std.specs.Prelude.{◌≡◌, ◌≢◌, ℕ, ◌≤◌, Bool, false, not, ◌&&◌, nat_le, ℤ, List, [], ◌∷◌, map, count_by, Option, Some, None, slice_index_or}
+use Rattle.std.specs.Prelude.{◌≡◌, ◌≢◌, ℕ, ◌≤◌, false, not, ◌&&◌, nat_le, ℤ, List, [], ◌∷◌, map, count_by, Option, Some, None}
 use Rattle.std.specs.List.{AllZip, filter_map, flat_map}
 use Rattle.sql_values.specs.declared.value.Value.{Value}
 use Rattle.sql_values.specs.declared.value.Value.TheVariants as value

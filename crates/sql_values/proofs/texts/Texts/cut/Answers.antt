@@ -1,4 +1,4 @@
-use Rattle.std.proofs.Common.{◌≡◌, ◌∙◌, sym, ap, take}
+use Rattle.std.proofs.Common.{◌∙◌, ap, take}
 use Rattle.sql_values.proofs.Dictionary.{texts_of, texts_of-take}
 use Rattle.sql_values.proofs.texts.Texts.cut.Goals as goal
 
