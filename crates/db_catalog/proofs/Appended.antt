@@ -1,6 +1,6 @@
 -- A database after an append: the tables that are there mean the same, and one has more rows.
-use Rattle.std.proofs.Common.{◌≡◌, ◌∙◌, ℕ, zero, suc, ◌+◌, ◌<◌, ◌≤◌, ◌*◌, Bool, true, false, ◌||◌, List, [], ◌∷◌, ◌++◌, length, map, get_or, set, ℤ, refl, sym, ap, subst, arith, append-nil, append_assoc, true≢false, if◌then◌else◌, length-set, length-append, fold}
-use Rattle.std.specs.List.{IsDistinct, AllByRecursion, list_any}
+use Rattle.std.proofs.Common.{◌≡◌, ◌∙◌, ℕ, zero, suc, ◌+◌, ◌<◌, ◌≤◌, ◌*◌, true, false, ◌||◌, List, [], ◌∷◌, ◌++◌, length, map, get_or, set, ℤ, refl, sym, ap, subst, arith, append-nil, append_assoc, true≢false, if◌then◌else◌, length-set, length-append, fold}
+use Rattle.std.specs.List.{IsDistinct, AllByRecursion}
 use Rattle.std.specs.Str.{bytes_eq}
 use Rattle.std.proofs.lemmas.List.{map-append, length-map}
 use Rattle.std.proofs.lemmas.List.Folds.{list_any-append}
@@ -12,9 +12,9 @@ use Rattle.sql_values.specs.Dictionary.{has_text, with_text, with_texts, Begins}
 use Rattle.sql_values.specs.Limits.{max_tables, max_columns}
 use Rattle.sql_values.proofs.Dictionary.{with_texts-with_texts, Begins-with_texts, Begins_itself}
 use Rattle.heap_pages.specs.Rows.{cut_rows}
-use Rattle.sql_values.specs.Stored.{StoredTable, ValueRow, IsRowOf, AreWords, row_of, texts_in}
+use Rattle.sql_values.specs.Stored.{ValueRow, IsRowOf, AreWords, row_of, texts_in}
 use Rattle.db_catalog.specs.declared.table.Table.{Table}
-use Rattle.db_catalog.specs.Database.{DatabaseState, new_table, table_at, more_rows, with_rows}
+use Rattle.db_catalog.specs.Database.{table_at, more_rows, with_rows}
 use Rattle.db_catalog.specs.Kept.{MeanRows, SameRows, AppendsWords, IsBatch, stored_table, kept_words, IsKept, AreKept}
 use Rattle.db_catalog.specs.Refused.{words_in}
 use Rattle.db_catalog.proofs.BatchParts.{rows_of, texts_in-ended, map-row_of-Begins, MeanRows-Begins}

@@ -1,9 +1,8 @@
 -- A batch, as one more value or the end of a row comes.
-use Rattle.std.proofs.Common.{◌≡◌, ◌≢◌, ℕ, zero, suc, ◌+◌, ◌*◌, ◌<◌, ◌≤◌, Bool, false, List, [], ◌∷◌, ◌++◌, length, map, take, All, Option, Some, None, ℤ, refl, sym, ap, subst, ◌∙◌, arith, length-append, append_assoc, append-nil, slice_get}
+use Rattle.std.proofs.Common.{◌≡◌, ℕ, ◌+◌, ◌<◌, ◌≤◌, List, [], ◌∷◌, ◌++◌, length, map, take, All, Option, Some, None, ℤ, refl, sym, ap, subst, ◌∙◌, arith, length-append, append_assoc, append-nil, slice_get}
 use Rattle.std.specs.Prelude.{IsSomeAnd}
 use Rattle.std.proofs.lemmas.Option.{slice_get_within}
-use Rattle.std.specs.List.{AllZip, IsDistinct, filter_map, flat_map}
-use Rattle.std.specs.Str.{bytes_eq}
+use Rattle.std.specs.List.{AllZip, filter_map, flat_map}
 use Rattle.std.proofs.lemmas.List.{map-append, take_all}
 use Rattle.std.proofs.lemmas.List.Elements.{All-push, All-same, All-nil, All-head, All-tail, filter_map-append}
 use Rattle.std.proofs.lemmas.List.Concat.{flat_map-append}
@@ -17,7 +16,7 @@ use Rattle.sql_values.proofs.Stored.{length-row_of, row_of-take, row_of-nil, row
 use Rattle.heap_pages.specs.Rows.{cut_rows}
 use Rattle.heap_pages.proofs.CutRows.{cut_rows-append}
 use Rattle.db_catalog.specs.Batch.{BatchState, FitsNext, with_value, with_row_ended}
-use Rattle.db_catalog.specs.Kept.{MeanRows, MeansFront, IsBatch}
+use Rattle.db_catalog.specs.Kept.{MeanRows, IsBatch}
 
 -- what is seen of a batch's rows
 abbrev pub rows_of : List (List ℕ) → List ColumnDef → ℕ → List ℤ → List ValueRow

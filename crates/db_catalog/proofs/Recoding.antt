@@ -1,20 +1,19 @@
 -- Words whose texts got new codes mean the same.
-use Rattle.std.proofs.Common.{◌≡◌, ℕ, zero, suc, ◌+◌, ◌-◌, ◌*◌, ◌<◌, ◌≤◌, Bool, List, [], ◌∷◌, ◌++◌, length, map, take, drop, get_or, set, Option, Some, None, ℤ, pos, negsuc, refl, sym, ap, subst, ◌∙◌, arith, add-one, slice_get, unwrap_or, append-nil}
+use Rattle.std.proofs.Common.{◌≡◌, ℕ, zero, suc, ◌+◌, ◌-◌, ◌*◌, ◌<◌, ◌≤◌, List, [], ◌∷◌, ◌++◌, length, map, take, drop, get_or, set, Some, ℤ, pos, negsuc, refl, sym, ap, subst, ◌∙◌, arith, add-one, slice_get, unwrap_or, append-nil}
 use Rattle.std.proofs.lemmas.List.{drop-drop, map-append, take-append-drop, length-take-le, take_at, drop_at}
 use Rattle.std.proofs.lemmas.List.Elements.{All-nil, All-cons, All-head, All-tail}
 use Rattle.std.proofs.lemmas.Slice.{drop-put_mid}
-use borrow.Rule.Slice.PartMut.{put_mid, post_of}
-use Rattle.sql_values.specs.declared.value.Value.{Value}
+use borrow.Rule.Slice.PartMut.{put_mid}
 use Rattle.sql_values.specs.declared.column.ColumnType.{ColumnType}
 use Rattle.sql_values.specs.declared.column.ColumnType.TheVariants.{Integer, Varchar}
 use Rattle.sql_values.specs.declared.column.ColumnDef.{ColumnDef}
-use Rattle.sql_values.specs.Dictionary.{code_of, text_of, Begins}
+use Rattle.sql_values.specs.Dictionary.{code_of, text_of}
 use Rattle.sql_values.specs.Words.{value_of, IsWord}
 use Rattle.sql_values.specs.Stored.{AreWords, IsRowOf, row_of}
 use Rattle.sql_values.proofs.Stored.{text_of-code_of, IsTextWord-text_of, text_code_means}
 use Rattle.heap_pages.specs.Rows.{cut_rows}
 use Rattle.heap_pages.proofs.CutRows.{cut_rows-append_all}
-use Rattle.db_catalog.specs.Recoded.{code_at, recoded, recoded_row}
+use Rattle.db_catalog.specs.Recoded.{recoded, recoded_row}
 use Rattle.db_catalog.specs.Kept.{MeanRows, SameRows}
 use Rattle.db_catalog.proofs.Cut.{cut_last}
 

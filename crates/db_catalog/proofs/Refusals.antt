@@ -1,5 +1,5 @@
 -- Refusals of several checks, one after another.
-use Rattle.std.proofs.Common.{◌≡◌, ◌≢◌, ℕ, ◌<◌, ◌≤◌, Bool, true, false, Option, Some, None, Result, Ok, Err, refl, sym, ap, ◌∙◌, arith, nat_lt, if◌then◌else◌, true≢false, is_some, option_map, pos, List}
+use Rattle.std.proofs.Common.{◌≡◌, ◌≢◌, ℕ, ◌≤◌, Bool, true, false, Option, Some, None, Result, Ok, Err, refl, sym, ap, ◌∙◌, nat_lt, if◌then◌else◌, true≢false, is_some, option_map, pos, List}
 use Rattle.std.specs.Prelude.{IsErrAnd, OnErr, OnOk, is_err}
 use Rattle.std.specs.Str.{bytes_eq}
 use Rattle.sql_values.specs.Dictionary.{has_text, code_of}

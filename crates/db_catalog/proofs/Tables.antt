@@ -1,5 +1,5 @@
 -- What is seen of tables, read from how they are kept.
-use Rattle.std.proofs.Common.{◌≡◌, ℕ, zero, suc, ◌+◌, ◌*◌, ◌<◌, ◌≤◌, List, [], ◌∷◌, length, map, get_or, Option, Some, None, option_map, Result, ℤ, pos, nat_abs, refl, sym, ap, subst, ◌∙◌, arith, slice_get, position, IfOk, Ok, Err}
+use Rattle.std.proofs.Common.{◌≡◌, ℕ, zero, suc, ◌*◌, ◌<◌, List, [], ◌∷◌, length, map, get_or, Option, Some, None, option_map, Result, ℤ, pos, nat_abs, refl, sym, ap, subst, ◌∙◌, arith, slice_get, position, IfOk, Ok, Err}
 use Rattle.std.specs.Prelude.{IsSomeAnd}
 use Rattle.std.specs.List.{IsDistinct}
 use Rattle.std.specs.Str.{bytes_eq}
@@ -8,7 +8,7 @@ use Rattle.std.proofs.lemmas.List.Elements.{All-nil}
 use Rattle.std.proofs.lemmas.Option.{get_or_from_slice_get, slice_get_within}
 use Rattle.sql_values.specs.declared.column.ColumnDef.{ColumnDef}
 use Rattle.sql_values.specs.Dictionary.{code_of}
-use Rattle.sql_values.specs.Stored.{StoredTable, StandsFor, IsRowOf, AreWords, row_of}
+use Rattle.sql_values.specs.Stored.{StandsFor, IsRowOf, AreWords, row_of}
 use Rattle.sql_values.proofs.Stored.{StandsFor-row_of}
 use Rattle.db_catalog.specs.declared.table.Table.{Table}
 use Rattle.db_catalog.specs.Database.{DatabaseState, new_table, table_at, row_at, table_number, IsRowAt}

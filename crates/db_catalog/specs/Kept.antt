@@ -5,7 +5,7 @@ use Rattle.std.specs.Str.{bytes_eq}
 use Rattle.sql_values.specs.declared.column.ColumnDef.{ColumnDef}
 use Rattle.sql_values.specs.Limits.{max_tables, max_columns}
 use Rattle.sql_values.specs.Dictionary.{with_texts}
-use Rattle.sql_values.specs.Stored.{StoredTable, ValueRow, IsRowOf, AreWords, row_of, texts_in}
+use Rattle.sql_values.specs.Stored.{StoredTable, IsRowOf, AreWords, row_of, texts_in}
 use Rattle.heap_pages.specs.Rows.{HeapState, cut_rows}
 use Rattle.db_catalog.specs.declared.table.Table.{Table}
 

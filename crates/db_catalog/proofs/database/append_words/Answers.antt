@@ -1,4 +1,4 @@
-use Rattle.std.proofs.Common.{◌≡◌, ap, get_or, refl}
+use Rattle.std.proofs.Common.{ap, get_or, refl}
 use Rattle.db_catalog.proofs.Tables.{IfOk-map}
 use Rattle.db_catalog.proofs.database.append_words.Goals as goal
 

@@ -1,5 +1,5 @@
-use Rattle.std.proofs.Common.{◌≡◌, ◌≤◌, ◌∙◌, [], sym, ap, subst, length, take, map, refl, arith, Err}
-use Rattle.std.proofs.lemmas.List.{nil_from_length, take_at}
+use Rattle.std.proofs.Common.{◌≡◌, ◌∙◌, [], sym, ap, subst, length, take, map, refl, arith, Err}
+use Rattle.std.proofs.lemmas.List.{nil_from_length}
 use Rattle.heap_pages.specs.Rows.{cut_rows}
 use Rattle.sql_values.specs.Dictionary.{with_texts, Begins}
 use Rattle.sql_values.proofs.Dictionary.{Begins-with_texts, Begins_itself, take-Begins, length-Begins}

@@ -1,4 +1,4 @@
-use Rattle.std.proofs.Common.{◌≡◌, ◌*◌, map, drop, length}
+use Rattle.std.proofs.Common.{◌≡◌, ◌*◌, map, drop}
 use Rattle.heap_pages.specs.Rows.{cut_rows}
 use Rattle.db_catalog.specs.Recoded.{recoded_row}
 use Rattle.db_catalog.proofs.recode.recode.Given as goal

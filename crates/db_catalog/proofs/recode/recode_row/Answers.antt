@@ -1,4 +1,4 @@
-use Rattle.std.proofs.Common.{◌≡◌, ◌∙◌, sym, ap, set, get_or, pos, ℤ}
+use Rattle.std.proofs.Common.{◌≡◌, ◌∙◌, ap, set, get_or, pos, ℤ}
 use Rattle.db_catalog.specs.Recoded.{recoded}
 use Rattle.db_catalog.proofs.Recoding.{next_word, word_kept}
 use Rattle.db_catalog.proofs.recode.recode_row.Goals as goal

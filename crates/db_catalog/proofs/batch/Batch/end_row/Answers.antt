@@ -1,13 +1,8 @@
-use Rattle.std.proofs.Common.{◌≡◌, ◌∙◌, ◌+◌, ◌++◌, length, sym, ap, subst, refl, vec_capacity, SFits, w64, rules}
-use Rattle.std.proofs.lemmas.Int.{to_z-of_z}
-use Rattle.sql_values.specs.declared.value.Value.TheVariants as value
-use Rattle.sql_values.specs.Words.{null_word}
-use Rattle.sql_values.proofs.Dictionary.{Begins_itself}
-use Rattle.sql_values.proofs.Stored.{IsWord-null, NULL_is_null, IsWord-int, number_is_int, IsWord-code, code_is_text}
+use Rattle.std.proofs.Common.{◌≡◌, ◌∙◌, ◌+◌, ◌++◌, length, sym, ap, subst, vec_capacity}
 use Rattle.sql_values.specs.Stored.{row_of}
-use Rattle.db_catalog.specs.Batch.{FitsNext, with_value, with_row_ended}
+use Rattle.db_catalog.specs.Batch.{with_row_ended}
 use Rattle.db_catalog.specs.Kept.{IsBatch}
-use Rattle.db_catalog.proofs.BatchParts.{OneMore, next_within, put_value, batch_of-put, ended, batch_of}
+use Rattle.db_catalog.proofs.BatchParts.{ended, batch_of}
 use Rattle.db_catalog.proofs.batch.Batch.end_row.Goals as goal
 
 both : (c : goal.After-self-1) → IsBatch c.self.inside.columns.items c.self.inside.texts (c.self.inside.rows + 1) c.extend_from_slice.new.self.items c.clear.new.self.items (vec_capacity c.self.inside.row)

@@ -1,4 +1,4 @@
-use Rattle.std.proofs.Common.{◌≡◌, ◌+◌, ◌-◌, ◌*◌, ◌/◌, ◌∙◌, ◌++◌, ◌∷◌, [], sym, ap, subst, length, take, drop, get_or, arith, refl}
+use Rattle.std.proofs.Common.{◌≡◌, ◌+◌, ◌-◌, ◌*◌, ◌/◌, ◌∙◌, [], sym, ap, subst, length, take, drop, get_or, arith}
 use Rattle.sql_values.specs.Stored.{IsRowOf}
 use Rattle.heap_pages.specs.Rows.{cut_rows}
 use Rattle.db_catalog.specs.Batch.{with_whole_row}

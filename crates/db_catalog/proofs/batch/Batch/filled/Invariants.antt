@@ -1,6 +1,5 @@
 use Rattle.std.proofs.Common.{◌≡◌, []}
 use Rattle.heap_pages.specs.Rows.{cut_rows}
-use Rattle.db_catalog.specs.Batch.{BatchState}
 use Rattle.db_catalog.proofs.batch.Batch.filled.Given as goal
 
 abbrev pub invariant-loop-i : goal.invariant-loop-i

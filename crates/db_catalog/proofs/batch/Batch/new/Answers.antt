@@ -1,4 +1,4 @@
-use Rattle.std.proofs.Common.{◌≡◌, ◌∙◌, [], ap, length, arith}
+use Rattle.std.proofs.Common.{◌∙◌, ap, arith}
 use Rattle.sql_values.specs.Stored.{row_of}
 use Rattle.sql_values.proofs.Stored.{row_of-nil}
 use Rattle.db_catalog.proofs.BatchParts.{no_batch}

@@ -1,12 +1,10 @@
-use Rattle.std.proofs.Common.{◌≡◌, ◌∙◌, [], ◌∷◌, sym, ap, subst, refl, vec_capacity, SFits, w64, rules}
-use Rattle.std.proofs.lemmas.Int.{to_z-of_z}
+use Rattle.std.proofs.Common.{◌∙◌, sym, ap, subst, refl, vec_capacity}
 use Rattle.sql_values.specs.declared.value.Value.TheVariants as value
 use Rattle.sql_values.specs.Words.{null_word}
 use Rattle.sql_values.proofs.Dictionary.{Begins_itself}
-use Rattle.sql_values.proofs.Stored.{IsWord-null, NULL_is_null, IsWord-int, number_is_int, IsWord-code, code_is_text}
-use Rattle.db_catalog.specs.Batch.{FitsNext, with_value, with_row_ended}
-use Rattle.db_catalog.specs.Kept.{IsBatch}
-use Rattle.db_catalog.proofs.BatchParts.{OneMore, next_within, put_value, batch_of-put, more_room, ended, batch_of}
+use Rattle.sql_values.proofs.Stored.{IsWord-null, NULL_is_null}
+use Rattle.db_catalog.specs.Batch.{FitsNext, with_value}
+use Rattle.db_catalog.proofs.BatchParts.{OneMore, next_within, put_value, batch_of-put, more_room}
 use Rattle.db_catalog.proofs.batch.Batch.put_null.Goals as goal
 
 pub push_within-requires : goal.push_within-requires

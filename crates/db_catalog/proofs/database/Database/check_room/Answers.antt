@@ -1,4 +1,4 @@
-use Rattle.std.proofs.Common.{◌≡◌, ◌∙◌, ◌+◌, ◌*◌, ◌≤◌, ◌<◌, sym, ap, subst, length, Some, None, arith, rules}
+use Rattle.std.proofs.Common.{◌≡◌, ◌∙◌, ◌+◌, ◌*◌, ◌≤◌, ◌<◌, sym, ap, subst, length, arith, rules}
 use Rattle.std.proofs.lemmas.List.{length-map}
 use Rattle.std.proofs.Math.Nat.{mul-le-mul_right}
 use Rattle.sql_values.specs.declared.limit.LimitName.TheVariants as limit
@@ -8,7 +8,7 @@ use Rattle.db_catalog.specs.Database.{table_at}
 use Rattle.db_catalog.specs.Kept.{stored_table, kept_words}
 use Rattle.db_catalog.specs.Refused.{Refuses, past, words_in}
 use Rattle.db_catalog.proofs.Refusals.{not_first, within}
-use Rattle.db_catalog.proofs.Tables.{database_of, is_kept, table_at-database_of}
+use Rattle.db_catalog.proofs.Tables.{is_kept, table_at-database_of}
 use Rattle.db_catalog.proofs.Appended.{words_seen}
 use Rattle.db_catalog.proofs.database.Database.check_room.Goals as goal
 

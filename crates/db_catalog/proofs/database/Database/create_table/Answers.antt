@@ -1,5 +1,4 @@
-use Rattle.std.proofs.Common.{◌≡◌, ◌∙◌, ◌+◌, ◌++◌, ◌∷◌, ◌≤◌, [], sym, ap, subst, length, map, false, None, arith}
-use Rattle.std.specs.Option.{option_or}
+use Rattle.std.proofs.Common.{◌≡◌, ◌∙◌, ◌+◌, ◌++◌, ◌∷◌, ◌≤◌, [], sym, ap, subst, length, map, false, arith}
 use Rattle.std.proofs.lemmas.List.{length-map}
 use Rattle.sql_values.specs.declared.limit.LimitName.TheVariants as limit
 use Rattle.sql_values.specs.Limits.{max_tables, max_columns}

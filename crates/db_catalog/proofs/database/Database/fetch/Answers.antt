@@ -1,6 +1,6 @@
-use Rattle.std.proofs.Common.{◌≡◌, ◌∙◌, ◌*◌, ◌+◌, sym, ap, subst, length, map, option_map, nat_abs, refl, SFits, w64, rules, arith}
-use Rattle.db_catalog.specs.Database.{IsRowAt, table_at, table_number, row_at}
-use Rattle.db_catalog.proofs.Tables.{database_of, row_is_seen, is_kept, IfOk-map, table_at-database_of, kept_at, names_seen, number-of_code, nothing_kept}
+use Rattle.std.proofs.Common.{subst}
+use Rattle.db_catalog.specs.Database.{IsRowAt}
+use Rattle.db_catalog.proofs.Tables.{row_is_seen, is_kept, IfOk-map}
 use Rattle.db_catalog.proofs.database.Database.fetch.Goals as goal
 
 pub returns-clause-row : goal.returns-clause-row

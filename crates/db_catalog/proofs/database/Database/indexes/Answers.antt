@@ -1,4 +1,4 @@
-use Rattle.std.proofs.Common.{◌≡◌, ◌∙◌, sym, ap, option_map, nat_abs, SFits, w64, rules, Some}
+use Rattle.std.proofs.Common.{◌∙◌, sym, ap}
 use Rattle.db_catalog.specs.Database.{table_at}
 use Rattle.db_catalog.proofs.Tables.{no_indexes}
 use Rattle.db_catalog.proofs.database.Database.indexes.Goals as goal

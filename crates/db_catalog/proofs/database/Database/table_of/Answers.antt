@@ -1,4 +1,4 @@
-use Rattle.std.proofs.Common.{◌≡◌, ◌∙◌, sym, ap, option_map, nat_abs, SFits, w64, rules, Some}
+use Rattle.std.proofs.Common.{◌∙◌, sym, ap, option_map, nat_abs, SFits, w64, rules, Some}
 use Rattle.std.proofs.lemmas.Int.{to_z-of_z}
 use Rattle.db_catalog.specs.Database.{table_number}
 use Rattle.db_catalog.proofs.Tables.{number_seen}
