@@ -9,3 +9,4 @@ pub mod Ascent
 pub mod Zips
 pub mod Placing
 pub mod TableText
+pub mod FirstBytes

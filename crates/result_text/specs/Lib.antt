@@ -6,3 +6,4 @@ pub mod TextWriter
 pub mod Ranks
 pub mod Lists
 pub mod Placing
+pub mod FirstBytes

@@ -1,5 +1,5 @@
 // Texts that are lent, in the order of their bytes.
-ghost use Rattle.std.specs.Prelude.{◌≡◌, ◌↔◌, false, IfOk, IfSome, IsSome, IsTrue, OnOk, Some, []};
+ghost use Rattle.std.specs.Prelude.{◌≡◌, ◌↔◌, ◌+◌, ◌*◌, ◌<◌, slice_index, false, IfOk, IfSome, IsSome, IsTrue, OnOk, Some, []};
 ghost use Rattle.std.proofs.Common.{rules};
 ghost use Rattle.std.specs.Cmp.{partial_order_from_own_ties, eq_by_cmp_equiv};
 ghost use Rattle.std.specs.Cmp.Rules.{comparing};
@@ -7,6 +7,7 @@ ghost use Rattle.std.specs.Cmp.Lexicographic.{slice_cmp};
 ghost use Rattle.std.specs.Ordering.{nat_cmp, as_partial_cmp, eq_by_cmp, is_gt};
 ghost use Rattle.sql_values.specs.Dictionary.{text_of, Begins};
 ghost use Rattle.result_text.specs.Ranks.{AreAscending};
+ghost use Rattle.result_text.specs.FirstBytes.{first_bytes};
 ghost use Rattle.result_text.specs.Lists.{last_of};
 
 use crate::texts::TextList;
@@ -14,9 +15,11 @@ use std::alloc::{AllocError, Global};
 use std::cmp::Ordering;
 use std::marker::Model;
 
-/// A text that is lent, seen as its bytes.
+/// A text that is lent, seen as its bytes. Its first eight stand beside it as one number, so that most comparisons are one,
+/// and need not go to the text.
 #[derive(Drop)]
 pub(crate) struct ShortText<'a> {
+    first: u64,
     text: &'a [u8],
 }
 
@@ -26,13 +29,43 @@ impl<'a> Model for ShortText<'a> {
     ghost Value = { List ℕ };
 
     ghost view = { λ s. s.text.now };
+
+    ghost use Rattle.result_text.specs.FirstBytes.{IsFirst};
+
+    ghost invariant = { λ s. IsFirst s.first s.text.now };
+}
+
+// The number that one more byte makes of that of the bytes before it. Behind the text's end the bytes are 0.
+fn with_byte(first: u64, text: &[u8], place: usize) -> u64
+    requires { first < 72057594037927936 }
+    ensures number { result ≡ first * 256 + slice_index text.now place }
+    ensures byte { slice_index text.now place < 256 }
+{
+    let byte = match text.get(place) {
+        Some(byte) => *byte,
+        None => 0,
+    };
+    first * 256 + u64::from(byte)
+}
+
+// The first eight bytes as one number.
+fn first_bytes(text: &[u8]) -> u64
+    ensures { result ≡ first_bytes 8 text.now }
+{
+    let two = with_byte(with_byte(0, text, 0), text, 1);
+    let four = with_byte(with_byte(two, text, 2), text, 3);
+    let six = with_byte(with_byte(four, text, 4), text, 5);
+    with_byte(with_byte(six, text, 6), text, 7)
 }
 
 impl<'a> ShortText<'a> {
     pub(crate) fn new(text: &'a [u8]) -> ShortText<'a>
         ensures { result ≡ text.now }
     {
-        ShortText { text }
+        ShortText {
+            first: first_bytes(text),
+            text,
+        }
     }
 
     pub(crate) fn bytes(&self) -> &'a [u8]
@@ -78,7 +111,10 @@ impl Ord for ShortText<'_> {
 
     #[inline]
     fn cmp(&self, other: &Self) -> Ordering {
-        self.text.cmp(other.text)
+        match self.first.cmp(&other.first) {
+            Ordering::Equal => self.text.cmp(other.text),
+            unequal => unequal,
+        }
     }
 }
 
