@@ -52,15 +52,15 @@ def sqlite_script(name):
     )
 
 
-def run(words, script, output):
-    """Runs a process in DATA and returns its seconds and its peak memory in megabytes."""
+def run(words, script, output, wanted=0):
+    """Runs a process in DATA, which has to end with this status, and returns its seconds and its peak memory in megabytes."""
     with open(script, "rb") as given, open(output, "wb") as got:
         start = time.perf_counter()
         child = subprocess.Popen(words, cwd=DATA, stdin=given, stdout=got)
         _, status, usage = os.wait4(child.pid, 0)
         seconds = time.perf_counter() - start
     child.returncode = os.waitstatus_to_exitcode(status)
-    if child.returncode != 0:
+    if child.returncode != wanted:
         sys.exit(f"{words[0]} ended with status {child.returncode}")
     return seconds, usage.ru_maxrss * 1024 / 1e6
 

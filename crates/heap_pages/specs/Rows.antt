@@ -12,8 +12,8 @@ pub record HeapState : Type 0 where
   pub rows : List Row
   pub spare : ℕ
 
--- words that follow one another, cut into n rows of one width
-abbrev pub cut_rows : ℕ → ℕ → List ℤ → List Row
+-- words (or values) that follow one another, cut into n rows of one width
+abbrev pub cut_rows : {A : Type 0} → ℕ → ℕ → List A → List (List A)
 cut_rows width zero words = []
 cut_rows width (suc n) words = take width words ∷ cut_rows width n (drop width words)
 

@@ -4,14 +4,13 @@ use Rattle.std.specs.Io.KnownBytes.{Appends}
 use Rattle.std.proofs.Math.Seq.{take-append-add}
 use Rattle.std.proofs.lemmas.List.{append-nil, take_min, take_all, take-append-le, map-append, take_more, take-append-drop}
 use Rattle.std.proofs.lemmas.List.Elements.{All-nil, All-cons, All-append, All-weaker}
-use Rattle.work_ledger.specs.Account.{Account}
 use Rattle.outside_io.specs.Files.{FolderState}
 use Rattle.shell.specs.declared.status.Status.{Status}
 use Rattle.shell.specs.declared.status.Status.TheVariants as status
 use Rattle.shell.specs.declared.refusal.Refusal.{Refusal}
 use Rattle.sql_parse.specs.Trees.{StatementTree}
 use Rattle.shell.specs.Refusal.{line_of}
-use Rattle.shell.specs.Script.{SessionState, Outcome, Prints, Refuses, Answer, Step, outcome, and_then, script_answer}
+use Rattle.shell.specs.Script.{SessionState, Outcome, Prints, Refuses, Answer, Step, outcome, and_then, script_answer, nothing_made}
 use Rattle.shell.specs.Serve.{IsGivenFor, statements_of_steps}
 use Rattle.shell.specs.Due.{CarriesAll}
 use Rattle.shell.proofs.Beginning.{whole_begins}
@@ -43,17 +42,17 @@ after_nothing answer =
     λ i. record { text = answer.text; work = work i; refused = answer.refused }
 
 -- the text so far is there and paid, and with what the statements from i on print it is the whole
-pub record IsCarried (all : List StatementTree) (i : ℕ) (before now : FolderState) (state : SessionState) (had got : Option (List ℕ)) (old paid : Account) : Type 0 where
+pub record IsCarried (all : List StatementTree) (i : ℕ) (before now : FolderState) (state : SessionState) (had got : Option (List ℕ)) (old paid : ℕ) : Type 0 where
   pub steps : List Step
   pub are : statements_of_steps steps ≡ take i all
   pub given : AreGiven before now steps
   pub printed : List ℕ
   pub work : ℕ
   pub put : Appends had got printed
-  pub spent : paid.spent ≡ old.spent + work
-  pub whole : (rest : List Step) → script_answer None (steps ++ rest) ≡ after printed work (script_answer state rest)
+  pub spent : paid ≡ old + work
+  pub whole : (rest : List Step) → script_answer nothing_made (steps ++ rest) ≡ after printed work (script_answer state rest)
 
-pub carried_none : (all : List StatementTree) (before : FolderState) (had : Option (List ℕ)) (old : Account) → IsCarried all 0 before before None had had old old
+pub carried_none : (all : List StatementTree) (before : FolderState) (had : Option (List ℕ)) (old : ℕ) → IsCarried all 0 before before nothing_made had had old old
 carried_none all before had old = record {
   steps = [];
   are = refl;
@@ -62,7 +61,7 @@ carried_none all before had old = record {
   work = 0;
   put = appends_none had;
   spent = omega arith;
-  whole = λ rest. after_nothing (script_answer None rest);
+  whole = λ rest. after_nothing (script_answer nothing_made rest);
 }
 
 given_on : (before mid now : FolderState) (steps : List Step) → mid.misses ≤ now.misses → AreGiven before mid steps → AreGiven before now steps
@@ -93,9 +92,9 @@ text_of (Prints text work state) = text
 text_of (Refuses why) = line_of why
 
 -- a run that ends at a statement: refused where that is due, with the whole line, and else for another cause
-pub record EndsAt (due : Outcome) (ended : Status) (had got : Option (List ℕ)) (old new : Account) : Type 0 where
+pub record EndsAt (due : Outcome) (ended : Status) (had got : Option (List ℕ)) (old new : ℕ) : Type 0 where
   pub refused : ended ≡ status.Refused → ((why : Refusal) × (due ≡ Refuses why)) × Appends had got (text_of due)
-  pub unpaid : ended ≡ status.Refused → new.spent ≡ old.spent
+  pub unpaid : ended ≡ status.Refused → new ≡ old
   pub not_done : ended ≡ status.Done → ⊥
   pub beginning : (n : ℕ) × Appends had got (take n (text_of due))
 
@@ -118,18 +117,18 @@ nothing_after text work =
     let none : work + 0 ≡ work = omega arith in
     λ i. record { text = same i; work = none i; refused = false }
 
-module _ (all : List StatementTree) (i : ℕ) (before mid now : FolderState) (state next : SessionState) (statement : StatementTree) (file : Option (List ℕ)) (had got : Option (List ℕ)) (old paid : Account)
+module _ (all : List StatementTree) (i : ℕ) (before mid now : FolderState) (state next : SessionState) (statement : StatementTree) (file : Option (List ℕ)) (had got : Option (List ℕ)) (old paid : ℕ)
     (below : i < length all) (is : get_or all i statement ≡ statement) (same : mid.files ≡ before.files) (first : before.misses ≤ mid.misses) (last : mid.misses ≤ now.misses)
     (carried : IsCarried all i before mid state had got old paid) (given : IsGivenFor mid now statement file) where
   abbrev here : Step
   here = record { statement = statement; file = file }
 
   -- what is to come after the steps so far begins with this one
-  from_here : (rest : List Step) → script_answer None (carried.steps ++ here ∷ rest) ≡ after carried.printed carried.work (and_then (outcome state statement file) (λ s. script_answer s rest))
+  from_here : (rest : List Step) → script_answer nothing_made (carried.steps ++ here ∷ rest) ≡ after carried.printed carried.work (and_then (outcome state statement file) (λ s. script_answer s rest))
   from_here rest = carried.whole (here ∷ rest)
 
   -- a statement that printed its text
-  pub carried_on : (new : Option (List ℕ)) (due : Account) (text : List ℕ) (work : ℕ) → outcome state statement file ≡ Prints text work next → Appends got new text → due.spent ≡ paid.spent + work
+  pub carried_on : (new : Option (List ℕ)) (due : ℕ) (text : List ℕ) (work : ℕ) → outcome state statement file ≡ Prints text work next → Appends got new text → due ≡ paid + work
       → IsCarried all (i + 1) before now next had new old due
   carried_on new due text work prints put spent = record {
     steps = carried.steps ++ here ∷ [];
@@ -140,7 +139,7 @@ module _ (all : List StatementTree) (i : ℕ) (before mid now : FolderState) (st
     put = appends_on had got new carried.printed text carried.put put;
     spent = omega (arith, spent, carried.spent);
     whole = λ rest.
-        ap (script_answer None) (append_assoc carried.steps (here ∷ []) rest) ∙ from_here rest
+        ap (script_answer nothing_made) (append_assoc carried.steps (here ∷ []) rest) ∙ from_here rest
         ∙ ap (λ o. after carried.printed carried.work (and_then o (λ s. script_answer s rest))) prints
         ∙ after_after carried.printed text carried.work work (script_answer next rest);
   }
@@ -162,13 +161,13 @@ module _ (all : List StatementTree) (i : ℕ) (before mid now : FolderState) (st
       ∙ take-append-drop (i + 1) all
 
   -- a run that ends at this statement
-  pub carried_to : (new : Option (List ℕ)) (due : Account) (ended : Status) → EndsAt (outcome state statement file) ended got new paid due → CarriesAll all before now ended had new old due
+  pub carried_to : (new : Option (List ℕ)) (due : ℕ) (ended : Status) → EndsAt (outcome state statement file) ended got new paid due → CarriesAll all before now ended had new old due
   carried_to new due ended ends =
       let what = outcome state statement file in
       let go : SessionState → Answer = λ s. script_answer s others.0 in
-      let whole : script_answer None all_steps ≡ after carried.printed carried.work (and_then what go) = from_here others.0 in
+      let whole : script_answer nothing_made all_steps ≡ after carried.printed carried.work (and_then what go) = from_here others.0 in
       let more = begins what go in
-      let text : (script_answer None all_steps).text ≡ carried.printed ++ (text_of what ++ more.0) = ap (λ (a : Answer). a.text) whole ∙ ap (λ (l : List ℕ). carried.printed ++ l) more.1 in
+      let text : (script_answer nothing_made all_steps).text ≡ carried.printed ++ (text_of what ++ more.0) = ap (λ (a : Answer). a.text) whole ∙ ap (λ (l : List ℕ). carried.printed ++ l) more.1 in
       record {
         steps = all_steps;
         are = all_are;
@@ -177,7 +176,7 @@ module _ (all : List StatementTree) (i : ℕ) (before mid now : FolderState) (st
           done = λ e. absurd (ends.not_done e);
           refused = λ e.
               let refusal = refused_whole what go (ends.refused e).0 in
-              let due_whole : script_answer None all_steps ≡ record { text = carried.printed ++ text_of what; work = carried.work + 0; refused = true } = whole ∙ ap (after carried.printed carried.work) refusal in
+              let due_whole : script_answer nothing_made all_steps ≡ record { text = carried.printed ++ text_of what; work = carried.work + 0; refused = true } = whole ∙ ap (after carried.printed carried.work) refusal in
               (ap (λ (a : Answer). a.refused) due_whole, rw due_whole (appends_on had got new carried.printed (text_of what) carried.put (ends.refused e).1));
           beginning = (
             length carried.printed + min ends.beginning.0 (length (text_of what)),
@@ -188,18 +187,18 @@ module _ (all : List StatementTree) (i : ℕ) (before mid now : FolderState) (st
           done = λ e. absurd (ends.not_done e);
           refused = λ e.
               let refusal = refused_whole what go (ends.refused e).0 in
-              let work : (script_answer None all_steps).work ≡ carried.work + 0 = ap (λ (a : Answer). a.work) (whole ∙ ap (after carried.printed carried.work) refusal) in
+              let work : (script_answer nothing_made all_steps).work ≡ carried.work + 0 = ap (λ (a : Answer). a.work) (whole ∙ ap (after carried.printed carried.work) refusal) in
               omega (arith, work, carried.spent, ends.unpaid e);
         };
       }
 
 -- after the last statement the whole text is there
-pub carried_all : (all : List StatementTree) (i : ℕ) (before now : FolderState) (state : SessionState) (had got : Option (List ℕ)) (old paid : Account) → length all ≤ i
+pub carried_all : (all : List StatementTree) (i : ℕ) (before now : FolderState) (state : SessionState) (had got : Option (List ℕ)) (old paid : ℕ) → length all ≤ i
     → IsCarried all i before now state had got old paid → CarriesAll all before now status.Done had got old paid
 carried_all all i before now state had got old paid past carried =
-    let is : script_answer None carried.steps ≡ record { text = carried.printed; work = carried.work; refused = false } =
-    ap (script_answer None) (sym (append-nil carried.steps)) ∙ carried.whole [] ∙ nothing_after carried.printed carried.work in
-    let whole : Appends had got (script_answer None carried.steps).text = rw is carried.put in
+    let is : script_answer nothing_made carried.steps ≡ record { text = carried.printed; work = carried.work; refused = false } =
+    ap (script_answer nothing_made) (sym (append-nil carried.steps)) ∙ carried.whole [] ∙ nothing_after carried.printed carried.work in
+    let whole : Appends had got (script_answer nothing_made carried.steps).text = rw is carried.put in
     record {
       steps = carried.steps;
       are = carried.are ∙ take_all i all past;
@@ -207,10 +206,10 @@ carried_all all i before now state had got old paid past carried =
       carries = record {
         done = λ _. (ap (λ (a : Answer). a.refused) is, whole);
         refused = λ ended. cc ended;
-        beginning = whole_begins had got (script_answer None carried.steps).text whole;
+        beginning = whole_begins had got (script_answer nothing_made carried.steps).text whole;
       };
       pays = record {
-        done = λ _. let work : (script_answer None carried.steps).work ≡ carried.work = ap (λ (a : Answer). a.work) is in omega (arith, work, carried.spent);
+        done = λ _. let work : (script_answer nothing_made carried.steps).work ≡ carried.work = ap (λ (a : Answer). a.work) is in omega (arith, work, carried.spent);
         refused = λ ended. cc ended;
       };
     }

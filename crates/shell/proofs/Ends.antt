@@ -5,7 +5,6 @@ use Rattle.std.specs.declared.alloc.Global.{Global}
 use Rattle.std.specs.Io.KnownBytes.{Appends}
 use Rattle.std.proofs.Math.ListN.{get_or-map}
 use Rattle.std.proofs.lemmas.List.{length-map}
-use Rattle.work_ledger.specs.Account.{Account}
 use Rattle.shell.specs.declared.status.Status.{Status}
 use Rattle.shell.specs.declared.status.Status.TheVariants as status
 use Rattle.shell.specs.declared.stop.Stop.{Stop}
@@ -35,7 +34,7 @@ not_refused ended (inr (inl fault)) is = cc (fault, is)
 not_refused ended (inr (inr memory)) is = cc (memory, is)
 
 -- the text that was due was put in part
-pub ends_in_part : (due : Outcome) (text : List ℕ) (work : ℕ) (next : SessionState) (ended : Status) (had got : Option (List ℕ)) (old new : Account) → EndsElsewhere ended → due ≡ Prints text work next
+pub ends_in_part : (due : Outcome) (text : List ℕ) (work : ℕ) (next : SessionState) (ended : Status) (had got : Option (List ℕ)) (old new : ℕ) → EndsElsewhere ended → due ≡ Prints text work next
     → ((n : ℕ) × Appends had got (take n text)) → EndsAt due ended had got old new
 ends_in_part due text work next ended had got old new elsewhere is part = record {
   refused = λ e. absurd (not_refused ended elsewhere e);
@@ -45,7 +44,7 @@ ends_in_part due text work next ended had got old new elsewhere is part = record
 }
 
 -- nothing was put
-pub ends_with_nothing : (due : Outcome) (ended : Status) (had : Option (List ℕ)) (old new : Account) → EndsElsewhere ended → EndsAt due ended had had old new
+pub ends_with_nothing : (due : Outcome) (ended : Status) (had : Option (List ℕ)) (old new : ℕ) → EndsElsewhere ended → EndsAt due ended had had old new
 ends_with_nothing due ended had old new elsewhere = record {
   refused = λ e. absurd (not_refused ended elsewhere e);
   unpaid = λ e. absurd (not_refused ended elsewhere e);
@@ -54,7 +53,7 @@ ends_with_nothing due ended had old new elsewhere = record {
 }
 
 -- the line of the refusal that is due was put, whole or in part
-pub ends_refused : (due : Outcome) (why : Refusal) (ended : Status) (had got : Option (List ℕ)) (old new : Account) → due ≡ Refuses why → new.spent ≡ old.spent
+pub ends_refused : (due : Outcome) (why : Refusal) (ended : Status) (had got : Option (List ℕ)) (old new : ℕ) → due ≡ Refuses why → new ≡ old
     → (ended ≡ status.Refused → Appends had got (line_of why)) → ((n : ℕ) × Appends had got (take n (line_of why)))
     → (ended ≡ status.Refused) ⊎ ((ended ≡ status.WriteFault) ⊎ (ended ≡ status.NoMemory)) → EndsAt due ended had got old new
 ends_refused due why ended had got old new is unpaid whole part kinds = record {
@@ -73,7 +72,7 @@ ends_refused due why ended had got old new is unpaid whole part kinds = record {
 tree_at : (statements : List Statement) (i : ℕ) (statement : Statement) → statement ≡ get_or statements i statement → get_or (map statement_tree statements) i (statement_tree statement) ≡ statement_tree statement
 tree_at statements i statement is = get_or-map statement_tree statements i statement ∙ sym (ap statement_tree is)
 
-module _ (statements : List Statement) (i : ℕ) (before mid now : FolderState) (state next : SessionState) (statement : Statement) (had got : Option (List ℕ)) (old paid due : Account) (failed : Type 0)
+module _ (statements : List Statement) (i : ℕ) (before mid now : FolderState) (state next : SessionState) (statement : Statement) (had got : Option (List ℕ)) (old paid due : ℕ) (failed : Type 0)
     (below : i < length statements) (is : statement ≡ get_or statements i statement) (first : OnlyReads ⊥ ⊥ before mid) (last : OnlyReads failed ⊥ mid now)
     (carried : IsCarried (map statement_tree statements) i before mid state had got old paid) where
   abbrev all : List StatementTree

@@ -1,19 +1,21 @@
 -- The file that a folder gives.
 use Rattle.std.proofs.Common.{◌≡◌, ◌⊎◌, inl, inr, ℕ, zero, suc, ◌<◌, ◌≤◌, List, [], ◌∷◌, length, true, false, Option, Some, None, refl, sym, ap, ◌∙◌, arith}
-use Rattle.std.specs.Prelude.{IfSome, IsSome, IsSomeAnd, All, MatchOption, Err, bytes_eq, nat_le}
-use borrow.Author.Tests.{lt-leb}
+use Rattle.std.specs.Prelude.{IfSome, IsSome, IsSomeAnd, All, MatchOption, Vec, Result, Ok, Err, nat_le}
+use Rattle.std.specs.declared.alloc.Global.{Global}
+use borrow.Author.Tests.{lt-leb, le-leb}
 use Rattle.std.proofs.lemmas.List.Elements.{All-nil, All-cons}
 use Rattle.outside_io.specs.Count.{Rose}
 use Rattle.outside_io.specs.Files.{Files, FolderState, file_of}
-use Rattle.outside_io.specs.Limits.{max_file_bytes}
+use Rattle.sql_values.specs.Limits.{max_file_bytes}
+use Rattle.sql_values.specs.declared.limit.LimitName.TheVariants as limit
+use Rattle.db_catalog.specs.Database.{table_number}
 use Rattle.shell.specs.Serve.{IsGivenFor, statements_of_steps}
 use Rattle.shell.specs.Stop.{StopsAt}
-use Rattle.shell.specs.Due.{ReadsFile, LoadsFile}
-use Rattle.shell.specs.Script.{Step, NamedTable, SessionState, Outcome, Refuses, load_file, at_table, append_rows}
-use Rattle.shell.specs.Load.{load_of}
+use Rattle.shell.specs.Due.{ReadsFile, ReturnsFree, LoadsFile}
+use Rattle.shell.specs.Script.{Step, SessionState, Outcome, Refuses, load_file, at_table, with_loaded}
+use Rattle.csv_load.specs.Load.{load_due}
 use Rattle.shell.specs.declared.stop.Stop.{Stop}
 use Rattle.shell.specs.declared.stop.Stop.TheVariants as stop
-use Rattle.shell.specs.declared.refusal.Later.TheVariants as later
 use Rattle.shell.specs.declared.refusal.Refusal.TheVariants as refusal
 use Rattle.sql_parse.specs.declared.tree.LoadDef.{LoadDef}
 use Rattle.sql_parse.specs.Trees.{StatementTree, Load}
@@ -76,41 +78,42 @@ pub one_file : (files : Option Files) (old new other : ℕ) (name : List ℕ) (a
 one_file None old new other name a b known first second = cc known
 one_file (Some held) old new other name a b known first second = first ∙ sym second
 
--- a file that is too long isn't well-formed, whatever the table
-load_long : (columns : List (List ℕ)) (bytes : List ℕ) → max_file_bytes < length bytes → load_of columns bytes ≡ None
-load_long columns bytes long = let past : nat_le (length bytes) max_file_bytes ≡ false = lt-leb _ _ long in rw past refl
+-- a file that is too long is refused, whatever the table
+load_long : (state : SessionState) (number : ℕ) (name bytes : List ℕ) (len : ℕ) → length bytes ≡ len → max_file_bytes < len → load_file state number name (Some bytes) ≡ Refuses (refusal.PastLimit limit.File len)
+load_long state number name bytes len is long =
+    let past : nat_le (length bytes) max_file_bytes ≡ false = lt-leb _ _ (omega (arith, is)) in rw past (ap (λ (n : ℕ). Refuses (refusal.PastLimit limit.File n)) is)
 
 pub reads_long : (name : List ℕ) (old new : FolderState) (len : ℕ) → IfSome old.files (λ held. IsSomeAnd (file_of held name) (λ bytes. length bytes ≡ len)) → max_file_bytes < len → Rose old.misses new.misses
-    → ReadsFile name old new (Err (stop.Refused (refusal.Later later.File)))
+    → ReadsFile name old new (Err (stop.Refused (refusal.PastLimit limit.File len)))
 reads_long name old new len known long missed =
     let there = long_given old.files old.misses new.misses name len known missed in
     record {
       file = Some there.0;
       given = there.2;
-      fits = λ table. ap (append_rows table) (load_long table.columns there.0 (omega (arith, there.1)));
+      fits = λ state number. load_long state number name there.0 len there.1 long;
     }
 
 -- a stop that fits anything
 pub reads_stopped : (name : List ℕ) (old new : FolderState) (why : Stop) → ((due : Outcome) → StopsAt due why) → ReadsFile name old new (Err why)
 reads_stopped name old new why any =
     let there = any_given old.files old.misses new.misses name in
-    record { file = there.0; given = there.1; fits = λ table. any (load_file table name there.0) }
+    record { file = there.0; given = there.1; fits = λ state number. any (load_file state number name there.0) }
 
 -- the file isn't read where the table isn't there
-pub loads_nothing : (load : LoadDef) (old new : FolderState) (state next : SessionState) (why : Stop) → ((go : NamedTable → Outcome) → StopsAt (at_table state load.table go) why) → LoadsFile load old new state next (Err why)
-loads_nothing load old new state next why any =
+pub loads_nothing : (load : LoadDef) (old new : FolderState) (state next : SessionState) (why : Stop) → table_number state load.table ≡ None → StopsAt (Refuses (refusal.NoTable load.table)) why → LoadsFile load old new state next (Err why)
+loads_nothing load old new state next why none stops =
     let there = any_given old.files old.misses new.misses load.file in
-    record { file = there.0; given = there.1; returns = any (λ table. load_file table load.file there.0) }
-
-pub no_table_at : (state : SessionState) (name : List ℕ) (why : Stop) (go : NamedTable → Outcome) → state ≡ None → StopsAt (Refuses (refusal.NoTable name)) why → StopsAt (at_table state name go) why
-no_table_at state name why go none stops = rw none stops
-
-pub other_table_at : (state : SessionState) (table : NamedTable) (name : List ℕ) (why : Stop) (go : NamedTable → Outcome) → state ≡ Some table → bytes_eq table.name name ≡ false → StopsAt (Refuses (refusal.NoTable name)) why
-    → StopsAt (at_table state name go) why
-other_table_at state table name why go is other stops = rw (is, other) stops
+    record { file = there.0; given = there.1; returns = rw none stops }
 
 -- the file couldn't be had
-pub loads_unread : (load : LoadDef) (old new : FolderState) (state next : SessionState) (table : NamedTable) (why : Stop) → state ≡ Some table → bytes_eq table.name load.table ≡ true
+pub loads_unread : (load : LoadDef) (old new : FolderState) (state next : SessionState) (number : ℕ) (why : Stop) → table_number state load.table ≡ Some number
     → ReadsFile load.file old new (Err why) → LoadsFile load old new state next (Err why)
-loads_unread load old new state next table why is named read =
-    record { file = read.file; given = read.given; returns = rw (is, named) (read.fits table) }
+loads_unread load old new state next number why there read =
+    record { file = read.file; given = read.given; returns = rw there (read.fits state number) }
+
+-- the file was read, and this came of it
+pub loads_bytes : (load : LoadDef) (old new : FolderState) (state next : SessionState) (number : ℕ) (bytes : Vec ℕ Global) (result : Result (Vec ℕ Global) Stop) → table_number state load.table ≡ Some number
+    → ReadsFile load.file old new (Ok bytes) → ReturnsFree (with_loaded state number (load_due state number bytes.items)) result next → LoadsFile load old new state next result
+loads_bytes load old new state next number bytes result there read returns =
+    let within : nat_le (length bytes.items) max_file_bytes ≡ true = le-leb _ _ read.fits.1 in
+    record { file = read.file; given = read.given; returns = rw (there, read.fits.0, within) returns }

@@ -4,7 +4,6 @@ use Rattle.std.specs.Prelude.{IfSome, IsSome, Result, Ok, Err, IfOk}
 use Rattle.std.specs.Io.KnownBytes.{Appends}
 use Rattle.std.proofs.lemmas.List.{drop_all, length-take}
 use Rattle.std.proofs.lemmas.List.Elements.{All-head, All-tail}
-use Rattle.work_ledger.specs.Account.{Account}
 use Rattle.outside_io.specs.Files.{FolderState}
 use Rattle.sql_values.specs.Limits.{max_script_bytes}
 use Rattle.sql_parse.specs.Trees.{StatementTree, Load}
@@ -47,7 +46,7 @@ known_nothing None before after ended had elsewhere = tt
 known_nothing (Some script) before after ended had elsewhere = serves_nothing script before after ended had elsewhere
 
 -- statements that were carried out are those of the script
-pub serves_statements : (script : List ℕ) (statements : List StatementTree) (before after : FolderState) (ended : Status) (had got : Option (List ℕ)) (old new : Account) → IsScript script (Ok statements)
+pub serves_statements : (script : List ℕ) (statements : List StatementTree) (before after : FolderState) (ended : Status) (had got : Option (List ℕ)) (old new : ℕ) → IsScript script (Ok statements)
     → CarriesAll statements before after ended had got old new → Serves script before after ended had got
 serves_statements script statements before after ended had got old new reads carried = record {
   answer = answer_of (Ok carried.steps);

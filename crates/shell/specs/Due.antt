@@ -1,7 +1,7 @@
 -- What statements return and do, held against what is due to them.
-use Rattle.std.specs.Prelude.{◌≡◌, ℕ, ◌+◌, ⊤, All, Result, Ok, Err, Vec, List, Option, Some, None}
+use Rattle.std.specs.Prelude.{◌≡◌, ℕ, ◌+◌, ⊤, All, Result, Ok, Err, Vec, List, Option, Some, length, ◌≤◌}
 use Rattle.std.specs.declared.alloc.Global.{Global}
-use Rattle.work_ledger.specs.Account.{Account}
+use Rattle.sql_values.specs.Limits.{max_file_bytes}
 use Rattle.outside_io.specs.Files.{FolderState}
 use Rattle.shell.specs.declared.stop.Stop.{Stop}
 use Rattle.shell.specs.declared.stop.Stop.TheVariants as stop
@@ -11,7 +11,7 @@ use Rattle.shell.specs.declared.status.Status.{Status}
 use Rattle.shell.specs.declared.status.Status.TheVariants as status
 use Rattle.sql_parse.specs.declared.tree.LoadDef.{LoadDef}
 use Rattle.sql_parse.specs.Trees.{StatementTree}
-use Rattle.shell.specs.Script.{Answer, NamedTable, Outcome, Prints, Refuses, SessionState, Step, at_table, load_file, outcome, script_answer}
+use Rattle.shell.specs.Script.{Answer, Outcome, Prints, Refuses, SessionState, Step, at_table, load_file, outcome, script_answer, nothing_made}
 use Rattle.shell.specs.Serve.{Carries, IsGiven, IsGivenFor, IsScript, statements_of_steps}
 use Rattle.shell.specs.Stop.{StopsAt}
 
@@ -20,10 +20,11 @@ abbrev pub RefusesScript : List ℕ → ScriptFault → Type 0
 RefusesScript script (script_fault.Refused why) = IsScript script (Err why)
 RefusesScript script script_fault.NoMemory = ⊤
 
--- the bytes of the file are returned, or a stop that fits whatever table it was to be loaded into
+-- the bytes of the file are returned, which are no more than its limit; or a stop that fits whatever table it was to
+-- be loaded into
 abbrev pub FitsFile : List ℕ → Option (List ℕ) → Result (Vec ℕ Global) Stop → Type 0
-FitsFile name file (Ok bytes) = file ≡ Some bytes.items
-FitsFile name file (Err why) = (table : NamedTable) → StopsAt (load_file table name file) why
+FitsFile name file (Ok bytes) = (file ≡ Some bytes.items) × (length bytes.items ≤ max_file_bytes)
+FitsFile name file (Err why) = (state : SessionState) (number : ℕ) → StopsAt (load_file state number name file) why
 
 -- a file of this name was asked for, and this came of it
 pub record ReadsFile (name : List ℕ) (before after : FolderState) (result : Result (Vec ℕ Global) Stop) : Type 0 where
@@ -40,31 +41,31 @@ ReturnsFree due (Err why) state = StopsAt due why
 pub record LoadsFile (load : LoadDef) (before after : FolderState) (state next : SessionState) (result : Result (Vec ℕ Global) Stop) : Type 0 where
   pub file : Option (List ℕ)
   pub given : IsGiven before after load.file file
-  pub returns : ReturnsFree (at_table state load.table (λ table. load_file table load.file file)) result next
+  pub returns : ReturnsFree (at_table state load.table (λ number. load_file state number load.file file)) result next
 
 -- what is returned is what is due: a text, whose work was paid, and the state after it; or a refusal, for which
 -- nothing was paid
-abbrev pub ReturnsDue : Outcome → Result (Vec ℕ Global) Stop → SessionState → Account → Account → Type 0
-ReturnsDue due (Ok text) state old new = (work : ℕ) × (due ≡ Prints text.items work state) × (new.spent ≡ old.spent + work)
-ReturnsDue due (Err (stop.Refused why)) state old new = (due ≡ Refuses why) × (new.spent ≡ old.spent)
+abbrev pub ReturnsDue : Outcome → Result (Vec ℕ Global) Stop → SessionState → (before after : ℕ) → Type 0
+ReturnsDue due (Ok text) state old new = (work : ℕ) × (due ≡ Prints text.items work state) × (new ≡ old + work)
+ReturnsDue due (Err (stop.Refused why)) state old new = (due ≡ Refuses why) × (new ≡ old)
 ReturnsDue due (Err stop.ReadFault) state old new = ⊤
 ReturnsDue due (Err stop.NoMemory) state old new = ⊤
 
 -- a statement returned what is due to it with the file that the folder gave for it
-pub record IsCarriedOut (statement : StatementTree) (before after : FolderState) (state next : SessionState) (old new : Account) (result : Result (Vec ℕ Global) Stop) : Type 0 where
+pub record IsCarriedOut (statement : StatementTree) (before after : FolderState) (state next : SessionState) (old new : ℕ) (result : Result (Vec ℕ Global) Stop) : Type 0 where
   pub file : Option (List ℕ)
   pub given : IsGivenFor before after statement file
   pub returns : ReturnsDue (outcome state statement file) result next old new
 
 -- where the run ended as the answer does, exactly the answer's work was paid
-pub record PaysFor (answer : Answer) (ended : Status) (old new : Account) : Type 0 where
-  pub done : ended ≡ status.Done → new.spent ≡ old.spent + answer.work
-  pub refused : ended ≡ status.Refused → new.spent ≡ old.spent + answer.work
+pub record PaysFor (answer : Answer) (ended : Status) (old new : ℕ) : Type 0 where
+  pub done : ended ≡ status.Done → new ≡ old + answer.work
+  pub refused : ended ≡ status.Refused → new ≡ old + answer.work
 
 -- all statements were carried out, up to and with the first refusal, or a part of them
-pub record CarriesAll (statements : List StatementTree) (before after : FolderState) (ended : Status) (had got : Option (List ℕ)) (old new : Account) : Type 0 where
+pub record CarriesAll (statements : List StatementTree) (before after : FolderState) (ended : Status) (had got : Option (List ℕ)) (old new : ℕ) : Type 0 where
   pub steps : List Step
   pub are : statements_of_steps steps ≡ statements
   pub given : All (λ step. IsGivenFor before after step.statement step.file) steps
-  pub carries : Carries (script_answer None steps) ended had got
-  pub pays : PaysFor (script_answer None steps) ended old new
+  pub carries : Carries (script_answer nothing_made steps) ended had got
+  pub pays : PaysFor (script_answer nothing_made steps) ended old new

@@ -1,10 +1,5 @@
-pub mod Digits
 pub mod Due
-pub mod Entries
 pub mod Limits
-pub mod Load
-pub mod Order
-pub mod SortKey
 pub mod Printed
 pub mod Refusal
 pub mod Scan
@@ -12,5 +7,3 @@ pub mod Script
 pub mod Serve
 pub mod Source
 pub mod Stop
-pub mod TextWriter
-pub mod Word

@@ -2,6 +2,11 @@
 use Rattle.std.specs.Prelude.{◌≡◌, ⊤}
 use Rattle.shell.specs.declared.stop.Stop.{Stop}
 use Rattle.shell.specs.declared.stop.Stop.TheVariants as stop
+use Rattle.db_catalog.specs.declared.fault.DbFault.{DbFault}
+use Rattle.db_catalog.specs.declared.fault.DbFault.TheVariants as change
+use Rattle.csv_load.specs.declared.fault.LoadFault.{LoadFault}
+use Rattle.csv_load.specs.declared.fault.LoadFault.TheVariants as load
+use Rattle.shell.specs.declared.refusal.Refusal.TheVariants as refusal
 use Rattle.shell.specs.Script.{Outcome, Refuses}
 
 -- a refusal is the one that is due; a fault and out of memory fit anything
@@ -9,3 +14,12 @@ abbrev pub StopsAt : Outcome → Stop → Type 0
 StopsAt due (stop.Refused why) = due ≡ Refuses why
 StopsAt due stop.ReadFault = ⊤
 StopsAt due stop.NoMemory = ⊤
+
+-- a refusal of the database, or of a file; out of memory refuses nothing
+abbrev pub stop_of_change : DbFault → Stop
+stop_of_change change.NoMemory = stop.NoMemory
+stop_of_change fault = stop.Refused (refusal.NotMade fault)
+
+abbrev pub stop_of_load : LoadFault → Stop
+stop_of_load load.NoMemory = stop.NoMemory
+stop_of_load fault = stop.Refused (refusal.NotLoaded fault)

@@ -4,24 +4,19 @@
 //! never prints what wasn't due, and never answers a fault that none of the three counted.
 #![tactic(auto)]
 
+mod book;
+mod columns;
 mod lines;
-mod load;
-mod order;
-mod print;
 mod program;
 mod query;
 mod refusal;
-mod row;
 mod scan;
 mod script;
 mod session;
 mod source;
 mod status;
 mod stop;
-mod table;
-mod word;
 
-pub use order::in_order_ascends;
 pub use program::{one_answer_is_due, serve};
 pub use status::Status;
 

@@ -15,6 +15,7 @@ ghost use Rattle.shell.specs.Due.{CarriesAll};
 ghost use Rattle.shell.specs.Serve.{IsScript, IsAnswer, Serves, RefusesWords, IsDecided};
 ghost use Rattle.shell.specs.Source.{TakesAtMost};
 
+use crate::book::Book;
 use crate::refusal::{Refusal, refusal_line};
 use crate::script::{ScriptFault, read_script};
 use crate::session::Session;
@@ -24,7 +25,6 @@ use crate::{Status, lines};
 use outside_io::{Folder, PutFault, Sink, Source};
 use sql_parse::Statement;
 use std::alloc::Global;
-use work_ledger::Ledger;
 
 // Puts a text, where it isn't empty.
 fn put_text<K: Sink>(sink: &mut K, text: &[u8]) -> Result<(), Status>
@@ -73,20 +73,20 @@ fn carry_out_all<F: Folder, K: Sink>(
     statements: &[Statement],
     folder: &mut F,
     sink: &mut K,
-    ledger: &mut Ledger,
+    book: &mut Book,
 ) -> Status
     requires well_formed { All (λ statement. IsWellFormed (statement_tree statement)) statements.now }
-    requires unspent { ledger.old.spent ≡ 0 }
+    requires unpaid { book.old ≡ 0 }
     ensures carries { CarriesAll (map statement_tree statements.now) (F.state folder.old) (F.state folder.new) result
-        (K.got sink.old) (K.got sink.new) ledger.old ledger.new }
+        (K.got sink.old) (K.got sink.new) book.old book.new }
     ensures kinds { result ≢ Status.BadWords }
     ensures folder { OnlyReads (result ≡ Status.ReadFault) ⊥
         (F.state folder.old) (F.state folder.new) }
     ensures sink { HasCause (result ≡ Status.WriteFault) (K.faults sink.old) (K.faults sink.new) }
 {
-    let mut session = Session::new();
+    let mut session = Session::new(alloc);
     for statement in statements {
-        let text = match session.carry_out(alloc, statement, folder, ledger) {
+        let text = match session.carry_out(alloc, statement, folder, book) {
             Ok(text) => text,
             Err(Stop::Refused(refusal)) => return put_refusal(alloc, sink, &refusal),
             Err(Stop::ReadFault) => return Status::ReadFault,
@@ -129,7 +129,7 @@ fn carry_out_script<F: Folder, K: Sink>(
     ensures sink { HasCause (result ≡ Status.WriteFault) (K.faults sink.old) (K.faults sink.new) }
 {
     match read_script(alloc, script) {
-        Ok(statements) => carry_out_all(alloc, &statements, folder, sink, &mut Ledger::new()),
+        Ok(statements) => carry_out_all(alloc, &statements, folder, sink, &mut Book::new()),
         Err(ScriptFault::Refused(refusal)) => put_refusal(alloc, sink, &refusal),
         Err(ScriptFault::NoMemory) => Status::NoMemory,
     }

@@ -1,8 +1,9 @@
 // Why a script or a statement is refused: each refusal is a value, and becomes its line here alone.
-ghost use Rattle.std.specs.Prelude.{◌≡◌, ◌++◌, IfOk, codes, decimal};
-ghost use Rattle.sql_values.specs.LimitNames.{limit_word};
-ghost use Rattle.shell.specs.Refusal.{line_of, error_line, token_fault_word, later_word};
+ghost use Rattle.std.specs.Prelude.{◌≡◌, ◌++◌, IfOk, OnOk, codes, decimal};
+ghost use Rattle.shell.specs.Refusal.{line_of, error_line, limit_line, not_made_line, field_line, fields_line, not_loaded_line, no_token_line, token_fault_word, later_word};
 
+use csv_load::LoadFault;
+use db_catalog::DbFault;
 use itoa::Buffer;
 use sql_lex::{LexFault, LexKind};
 use sql_parse::Name;
@@ -12,12 +13,6 @@ use std::alloc::{AllocError, Global};
 /// What isn't built yet.
 #[derive(Clone, Copy, Debug, PartialEq, Eq)]
 pub(crate) enum Later {
-    /// A file of another form than a table of numbers.
-    File,
-    /// A column of texts, one that refuses NULL, too many columns, or two of one name.
-    Column,
-    /// A second table.
-    Table,
     /// A query of anything but all columns of one table.
     Select,
     /// Another statement.
@@ -33,10 +28,14 @@ pub(crate) enum Refusal {
     NoStatement(usize),
     /// There is no table of this name.
     NoTable(Name),
+    /// The database refuses a table.
+    NotMade(DbFault),
     /// The folder has no file of this name.
     AbsentFile(Text),
+    /// The file gives no rows to its table.
+    NotLoaded(LoadFault),
     /// A quantity is past its limit, with this value.
-    PastLimit(LimitName, u64),
+    PastLimit(LimitName, u128),
     /// It isn't built yet.
     Later(Later),
 }
@@ -52,18 +51,32 @@ fn error_line(alloc: Global, kind: &str, about: &[u8]) -> Result<Vec<u8>, AllocE
     Ok(line)
 }
 
-// The same with a number at the end.
-fn number_line(alloc: Global, kind: &str, about: &str, number: u64) -> Result<Vec<u8>, AllocError>
+// The same with a number behind a space at the end.
+fn number_line(alloc: Global, kind: &str, about: &str, number: u128) -> Result<Vec<u8>, AllocError>
     ensures { IfOk result (λ line. line.items
         ≡ error_line (kind.now ++ (about.now ++ (codes " " ++ decimal number)))) }
 {
     let mut line = Vec::from_slice(alloc, b"error ")?;
     line.extend_from_slice(kind.as_bytes())?;
     line.extend_from_slice(about.as_bytes())?;
-    line.push(b' ')?;
-    line.extend_from_slice(Buffer::new().format(number).as_bytes())?;
+    push_number(&mut line, number)?;
     line.push(b'\n')?;
     Ok(line)
+}
+
+// A space and a number.
+fn push_number(line: &mut Vec<u8>, number: u128) -> Result<(), AllocError>
+    ensures { OnOk result (line.new.items ≡ line.old.items ++ (codes " " ++ decimal number)) }
+{
+    line.push(b' ')?;
+    line.extend_from_slice(Buffer::new().format(number).as_bytes())
+}
+
+// The line of a limit.
+fn limit_line(alloc: Global, limit: LimitName, value: u128) -> Result<Vec<u8>, AllocError>
+    ensures { IfOk result (λ line. line.items ≡ limit_line limit value) }
+{
+    number_line(alloc, "E12 limit ", limit.word(), value)
 }
 
 // What is wrong with the first byte that begins no token. Out of memory refuses nothing.
@@ -84,12 +97,77 @@ fn later_word(what: Later) -> &'static str
     ensures { result.now ≡ later_word what }
 {
     match what {
-        Later::File => "file",
-        Later::Column => "column",
-        Later::Table => "table",
         Later::Select => "select",
         Later::Statement => "statement",
     }
+}
+
+// The line of a database's refusal. Out of memory refuses nothing.
+fn not_made_line(alloc: Global, fault: &DbFault) -> Result<Vec<u8>, AllocError>
+    ensures { IfOk result (λ line. line.items ≡ not_made_line fault.now) }
+{
+    match fault {
+        DbFault::Duplicate { name } => error_line(alloc, "E06 duplicate ", name.bytes()),
+        DbFault::Limit { name, value } => limit_line(alloc, *name, *value),
+        DbFault::NoMemory => error_line(alloc, "", b""),
+    }
+}
+
+// What is wrong with a field, and where.
+fn field_line(alloc: Global, kind: &str, entry: u64, field: u32) -> Result<Vec<u8>, AllocError>
+    ensures { IfOk result (λ line. line.items ≡ field_line kind.now entry field) }
+{
+    let mut line = Vec::from_slice(alloc, b"error E11 ")?;
+    line.extend_from_slice(kind.as_bytes())?;
+    push_number(&mut line, u128::from(entry))?;
+    push_number(&mut line, u128::from(field))?;
+    line.push(b'\n')?;
+    Ok(line)
+}
+
+// An entry that hasn't a field for each column.
+fn fields_line(alloc: Global, entry: u64, found: u64, wanted: u64) -> Result<Vec<u8>, AllocError>
+    ensures { IfOk result (λ line. line.items ≡ fields_line entry found wanted) }
+{
+    let mut line = Vec::from_slice(alloc, b"error E10 fields")?;
+    push_number(&mut line, u128::from(entry))?;
+    push_number(&mut line, u128::from(found))?;
+    push_number(&mut line, u128::from(wanted))?;
+    line.push(b'\n')?;
+    Ok(line)
+}
+
+// The line of a file that gives no rows. Out of memory refuses nothing.
+fn not_loaded_line(alloc: Global, fault: &LoadFault) -> Result<Vec<u8>, AllocError>
+    ensures { IfOk result (λ line. line.items ≡ not_loaded_line fault.now) }
+{
+    match fault {
+        LoadFault::Header { field } => number_line(alloc, "E10 ", "header", u128::from(*field)),
+        LoadFault::FieldCount {
+            entry,
+            found,
+            wanted,
+        } => fields_line(alloc, *entry, *found, *wanted),
+        LoadFault::NotUtf8 { entry, field } => field_line(alloc, "utf8", *entry, *field),
+        LoadFault::NotInteger { entry, field } => field_line(alloc, "integer", *entry, *field),
+        LoadFault::OutOfRange { entry, field } => field_line(alloc, "range", *entry, *field),
+        LoadFault::NullInNotNull { entry, field } => field_line(alloc, "null", *entry, *field),
+        LoadFault::TooLong { entry, field } => field_line(alloc, "long", *entry, *field),
+        LoadFault::Limit { name, value } => limit_line(alloc, *name, *value),
+        LoadFault::NoMemory => error_line(alloc, "", b""),
+    }
+}
+
+// The line of a script without tokens.
+fn no_token_line(alloc: Global, fault: &LexFault) -> Result<Vec<u8>, AllocError>
+    ensures { IfOk result (λ line. line.items ≡ no_token_line fault.now) }
+{
+    number_line(
+        alloc,
+        "E01 ",
+        token_fault_word(fault.kind),
+        fault.place as u128,
+    )
 }
 
 /// The line that a refusal puts.
@@ -97,18 +175,13 @@ pub(crate) fn refusal_line(alloc: Global, refusal: &Refusal) -> Result<Vec<u8>, 
     ensures { IfOk result (λ line. line.items ≡ line_of refusal.now) }
 {
     match refusal {
-        Refusal::NoToken(fault) => {
-            number_line(
-                alloc,
-                "E01 ",
-                token_fault_word(fault.kind),
-                fault.place as u64,
-            )
-        }
-        Refusal::NoStatement(place) => number_line(alloc, "E02 ", "syntax", *place as u64),
+        Refusal::NoToken(fault) => no_token_line(alloc, fault),
+        Refusal::NoStatement(place) => number_line(alloc, "E02 ", "syntax", *place as u128),
         Refusal::NoTable(name) => error_line(alloc, "E03 table ", name.bytes()),
+        Refusal::NotMade(fault) => not_made_line(alloc, fault),
         Refusal::AbsentFile(name) => error_line(alloc, "E09 absent ", name.bytes()),
-        Refusal::PastLimit(limit, value) => number_line(alloc, "E12 limit ", limit.word(), *value),
+        Refusal::NotLoaded(fault) => not_loaded_line(alloc, fault),
+        Refusal::PastLimit(limit, value) => limit_line(alloc, *limit, *value),
         Refusal::Later(what) => error_line(alloc, "E00 later ", later_word(*what).as_bytes()),
     }
 }

@@ -44,7 +44,7 @@ pub(crate) fn read_script(alloc: Global, script: &[u8]) -> Result<Vec<Statement>
     ensures refused { IfErr result (RefusesScript script.now) }
 {
     if script.len() as u64 > MAX_SCRIPT_BYTES {
-        let value = MAX_SCRIPT_BYTES + 1;
+        let value = MAX_SCRIPT_BYTES as u128 + 1;
         return Err(ScriptFault::Refused(Refusal::PastLimit(LimitName::Script, value)));
     }
     let tokens = match lex(alloc, script) {

@@ -1,28 +1,31 @@
 // What the statements so far have made, and what one statement more does. A statement that stops changes nothing.
-ghost use Rattle.std.specs.Prelude.{◌≡◌, ◌+◌, ◌^◌, ◌<◌, ◌≤◌, length, OnOk, None, IfErr, OnErr, IsErrOf, option_map};
+ghost use Rattle.std.specs.Prelude.{◌≡◌, ◌+◌, ◌^◌, ◌<◌, ◌≤◌, length, OnOk, IfErr, OnErr, IsErrOf, option_map};
 ghost use Rattle.std.specs.Str.{IsUtf8};
 ghost use Rattle.outside_io.specs.Files.{OnlyReads};
 ghost use Rattle.sql_parse.specs.Trees.{statement_tree, query_tree};
 ghost use Rattle.sql_parse.specs.WellFormed.{IsWellFormed};
 ghost use Rattle.shell.specs.Limits.{max_work};
-ghost use Rattle.shell.specs.Script.{Refuses, at_table, make_table, select_all, select_from, whole_table};
+ghost use Rattle.csv_load.specs.Load.{load_due};
+ghost use Rattle.shell.specs.Script.{Refuses, nothing_made, at_table, make_table, select_all, select_from, whole_table, with_loaded};
 ghost use Rattle.shell.specs.Stop.{StopsAt};
 ghost use Rattle.shell.specs.Due.{ReadsFile, ReturnsDue, ReturnsFree, LoadsFile, IsCarriedOut};
 
+use crate::book::Book;
+use crate::lines;
+use crate::query::answer;
 use crate::refusal::{Later, Refusal};
 use crate::stop::Stop;
-use crate::table::{Table, are_plain};
+use db_catalog::{Database, Metered};
 use outside_io::{FileFault, Folder};
 use sql_parse::{LoadDef, Name, Query, Statement, TableDef};
-use sql_values::Text;
+use sql_values::{LimitName, Text};
 use std::alloc::Global;
 use std::marker::Model;
-use work_ledger::Ledger;
 
-/// The table that the statements so far have made.
+/// What the statements so far have made.
 #[derive(Drop)]
 pub(crate) struct Session {
-    table: Option<Table>,
+    database: Database,
 }
 
 impl Model for Session {
@@ -30,7 +33,7 @@ impl Model for Session {
 
     ghost Value = { SessionState };
 
-    ghost view = { λ s. s.table };
+    ghost view = { λ s. s.database };
 }
 
 // The folder has no file of this name.
@@ -62,6 +65,13 @@ fn later(what: Later) -> Stop
     Stop::Refused(Refusal::Later(what))
 }
 
+// A file of so many bytes is too long.
+fn long_file(len: u64) -> Stop
+    ensures refusal { result ≡ Stop.Refused (Refusal.PastLimit LimitName.File len) }
+{
+    Stop::Refused(Refusal::PastLimit(LimitName::File, u128::from(len)))
+}
+
 // The name of a file as a text.
 fn file_name(name: &Text) -> &str
     requires { IsUtf8 name.now }
@@ -83,7 +93,7 @@ fn read_file<F: Folder>(alloc: Global, name: &Text, folder: &mut F) -> Result<Ve
     match folder.read(alloc, file_name(name)) {
         Ok(bytes) => Ok(bytes),
         Err(FileFault::Absent) => Err(absent_file(name)),
-        Err(FileFault::TooLong { .. }) => Err(later(Later::File)),
+        Err(FileFault::TooLong { len }) => Err(long_file(len)),
         Err(FileFault::Failed) => Err(Stop::ReadFault),
         Err(FileFault::NoMemory) => Err(Stop::NoMemory),
     }
@@ -109,10 +119,12 @@ fn whole_table(query: &Query) -> Option<&Name>
 
 impl Session {
     /// Before the first statement.
-    pub(crate) fn new() -> Session
-        ensures { result ≡ None }
+    pub(crate) fn new(alloc: Global) -> Session
+        ensures { result ≡ nothing_made }
     {
-        Session { table: None }
+        Session {
+            database: Database::new(alloc),
+        }
     }
 
     // Makes a table, which prints nothing.
@@ -122,14 +134,23 @@ impl Session {
         ensures no_fault { IsErrOf result Stop.ReadFault → ⊥ }
         ensures unchanged { OnErr result (self.new ≡ self.old) }
     {
-        if self.table.is_some() {
-            return Err(later(Later::Table));
-        }
-        if !are_plain(table.columns.as_slice()) {
-            return Err(later(Later::Column));
-        }
-        self.table = Some(Table::new(alloc, table)?);
+        self.database
+            .create_table(table.name.bytes(), table.columns.as_slice())?;
         Ok(Vec::new(alloc))
+    }
+
+    // Loads the bytes of a file into the table of this number.
+    fn load_bytes(&mut self, alloc: Global, table: u32, bytes: &[u8]) -> Result<Vec<u8>, Stop>
+        requires there { table < length self.old.tables }
+        ensures loaded { ReturnsFree
+            (with_loaded self.old table (load_due self.old table bytes.now)) result self.new }
+        ensures no_fault { IsErrOf result Stop.ReadFault → ⊥ }
+        ensures unchanged { OnErr result (self.new ≡ self.old) }
+    {
+        let mut text = lines::load_room(alloc)?;
+        let rows = csv_load::load(alloc, &mut self.database, table, bytes)?;
+        lines::write_load(&mut text, rows);
+        Ok(text)
     }
 
     // Loads a file into a table.
@@ -146,50 +167,44 @@ impl Session {
         ensures folder { OnlyReads (IsErrOf result Stop.ReadFault) ⊥
             (F.state folder.old) (F.state folder.new) }
     {
-        let Some(table) = &mut self.table else {
+        let Some(table) = self.database.table_of(load.table.bytes()) else {
             return Err(no_table(&load.table));
         };
-        if !table.is_named(&load.table) {
-            return Err(no_table(&load.table));
-        }
         let bytes = match read_file(alloc, &load.file, folder) {
             Ok(bytes) => bytes,
             Err(stop) => return Err(stop),
         };
-        table.load(alloc, &bytes)
+        self.load_bytes(alloc, table, &bytes)
     }
 
     // Answers a query of all columns of the table of this name.
-    fn select_table(&self, alloc: Global, name: &Name, ledger: &mut Ledger) -> Result<Vec<u8>, Stop>
-        requires room { ledger.old.spent + max_work ≤ 2 ^ 126 }
-        ensures due { ReturnsDue (at_table self.now name.now (λ table. select_all table self.now))
-            result self.now ledger.old ledger.new }
-        ensures within { OnOk result (ledger.new.spent ≤ ledger.old.spent + max_work) }
+    fn select_table(&self, alloc: Global, name: &Name, book: &mut Book) -> Result<Vec<u8>, Stop>
+        requires room { book.old + max_work ≤ 2 ^ 126 }
+        ensures due { ReturnsDue (at_table self.now name.now (select_all self.now))
+            result self.now book.old book.new }
+        ensures within { book.new ≤ book.old + max_work }
         ensures no_fault { IsErrOf result Stop.ReadFault → ⊥ }
     {
-        let Some(table) = &self.table else {
+        let Some(table) = self.database.table_of(name.bytes()) else {
             return Err(no_table(name));
         };
-        if !table.is_named(name) {
-            return Err(no_table(name));
-        }
-        match table.answer(alloc, ledger) {
-            Ok(text) => Ok(text),
-            Err(_) => Err(Stop::NoMemory),
-        }
+        let mut meter = Metered::new(&self.database);
+        let text = answer(alloc, &self.database, &mut meter, table)?;
+        book.enter(&meter);
+        Ok(text)
     }
 
     // Answers a query.
-    fn select(&self, alloc: Global, query: &Query, ledger: &mut Ledger) -> Result<Vec<u8>, Stop>
-        requires room { ledger.old.spent + max_work ≤ 2 ^ 126 }
+    fn select(&self, alloc: Global, query: &Query, book: &mut Book) -> Result<Vec<u8>, Stop>
+        requires room { book.old + max_work ≤ 2 ^ 126 }
         ensures due { ReturnsDue (select_from self.now (whole_table query.now.columns
             query.now.from (query_tree query.now).condition))
-            result self.now ledger.old ledger.new }
-        ensures within { OnOk result (ledger.new.spent ≤ ledger.old.spent + max_work) }
+            result self.now book.old book.new }
+        ensures within { book.new ≤ book.old + max_work }
         ensures no_fault { IsErrOf result Stop.ReadFault → ⊥ }
     {
         match whole_table(query) {
-            Some(name) => self.select_table(alloc, name, ledger),
+            Some(name) => self.select_table(alloc, name, book),
             None => Err(later(Later::Select)),
         }
     }
@@ -200,22 +215,21 @@ impl Session {
         alloc: Global,
         statement: &Statement,
         folder: &mut F,
-        ledger: &mut Ledger,
+        book: &mut Book,
     ) -> Result<Vec<u8>, Stop>
         requires well_formed { IsWellFormed (statement_tree statement.now) }
-        requires room { ledger.old.spent + max_work ≤ 2 ^ 126 }
+        requires room { book.old + max_work ≤ 2 ^ 126 }
         ensures due { IsCarriedOut (statement_tree statement.now)
-            (F.state folder.old) (F.state folder.new)
-            self.old self.new ledger.old ledger.new result }
+            (F.state folder.old) (F.state folder.new) self.old self.new book.old book.new result }
         ensures unchanged { OnErr result (self.new ≡ self.old) }
-        ensures within { OnOk result (ledger.new.spent ≤ ledger.old.spent + max_work) }
+        ensures within { book.new ≤ book.old + max_work }
         ensures folder { OnlyReads (IsErrOf result Stop.ReadFault) ⊥
             (F.state folder.old) (F.state folder.new) }
     {
         match statement {
             Statement::CreateTable(table) => self.create(alloc, table),
             Statement::Load(load) => self.load(alloc, load, folder),
-            Statement::Select(query) => self.select(alloc, query, ledger),
+            Statement::Select(query) => self.select(alloc, query, book),
             Statement::CreateIndex(_) => Err(later(Later::Statement)),
             Statement::Compile(_) => Err(later(Later::Statement)),
             Statement::Run(_) => Err(later(Later::Statement)),

@@ -1,5 +1,7 @@
 // Why a statement isn't carried out.
 use crate::refusal::Refusal;
+use csv_load::LoadFault;
+use db_catalog::DbFault;
 use std::alloc::AllocError;
 
 /// Why a statement isn't carried out.
@@ -21,5 +23,33 @@ impl From<AllocError> for Stop {
 
     fn from(_: AllocError) -> Stop {
         Stop::NoMemory
+    }
+}
+
+impl From<DbFault> for Stop {
+    ghost use Rattle.std.specs.Prelude.{◌≡◌};
+    ghost use Rattle.shell.specs.Stop.{stop_of_change};
+
+    ghost from_gives = { λ fault stop. stop ≡ stop_of_change fault };
+
+    fn from(fault: DbFault) -> Stop {
+        match fault {
+            DbFault::NoMemory => Stop::NoMemory,
+            fault => Stop::Refused(Refusal::NotMade(fault)),
+        }
+    }
+}
+
+impl From<LoadFault> for Stop {
+    ghost use Rattle.std.specs.Prelude.{◌≡◌};
+    ghost use Rattle.shell.specs.Stop.{stop_of_load};
+
+    ghost from_gives = { λ fault stop. stop ≡ stop_of_load fault };
+
+    fn from(fault: LoadFault) -> Stop {
+        match fault {
+            LoadFault::NoMemory => Stop::NoMemory,
+            fault => Stop::Refused(Refusal::NotLoaded(fault)),
+        }
     }
 }

@@ -21,12 +21,6 @@ const TEXT: &[u8] =
 
 const USAGE: &[u8] = b"usage: bouquet [--max-work N] [--demo N]\n";
 
-const LATER_FILE: &[u8] = b"error E00 later file\n";
-
-const LATER_COLUMN: &[u8] = b"error E00 later column\n";
-
-const LATER_TABLE: &[u8] = b"error E00 later table\n";
-
 const LATER_SELECT: &[u8] = b"error E00 later select\n";
 
 const LATER_STATEMENT: &[u8] = b"error E00 later statement\n";
@@ -86,6 +80,18 @@ fn nested(alloc: Global, depth: usize) -> Result<Vec<u8>, AllocError> {
     repeated(alloc, &open, b")", depth, b"")
 }
 
+// So many tables, of different names.
+fn many_tables(alloc: Global, tables: usize) -> Result<Vec<u8>, AllocError> {
+    let mut text = Vec::new(alloc);
+    for i in 0..tables {
+        let name = [b'T', b'A' + (i / 26) as u8, b'A' + (i % 26) as u8];
+        text.extend_from_slice(b"CREATE TABLE ")?;
+        text.extend_from_slice(&name)?;
+        text.extend_from_slice(b" (A INTEGER);")?;
+    }
+    Ok(text)
+}
+
 #[derive(Clone, Copy)]
 struct Case<'a> {
     name: &'a str,
@@ -116,6 +122,7 @@ fn scripts_print_their_texts(rt: HostRuntime) -> Result<(), Fail> {
     )?;
     let deepest = nested(alloc, 32)?;
     let too_deep = nested(alloc, 33)?;
+    let tables = many_tables(alloc, 65)?;
     let columns = repeated(alloc, b"CREATE TABLE T (C INT", b", C INT", 32, b")")?;
     let cases = [
         Case {
@@ -196,25 +203,102 @@ fn scripts_print_their_texts(rt: HostRuntime) -> Result<(), Fail> {
             text: b"-- load rows=1\nA\n1\n-- rows=1 work=11 runs=1 contour=1 plan=S0\n-- load rows=1\nA\n1\n1\n-- rows=2 work=13 runs=1 contour=1 plan=S0\n",
         },
         Case {
-            name: "one below the least INTEGER",
-            script: ONE_COLUMN,
-            file: b"A\n-9223372036854775808\n",
-            status: Status::Refused,
-            text: LATER_FILE,
+            name: "texts, quoted where they have to be",
+            script: b"CREATE TABLE T (S VARCHAR(20)); LOAD 't.csv' INTO T; SELECT * FROM T",
+            file: b"S\nS\n\"a,b\"\n\"say \"\"hi\"\"\"\n\"x\ny\"\nB\n",
+            status: Status::Done,
+            text: b"-- load rows=5\nS\nB\nS\n\"a,b\"\n\"say \"\"hi\"\"\"\n\"x\ny\"\n-- rows=5 work=19 runs=1 contour=1 plan=S0\n",
         },
         Case {
-            name: "no INTEGER",
-            script: SCRIPT,
-            file: b"A,B\nx,1\n",
-            status: Status::Refused,
-            text: LATER_FILE,
+            name: "two tables, one of texts, each with its rows",
+            script: b"CREATE TABLE T (A INTEGER, B INTEGER); CREATE TABLE U (A VARCHAR(9), B INTEGER); LOAD 't.csv' INTO U; LOAD 't.csv' INTO T; SELECT * FROM U; SELECT * FROM T",
+            file: b"A,B\n10,1\n9,2\n",
+            status: Status::Done,
+            text: b"-- load rows=2\n-- load rows=2\nA,B\n10,1\n9,2\n-- rows=2 work=13 runs=1 contour=1 plan=S0\nA,B\n9,2\n10,1\n-- rows=2 work=13 runs=1 contour=1 plan=S0\n",
         },
         Case {
-            name: "a field too many",
-            script: SCRIPT,
-            file: b"A,B\n1,2,3\n",
+            name: "the first field of a header that isn't a column",
+            script: b"CREATE TABLE T (A INTEGER, B INTEGER); LOAD 't.csv' INTO T",
+            file: b"A,C\n1,2\n",
             status: Status::Refused,
-            text: LATER_FILE,
+            text: b"error E10 header 2\n",
+        },
+        Case {
+            name: "an entry with a field too few",
+            script: b"CREATE TABLE T (A INTEGER, B INTEGER); LOAD 't.csv' INTO T",
+            file: b"A,B\n1,2\n1\n",
+            status: Status::Refused,
+            text: b"error E10 fields 2 1 2\n",
+        },
+        Case {
+            name: "a field that is no number",
+            script: b"CREATE TABLE T (A INTEGER, B INTEGER); LOAD 't.csv' INTO T",
+            file: b"A,B\n1,z\n",
+            status: Status::Refused,
+            text: b"error E11 integer 1 2\n",
+        },
+        Case {
+            name: "a number out of range",
+            script: b"CREATE TABLE T (A INTEGER, B INTEGER); LOAD 't.csv' INTO T",
+            file: b"A,B\n9223372036854775807,-9223372036854775808\n",
+            status: Status::Refused,
+            text: b"error E11 range 1 2\n",
+        },
+        Case {
+            name: "a field that isn't UTF-8",
+            script: b"CREATE TABLE T (A INTEGER, B INTEGER); LOAD 't.csv' INTO T",
+            file: b"A,B\n\xff,1\n",
+            status: Status::Refused,
+            text: b"error E11 utf8 1 1\n",
+        },
+        Case {
+            name: "NULL where it is refused",
+            script: b"CREATE TABLE T (S VARCHAR(2) NOT NULL); LOAD 't.csv' INTO T",
+            file: b"S\nab\n\"\"\n",
+            status: Status::Refused,
+            text: b"error E11 null 2 1\n",
+        },
+        Case {
+            name: "a text of too many characters",
+            script: b"CREATE TABLE T (S VARCHAR(2) NOT NULL); LOAD 't.csv' INTO T",
+            file: b"S\nabc\n",
+            status: Status::Refused,
+            text: b"error E11 long 1 1\n",
+        },
+        Case {
+            name: "two tables of one name",
+            script: b"CREATE TABLE T (A INTEGER); CREATE TABLE t (B INTEGER)",
+            file: ROWS,
+            status: Status::Refused,
+            text: b"error E06 duplicate T\n",
+        },
+        Case {
+            name: "two columns of one name",
+            script: b"CREATE TABLE T (A INTEGER, B INTEGER, a INTEGER)",
+            file: ROWS,
+            status: Status::Refused,
+            text: b"error E06 duplicate A\n",
+        },
+        Case {
+            name: "a text without length",
+            script: b"CREATE TABLE T (S VARCHAR(0))",
+            file: ROWS,
+            status: Status::Refused,
+            text: b"error E12 limit length 0\n",
+        },
+        Case {
+            name: "33 columns",
+            script: &columns,
+            file: ROWS,
+            status: Status::Refused,
+            text: b"error E12 limit columns 33\n",
+        },
+        Case {
+            name: "65 tables",
+            script: &tables,
+            file: ROWS,
+            status: Status::Refused,
+            text: b"error E12 limit tables 65\n",
         },
         Case {
             name: "a byte that begins nothing",
@@ -292,41 +376,6 @@ fn scripts_print_their_texts(rt: HostRuntime) -> Result<(), Fail> {
             file: ROWS,
             status: Status::Refused,
             text: b"error E09 absent it's\n",
-        },
-        Case {
-            name: "a second table, with a column of texts",
-            script: b"CREATE TABLE T (A INTEGER); CREATE TABLE U (S VARCHAR(5))",
-            file: ROWS,
-            status: Status::Refused,
-            text: LATER_TABLE,
-        },
-        Case {
-            name: "a column of texts",
-            script: b"CREATE TABLE T (A INTEGER, S VARCHAR(5))",
-            file: ROWS,
-            status: Status::Refused,
-            text: LATER_COLUMN,
-        },
-        Case {
-            name: "a column that refuses NULL",
-            script: b"CREATE TABLE T (A INTEGER NOT NULL)",
-            file: ROWS,
-            status: Status::Refused,
-            text: LATER_COLUMN,
-        },
-        Case {
-            name: "two columns of one name",
-            script: b"CREATE TABLE T (A INTEGER, B INTEGER, a INTEGER)",
-            file: ROWS,
-            status: Status::Refused,
-            text: LATER_COLUMN,
-        },
-        Case {
-            name: "33 columns",
-            script: &columns,
-            file: ROWS,
-            status: Status::Refused,
-            text: LATER_COLUMN,
         },
         Case {
             name: "a named column",
@@ -618,14 +667,17 @@ fn serve_quietly(
 }
 
 #[test]
-fn a_file_that_is_too_long_is_not_well_formed(rt: HostRuntime) -> Result<(), Fail> {
+fn a_file_that_is_too_long_is_refused(rt: HostRuntime) -> Result<(), Fail> {
     let alloc = rt.alloc();
     let mut source = MemorySource::new(Vec::from_slice(alloc, SCRIPT)?, Vec::new(alloc));
     let mut sink = MemorySink::new(alloc, Vec::new(alloc));
     let mut folder = LongFiles { misses: 0 };
     let ended = serve(alloc, &[], &mut source, &mut folder, &mut sink);
     assert_eq!(rt; ended, Status::Refused);
-    assert_eq!(rt; sink.bytes(), LATER_FILE);
+    assert_eq!(rt;
+        sink.bytes(),
+        b"error E12 limit file 268435457\n".as_slice()
+    );
     assert_eq!(rt; folder.misses, 1);
     Ok(())
 }

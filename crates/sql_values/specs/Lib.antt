@@ -1,2 +1,6 @@
 pub mod Limits
 pub mod LimitNames
+pub mod Order
+pub mod Words
+pub mod Dictionary
+pub mod Stored

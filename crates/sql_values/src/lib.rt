@@ -9,7 +9,9 @@ mod column;
 mod limit;
 mod op;
 mod text;
+mod texts;
 mod value;
+mod value_order;
 
 pub use column::{ColumnDef, ColumnType};
 pub use limit::{
@@ -20,7 +22,9 @@ pub use limit::{
 };
 pub use op::Op;
 pub use text::Text;
-pub use value::Value;
+pub use texts::Texts;
+pub use value::{NULL_WORD, Value, null_word_is_as_stated};
+pub use value_order::{order, order_is_total};
 
 #[cfg(test)]
 mod tests {
@@ -74,5 +78,40 @@ mod tests {
         assert_eq!(rt; LimitName::Rows.word(), "rows");
         assert_eq!(rt; LimitName::TextBytes.word(), "textbytes");
         assert_eq!(rt; MAX_PRODUCT, 1 << 100);
+    }
+
+    #[test]
+    fn a_dictionary_gives_each_text_one_code(rt: HostRuntime) -> Result<(), Fail> {
+        let mut texts = Texts::new(rt.alloc());
+        assert_eq!(rt; texts.add(b"sun")?, 0);
+        assert_eq!(rt; texts.add(b"")?, 1);
+        assert_eq!(rt; texts.add(b"sun")?, 0);
+        assert_eq!(rt; texts.len(), 2);
+        assert_eq!(rt; texts.bytes(), 3);
+        assert_eq!(rt; texts.code_of(b"moon"), None);
+        let mut more = Texts::new(rt.alloc());
+        more.add(b"moon")?;
+        more.add(b"sun")?;
+        let codes = texts.merge(more)?;
+        assert_eq!(rt; codes.as_slice(), [2, 0].as_slice());
+        assert_eq!(rt; texts.text_of(2), b"moon".as_slice());
+        texts.cut(1);
+        assert_eq!(rt; texts.code_of(b"sun"), Some(0));
+        assert_eq!(rt; texts.code_of(b"moon"), None);
+        assert_eq!(rt; texts.bytes(), 3);
+        Ok(())
+    }
+
+    #[test]
+    fn values_are_in_order(rt: HostRuntime) -> Result<(), Fail> {
+        let a = Value::Text(Text::new(rt.alloc(), b"a")?);
+        let ab = Value::Text(Text::new(rt.alloc(), b"ab")?);
+        let ascending = [Value::Null, Value::Int(-3), Value::Int(2), a, ab];
+        for (i, x) in ascending.iter().enumerate() {
+            for (j, y) in ascending.iter().enumerate() {
+                assert!(rt; order(x, y) == i.cmp(&j));
+            }
+        }
+        Ok(())
     }
 }

@@ -7,8 +7,8 @@ use Rattle.shell.proofs.program.carry_out_all.Given as goal
 
 abbrev pub invariant-loop-statement : goal.invariant-loop-statement
 invariant-loop-statement g l = record {
-  carried : IsCarried (map statement_tree l.statements) l.statement-index (g.F.Folder.state l.fn.folder) (g.F.Folder.state l.folder) l.session (g.K.Sink.got l.fn.sink) (g.K.Sink.got l.sink) l.fn.ledger l.ledger;
+  carried : IsCarried (map statement_tree l.statements) l.statement-index (g.F.Folder.state l.fn.folder) (g.F.Folder.state l.folder) l.session (g.K.Sink.got l.fn.sink) (g.K.Sink.got l.sink) l.fn.book l.book;
   folder : OnlyReads ⊥ ⊥ (g.F.Folder.state l.fn.folder) (g.F.Folder.state l.folder);
   sink : g.K.Sink.faults l.fn.sink ≤ g.K.Sink.faults l.sink;
-  spent : l.ledger.spent ≤ l.statement-index * max_work;
+  spent : l.book ≤ l.statement-index * max_work;
 }

@@ -5,7 +5,7 @@ use Rattle.shell.proofs.session.read_file.Goals as goal
 
 pub returns-in-Err-TooLong-clause-file : goal.returns-in-Err-TooLong-clause-file
 returns-in-Err-TooLong-clause-file g c =
-    rw c.later.ensures.refusal (reads_long c.args.name.now (g.F.Folder.state c.args.folder.now) (g.F.Folder.state c.read.new.self) c.in-Err-TooLong.field-0-0
+    rw c.long_file.ensures.refusal (reads_long c.args.name.now (g.F.Folder.state c.args.folder.now) (g.F.Folder.state c.read.new.self) c.in-Err-TooLong.len
     (rw (c.in-Err-TooLong.field-0-is, c.file_name.ensures) at c.in-Err-TooLong.ensures.known) (rw c.in-Err-TooLong.field-0-is at c.in-Err-TooLong.ensures.within)
     ((rw c.in-Err-TooLong.field-0-is at c.in-Err-TooLong.ensures.reads).misses.rose tt))
 

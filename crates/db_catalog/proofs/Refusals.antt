@@ -1,0 +1,72 @@
+-- Refusals of several checks, one after another.
+use Rattle.std.proofs.Common.{◌≡◌, ◌≢◌, ℕ, ◌≤◌, Bool, true, false, Option, Some, None, Result, Ok, Err, refl, sym, ap, ◌∙◌, nat_lt, if◌then◌else◌, true≢false, is_some, option_map, pos, List}
+use Rattle.std.specs.Prelude.{IsErrAnd, OnErr, OnOk, is_err}
+use Rattle.std.specs.Str.{bytes_eq}
+use Rattle.sql_values.specs.Dictionary.{has_text, code_of}
+use Rattle.sql_values.proofs.Dictionary.{position-below, position_none}
+use Rattle.std.specs.Option.{option_or}
+use Rattle.std.proofs.lemmas.Bool.{ltb-false}
+use Rattle.sql_values.specs.declared.limit.LimitName.{LimitName}
+use Rattle.db_catalog.specs.declared.fault.DbFault.{DbFault}
+use Rattle.db_catalog.specs.declared.fault.DbFault.TheVariants.{Duplicate, Limit, NoMemory}
+use Rattle.db_catalog.specs.Refused.{Refuses, past, taken}
+
+-- the first check refuses
+pub refused_first : {T : Type 0} (a b : Option DbFault) (e : DbFault) → (e ≢ NoMemory → a ≡ Some e) → Refuses {T = T} (option_or a b) (Err e)
+refused_first a b e h = record { answered = tt; refused = λ other. ap (λ o. option_or o b) (h other) }
+
+-- it doesn't, and what the others say holds
+pub not_first : {T : Type 0} (a b : Option DbFault) (r : Result T DbFault) → a ≡ None → Refuses b r → Refuses (option_or a b) r
+not_first a b (Ok x) none h = record { answered = ap (λ o. option_or o b) none ∙ h.answered; refused = tt }
+not_first a b (Err e) none h = record { answered = tt; refused = λ other. ap (λ o. option_or o b) none ∙ h.refused other }
+
+-- a refusal of memory is no refusal of a check
+pub out_of_memory : {T : Type 0} (due : Option DbFault) → Refuses {T = T} due (Err NoMemory)
+out_of_memory due = record { answered = tt; refused = λ other. absurd (other refl) }
+
+-- no check refuses
+pub neither : (a b : Option DbFault) → option_or a b ≡ None → (a ≡ None) × (b ≡ None)
+neither None b h = (refl, h)
+neither (Some e) b h = cc
+
+-- a number within its limit
+pub within : (name : LimitName) (most value : ℕ) → past name most value ≡ None → value ≤ most
+within name most value h = by (nat_lt most value) refl
+  where
+    by : (b : Bool) → nat_lt most value ≡ b → value ≤ most
+    by true e = let gone : Some (Limit name value) ≡ None = sym (ap (λ b. if b then Some (Limit name value) else None) e) ∙ h in cc
+    by false e = ltb-false most value e
+
+-- a refusal that is handed on
+pub handed_on : {T E : Type 0} (due : Option DbFault) (r : Result T DbFault) (e : DbFault) → IsErrAnd r (λ x. x ≡ e) → Refuses {T = E} due (Err e) → Refuses {T = T} due r
+handed_on due (Ok x) e is h = absurd is
+handed_on due (Err x) e is h = record { answered = tt; refused = λ other. h.refused (λ none. other (is ∙ none)) ∙ ap Some (sym is) }
+
+-- of a check that stands before others
+pub handed_on_first : {T E : Type 0} (a b : Option DbFault) (r : Result T DbFault) (e : DbFault) → IsErrAnd r (λ x. x ≡ e) → Refuses {T = E} a (Err e) → Refuses {T = T} (option_or a b) r
+handed_on_first a b (Ok x) e is h = absurd is
+handed_on_first a b (Err x) e is h = record { answered = tt; refused = λ other. ap (λ o. option_or o b) (h.refused (λ none. other (is ∙ none)) ∙ ap Some (sym is)) }
+
+-- what holds on an answer of this kind
+pub on_err : {T E P : Type 0} (r : Result T E) → is_err r ≡ true → OnErr r P → P
+on_err (Ok x) e h = absurd (true≢false (sym e))
+on_err (Err x) e h = h
+
+pub on_ok : {T E P : Type 0} (r : Result T E) → is_err r ≡ false → OnOk r P → P
+on_ok (Ok x) e h = h
+on_ok (Err x) e h = absurd (true≢false e)
+
+-- a name that has a code stands already
+pub has_from_code : (names : List (List ℕ)) (name : List ℕ) → is_some (code_of names name) ≡ has_text names name
+has_from_code names name = by (has_text names name) refl
+  where
+    by : (b : Bool) → has_text names name ≡ b → is_some (code_of names name) ≡ b
+    by true e = ap (λ o. is_some (option_map pos o)) (position-below (bytes_eq name) names e)
+    by false e = ap (λ o. is_some (option_map pos o)) (position_none (bytes_eq name) names e)
+
+pub not_taken : (names : List (List ℕ)) (name : List ℕ) → taken names name ≡ None → has_text names name ≡ false
+not_taken names name h = by (has_text names name) refl
+  where
+    by : (b : Bool) → has_text names name ≡ b → b ≡ false
+    by true e = let gone : Some (Duplicate name) ≡ None = sym (ap (λ b. if b then Some (Duplicate name) else None) e) ∙ h in cc
+    by false e = refl

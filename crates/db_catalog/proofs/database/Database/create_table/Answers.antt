@@ -1,0 +1,27 @@
+use Rattle.std.proofs.Common.{◌≡◌, ◌∙◌, ◌+◌, ◌++◌, ◌∷◌, ◌≤◌, [], sym, ap, subst, length, map, false, arith}
+use Rattle.std.proofs.lemmas.List.{length-map}
+use Rattle.sql_values.specs.declared.limit.LimitName.TheVariants as limit
+use Rattle.sql_values.specs.Limits.{max_tables, max_columns}
+use Rattle.sql_values.specs.Dictionary.{has_text, with_text}
+use Rattle.db_catalog.specs.Refused.{past, taken, columns_fault}
+use Rattle.db_catalog.specs.Kept.{AreKept, stored_table}
+use Rattle.db_catalog.proofs.Refusals.{neither, not_taken, within}
+use Rattle.db_catalog.proofs.Tables.{names_seen}
+use Rattle.db_catalog.proofs.Appended.{table_appended}
+use Rattle.db_catalog.proofs.database.Database.create_table.Goals as goal
+
+pub invariant_of-self-2 : goal.invariant_of-self-2
+invariant_of-self-2 c =
+    let names = map (λ table. table.name) c.args.self.now.tables in
+    let seen : names ≡ c.self.inside.names = ap (λ db. map (λ table. table.name) db.tables) (sym c.self.view_is) ∙ names_seen c.self.inside.texts c.self.inside.tables.items ∙ sym c.self.invariant.names_of_tables in
+    let tables = neither (past limit.Tables max_tables (length c.args.self.now.tables + 1)) _ c.in_ok-check_creation.ensures.answered in
+    let name = neither (taken names c.args.name.now) _ tables.1 in
+    let columns = neither (past limit.Columns max_columns (length c.args.columns.now)) (columns_fault [] c.args.columns.now) name.1 in
+    let free : has_text c.self.inside.names c.args.name.now ≡ false = subst (λ ns. has_text ns c.args.name.now ≡ false) seen (not_taken names c.args.name.now name.0) in
+    let few : length c.self.inside.tables.items + 1 ≤ max_tables =
+    omega (arith, within limit.Tables max_tables (length c.args.self.now.tables + 1) tables.0, ap (λ db. length db.tables) c.self.view_is, length-map c.self.inside.tables.items (stored_table c.self.inside.texts)) in
+    let put : c.push_within.new.tables.items ≡ c.self.inside.tables.items ++ c.in_ok-table.table ∷ [] = c.push_within.ensures ∙ ap (λ l. l ++ c.in_ok-table.table ∷ []) c.in_ok-reserve.ensures.items in
+    subst (λ ns. AreKept ns c.self.inside.texts c.push_within.new.tables.items) (sym c.in_ok-add.ensures.texts)
+    (subst (AreKept (with_text c.self.inside.names c.args.name.now) c.self.inside.texts) (sym put)
+    (table_appended c.self.inside.names c.self.inside.texts c.self.inside.tables.items c.in_ok-table.table c.args.name.now c.args.columns.now c.self.invariant free few c.requires.some
+    (within limit.Columns max_columns (length c.args.columns.now) columns.0) c.in_ok-table.ensures.name c.in_ok-table.ensures.columns c.in_ok-table.ensures.width c.in_ok-table.ensures.rows))

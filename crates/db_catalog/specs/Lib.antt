@@ -1,0 +1,6 @@
+pub mod Database
+pub mod Refused
+pub mod Batch
+pub mod Meter
+pub mod Kept
+pub mod Recoded

@@ -1,0 +1,373 @@
+// The database: tables under their names, and the one dictionary of their texts. It relies on the heap for rows and on
+// the batch for their words, and never drops or changes a row.
+ghost use Rattle.std.specs.Prelude.{◌≡◌, ◌+◌, ◌*◌, ◌<◌, ◌≤◌, ◌^◌, [], ◌∷◌, ◌++◌, length, map, All};
+ghost use Rattle.std.specs.Prelude.{OnOk, OnErr, IfOk, vec_capacity};
+ghost use Rattle.std.specs.List.{IsDistinct};
+ghost use Rattle.std.specs.Str.{bytes_eq};
+ghost use Rattle.sql_values.specs.Limits.{max_tables, max_columns, max_rows};
+ghost use Rattle.db_catalog.specs.Database.{with_table, with_rows, new_table, rows_in};
+ghost use Rattle.db_catalog.specs.Database.{table_at, table_number, FillRows, IsRowAt};
+ghost use Rattle.db_catalog.specs.Meter.{table_pages, page_rows, HasSlot, IsRowIn};
+ghost use Rattle.work_ledger.specs.Account.{Pays};
+ghost use Rattle.work_ledger.specs.Charges.{page_charge, row_charge, fetch_charge};
+ghost use Rattle.db_catalog.specs.Refused.{Refuses, creation_fault, append_fault};
+ghost use Rattle.db_catalog.specs.Refused.{room_fault, texts_fault};
+ghost use Rattle.db_catalog.specs.Kept.{MeanRows, SameRows, AppendsWords, HasWords, kept_words};
+ghost use Rattle.heap_pages.specs.Rows.{cut_rows};
+ghost use Rattle.sql_values.specs.Dictionary.{with_texts};
+
+use crate::batch::Batch;
+use crate::check::{check_columns, check_limit, duplicate};
+use crate::fault::DbFault;
+use crate::recode::recode;
+use crate::table::Table;
+use heap_pages::{HeapFault, PageView};
+use sql_values::{
+    ColumnDef, LimitName, MAX_COLUMNS, MAX_ROWS, MAX_TABLES, MAX_TEXT_BYTES, MAX_TEXTS, MAX_WORDS,
+    Texts, Value,
+};
+use std::alloc::Global;
+use std::marker::Model;
+use work_ledger::{Exhausted, Ledger};
+
+/// Tables and their rows. A table has a number, from 0, by the order in which tables were made.
+#[derive(Drop)]
+pub struct Database {
+    alloc: Global,
+    names: Texts,
+    tables: Vec<Table>,
+    texts: Texts,
+}
+
+impl Model for Database {
+    ghost use Rattle.std.specs.Prelude.{map};
+    ghost use Rattle.db_catalog.specs.Database.{DatabaseState};
+    ghost use Rattle.db_catalog.specs.Kept.{stored_table, AreKept};
+
+    ghost Value = { DatabaseState };
+
+    ghost view = { λ d. record {
+      tables = map (stored_table d.texts) d.tables.items;
+      texts = d.texts;
+    } };
+
+    ghost invariant = { λ d. AreKept d.names d.texts d.tables.items };
+}
+
+// Puts a table behind the others, where there is room for it.
+fn push_within(tables: &mut Vec<Table>, table: Table)
+    requires { length tables.old.items < vec_capacity tables.old }
+    ensures { tables.new.items ≡ tables.old.items ++ table ∷ [] }
+{
+    let Ok(()) = tables.push(table) else {
+        unreachable!()
+    };
+}
+
+// How many words stand in these tables.
+fn words_in(tables: &[Table]) -> u128
+    requires { All (λ table. length table.columns.items ≤ max_columns) tables.now }
+    ensures words { result ≡ kept_words tables.now }
+    ensures bound { result ≤ length tables.now * (max_rows * max_columns) }
+{
+    let mut words = 0u128;
+    for table in tables {
+        words += u128::from(table.heap.rows()) * table.columns.len() as u128;
+    }
+    words
+}
+
+// Takes the texts of a batch into a dictionary, and gives its words the codes that these texts have there. A refusal changes
+// no text.
+fn settle(
+    texts: &mut Texts,
+    more: Texts,
+    words: &mut [i64],
+    columns: &[ColumnDef],
+    rows: u64,
+) -> Result<(), DbFault>
+    requires filled { length words.old ≡ rows * length columns.now }
+    requires mean { MeanRows more columns.now (cut_rows (length columns.now) rows words.old) }
+    ensures texts { OnOk result (texts.new ≡ with_texts texts.old more) }
+    ensures words { OnOk result (SameRows columns.now more texts.new
+        (cut_rows (length columns.now) rows words.old)
+        (cut_rows (length columns.now) rows words.new)) }
+    ensures unchanged { OnErr result (texts.new ≡ texts.old) }
+    ensures refuses { Refuses (texts_fault (with_texts texts.old more)) result }
+{
+    let before = texts.len();
+    let added = more.len();
+    if before == 0 {
+        check_texts(&more)?;
+        *texts = more;
+        return Ok(());
+    }
+    let codes = texts.merge(more)?;
+    if let Err(fault) = check_texts(texts) {
+        texts.cut(before);
+        return Err(fault);
+    }
+    if added > 0 {
+        recode(words, columns, &codes, rows as usize);
+    }
+    Ok(())
+}
+
+// Puts the words of rows behind those of a table. Out of memory changes nothing.
+fn append_words(
+    tables: &mut [Table],
+    number: usize,
+    words: Vec<i64>,
+    rows: u64,
+) -> Result<(), HeapFault>
+    requires there { number < length tables.old }
+    requires few { rows ≤ 2 ^ 62 }
+    requires filled { HasWords number (length words.items) rows tables.old }
+    ensures appended { OnOk result (AppendsWords number rows words.items tables.old tables.new) }
+    ensures unchanged { OnErr result (tables.new ≡ tables.old) }
+{
+    tables[number].heap.append_rows(words, rows)
+}
+
+// Refuses a dictionary past a limit.
+fn check_texts(texts: &Texts) -> Result<(), DbFault>
+    ensures { Refuses (texts_fault texts.now) result }
+{
+    check_limit(LimitName::Texts, MAX_TEXTS, texts.len() as u128)?;
+    check_limit(
+        LimitName::TextBytes,
+        MAX_TEXT_BYTES,
+        u128::from(texts.bytes()),
+    )
+}
+
+impl Database {
+    /// A database without tables.
+    pub fn new(alloc: Global) -> Database
+        ensures tables { result.tables ≡ [] }
+        ensures texts { result.texts ≡ [] }
+    {
+        Database {
+            alloc,
+            names: Texts::new(alloc),
+            tables: Vec::new(alloc),
+            texts: Texts::new(alloc),
+        }
+    }
+
+    /// Makes a table without rows, and returns its number. The checks, in order: how many tables there are, the name, how
+    /// many columns there are; then for each column from left to right its name, among those before it, and the length of
+    /// a VARCHAR.
+    pub fn create_table(&mut self, name: &[u8], columns: &[ColumnDef]) -> Result<u32, DbFault>
+        requires some { 1 ≤ length columns.now }
+        ensures number { IfOk result (λ number. number ≡ length self.old.tables) }
+        ensures created { OnOk result
+            (self.new ≡ with_table self.old (new_table name.now columns.now)) }
+        ensures unchanged { OnErr result (self.new ≡ self.old) }
+        ensures refuses { Refuses (creation_fault self.old name.now columns.now) result }
+    {
+        self.check_creation(name, columns)?;
+        let number = self.tables.len() as u32;
+        let table = Table::new(self.alloc, name, columns)?;
+        self.tables.reserve(1)?;
+        self.names.add(name)?;
+        push_within(&mut self.tables, table);
+        Ok(number)
+    }
+
+    // The checks of `create_table`.
+    fn check_creation(&self, name: &[u8], columns: &[ColumnDef]) -> Result<(), DbFault>
+        ensures { Refuses (creation_fault self.now name.now columns.now) result }
+    {
+        let tables = self.names.len() as u128 + 1;
+        check_limit(LimitName::Tables, MAX_TABLES as u64, tables)?;
+        if self.names.code_of(name).is_some() {
+            return Err(duplicate(self.alloc, name));
+        }
+        check_limit(
+            LimitName::Columns,
+            MAX_COLUMNS as u64,
+            columns.len() as u128,
+        )?;
+        check_columns(self.alloc, columns)
+    }
+
+    /// Appends rows, whose values follow one another, to a table. The checks, in order, each of the number that there would
+    /// be then: the table's rows, the words of all tables, the different texts, their bytes.
+    pub fn append_rows(&mut self, table: u32, rows: &[Value]) -> Result<(), DbFault>
+        requires there { table < length self.old.tables }
+        requires fill { FillRows (table_at self.old table).columns rows.now }
+        ensures appended { OnOk result (self.new
+            ≡ with_rows self.old table (rows_in (table_at self.old table).columns rows.now)) }
+        ensures unchanged { OnErr result (self.new ≡ self.old) }
+        ensures refuses { Refuses (append_fault self.old table
+            (rows_in (table_at self.old table).columns rows.now)) result }
+    {
+        let batch = Batch::filled(self.alloc, self.columns(table), rows)?;
+        self.append_batch(table, batch)
+    }
+
+    /// Appends the rows of a batch to a table. The checks are those of `append_rows`. No word is copied where the table has
+    /// no rows yet.
+    pub fn append_batch(&mut self, table: u32, batch: Batch) -> Result<(), DbFault>
+        requires there { table < length self.old.tables }
+        requires columns { batch.columns ≡ (table_at self.old table).columns }
+        requires whole { batch.row ≡ [] }
+        ensures appended { OnOk result (self.new ≡ with_rows self.old table batch.rows) }
+        ensures unchanged { OnErr result (self.new ≡ self.old) }
+        ensures refuses { Refuses (append_fault self.old table batch.rows) result }
+    {
+        self.check_room(table, batch.rows)?;
+        let Batch {
+            columns,
+            texts,
+            mut words,
+            rows,
+            row: _,
+        } = batch;
+        let before = self.texts.len();
+        settle(&mut self.texts, texts, &mut words, &columns, rows)?;
+        prove!(before <= self.texts.len());
+        if append_words(&mut self.tables, table as usize, words, rows).is_err() {
+            self.texts.cut(before);
+            return Err(DbFault::NoMemory);
+        }
+        Ok(())
+    }
+
+    // The checks of an append that need no text.
+    fn check_room(&self, table: u32, rows: u64) -> Result<(), DbFault>
+        requires { table < length self.now.tables }
+        ensures { Refuses (room_fault self.now table rows) result }
+    {
+        let present = self.tables[table as usize].heap.rows();
+        check_limit(
+            LimitName::Rows,
+            MAX_ROWS,
+            u128::from(present) + u128::from(rows),
+        )?;
+        let width = self.tables[table as usize].columns.len();
+        let more = u128::from(rows) * width as u128;
+        check_limit(LimitName::Words, MAX_WORDS, words_in(&self.tables) + more)
+    }
+
+    /// How many tables there are.
+    pub fn tables(&self) -> u32
+        ensures count { result ≡ length self.now.tables }
+        ensures limit { result ≤ max_tables }
+        ensures distinct { IsDistinct bytes_eq (map (λ table. table.name) self.now.tables) }
+    {
+        self.names.len() as u32
+    }
+
+    /// The number of the table of this name.
+    pub fn table_of(&self, name: &[u8]) -> Option<u32>
+        ensures { result ≡ table_number self.now name.now }
+    {
+        let number = self.names.code_of(name)?;
+        Some(number as u32)
+    }
+
+    /// A table's columns.
+    pub fn columns(&self, table: u32) -> &[ColumnDef]
+        requires { table < length self.now.tables }
+        ensures columns { result.now ≡ (table_at self.now table).columns }
+        ensures some { 1 ≤ length result.now }
+        ensures few { length result.now ≤ max_columns }
+    {
+        self.tables[table as usize].columns.as_slice()
+    }
+
+    /// The different texts that stand in the tables.
+    pub fn texts(&self) -> &Texts
+        ensures texts { result.now ≡ self.now.texts }
+        ensures distinct { IsDistinct bytes_eq self.now.texts }
+    {
+        &self.texts
+    }
+
+    /// How many rows a table has.
+    pub fn rows(&self, table: u32) -> u64
+        requires { table < length self.now.tables }
+        ensures count { result ≡ length (table_at self.now table).rows }
+        ensures few { result ≤ max_rows }
+    {
+        self.tables[table as usize].heap.rows()
+    }
+
+    /// The numbers of a table's columns that are indexed, from 0. So far no column is.
+    pub fn indexes(&self, table: u32) -> &[u8]
+        requires { table < length self.now.tables }
+        ensures { result.now ≡ (table_at self.now table).indexed }
+    {
+        prove!((table as usize) < self.tables.len());
+        &[]
+    }
+
+    /// The words of row `i` of a table, from 0. This read isn't paid.
+    pub fn plain_row(&self, table: u32, i: u64) -> &[i64]
+        requires there { table < length self.now.tables }
+        requires row { i < length (table_at self.now table).rows }
+        ensures { IsRowAt self.now table i result.now }
+    {
+        self.tables[table as usize].heap.get(i)
+    }
+
+    // How many rows stand on page `no` of a table, from 0.
+    pub(crate) fn rows_on_page(&self, table: u32, no: u64) -> usize
+        requires there { table < length self.now.tables }
+        requires page { no < table_pages self.now table }
+        ensures { result ≡ page_rows self.now table no }
+    {
+        self.tables[table as usize].heap.rows_on_page(no)
+    }
+
+    // Opens page `no` of a table, from 0, which pays for it.
+    pub(crate) fn page(
+        &self,
+        table: u32,
+        no: u64,
+        ledger: &mut Ledger,
+    ) -> Result<PageView, Exhausted>
+        requires there { table < length self.now.tables }
+        requires page { no < table_pages self.now table }
+        ensures page { IfOk result (λ view. view.number ≡ no) }
+        ensures pays { Pays page_charge ledger.old ledger.new result }
+    {
+        self.tables[table as usize].heap.page(no, ledger)
+    }
+
+    // The words of the row in this slot, from 0, of an opened page, which pays for the row.
+    pub(crate) fn row_of(
+        &self,
+        table: u32,
+        view: &PageView,
+        slot: usize,
+        ledger: &mut Ledger,
+    ) -> Result<&[i64], Exhausted>
+        requires there { table < length self.now.tables }
+        requires slot { HasSlot self.now table view.now.number slot }
+        ensures row { IfOk result (λ words. IsRowIn self.now table view.now.number slot words.now) }
+        ensures pays { Pays row_charge ledger.old ledger.new result }
+    {
+        self.tables[table as usize].heap.row_of(view, slot, ledger)
+    }
+
+    // The words of row `i` of a table, from 0, which pays for the look-up.
+    pub(crate) fn fetch(&self, table: u32, i: u64, ledger: &mut Ledger) -> Result<&[i64], Exhausted>
+        requires there { table < length self.now.tables }
+        requires row { i < length (table_at self.now table).rows }
+        ensures row { IfOk result (λ words. IsRowAt self.now table i words.now) }
+        ensures pays { Pays fetch_charge ledger.old ledger.new result }
+    {
+        self.tables[table as usize].heap.fetch(i, ledger)
+    }
+
+    // How many pages a table's rows take.
+    pub(crate) fn pages(&self, table: u32) -> u64
+        requires { table < length self.now.tables }
+        ensures { result ≡ table_pages self.now table }
+    {
+        self.tables[table as usize].heap.pages()
+    }
+}

@@ -1,0 +1,23 @@
+//! The database: tables of typed columns under their names, their rows, the dictionary of their texts, and the meter
+//! through which alone a row is read.
+//! To the layers above a database is a list of tables of values. Earlier rows stay where they are, a refusal names the
+//! first check that fails and changes nothing, and each read through the meter pays exactly its charge.
+//! It never reads a file or a statement, and never changes or drops a row.
+#![tactic(auto)]
+
+mod batch;
+mod check;
+mod columns;
+mod database;
+mod fault;
+mod metered;
+mod recode;
+mod table;
+
+pub use batch::Batch;
+pub use database::Database;
+pub use fault::DbFault;
+pub use metered::Metered;
+
+#[cfg(test)]
+mod tests;

@@ -1,0 +1,152 @@
+// The meter: the only way by which the layers above reach a row. It relies on the ledger for what is paid, and lends
+// rows for as long as the database is lent.
+ghost use Rattle.std.specs.Prelude.{◌≡◌, ◌+◌, ◌<◌, ◌≤◌, ◌^◌, length, IfOk};
+ghost use Rattle.work_ledger.specs.Account.{IsInBounds};
+ghost use Rattle.work_ledger.specs.Charges.{page_charge, row_charge, fetch_charge};
+ghost use Rattle.sql_values.specs.Limits.{max_columns, max_rows};
+ghost use Rattle.db_catalog.specs.Database.{table_at, IsRowAt};
+ghost use Rattle.db_catalog.specs.Meter.{Reads, HasSlot, table_pages, page_rows, IsRowIn};
+
+use crate::database::Database;
+use heap_pages::PageView;
+use sql_values::{ColumnDef, Texts};
+use std::marker::Model;
+use work_ledger::{Exhausted, Ledger};
+
+/// A database that is read for pay. Counts and texts are free.
+#[derive(Drop)]
+pub struct Metered<'d> {
+    database: &'d Database,
+    ledger: Ledger,
+}
+
+impl<'d> Model for Metered<'d> {
+    ghost use Rattle.db_catalog.specs.Meter.{MeterState};
+
+    ghost Value = { MeterState };
+
+    ghost view = { λ m. record { database = m.database.now; account = m.ledger } };
+}
+
+impl<'d> Metered<'d> {
+    /// Nothing is spent, and nothing may be.
+    pub fn new(database: &'d Database) -> Metered<'d>
+        ensures database { result.database ≡ database.now }
+        ensures spent { result.account.spent ≡ 0 }
+        ensures limit { result.account.limit ≡ 0 }
+    {
+        Metered {
+            database,
+            ledger: Ledger::new(),
+        }
+    }
+
+    /// The work paid so far.
+    pub fn spent(&self) -> u128
+        ensures spent { result ≡ self.now.account.spent }
+        ensures bounds { IsInBounds self.now.account }
+    {
+        self.ledger.spent()
+    }
+
+    /// The work up to which payments fit.
+    pub fn limit(&self) -> u128
+        ensures { result ≡ self.now.account.limit }
+    {
+        self.ledger.limit()
+    }
+
+    /// Allows as much work more as the budget says, counted from what is spent. What was left before is gone.
+    pub fn grant(&mut self, budget: u128)
+        requires { self.old.account.spent + budget ≤ 2 ^ 126 }
+        ensures spent { self.new.account.spent ≡ self.old.account.spent }
+        ensures limit { self.new.account.limit ≡ self.old.account.spent + budget }
+        ensures database { self.new.database ≡ self.old.database }
+    {
+        self.ledger.grant(budget);
+    }
+
+    /// Pays `n` units. A payment that doesn't fit spends what is left and is refused.
+    pub fn pay(&mut self, n: u128) -> Result<(), Exhausted>
+        requires { n ≤ 2 ^ 126 }
+        ensures reads { Reads n self.old self.new result }
+        ensures never_falls { self.old.account.spent ≤ self.new.account.spent }
+        ensures bounds { IsInBounds self.new.account }
+    {
+        self.ledger.pay(n)
+    }
+
+    /// A table's columns.
+    pub fn columns(&self, table: u32) -> &'d [ColumnDef]
+        requires { table < length self.now.database.tables }
+        ensures columns { result.now ≡ (table_at self.now.database table).columns }
+        ensures some { 1 ≤ length result.now }
+        ensures few { length result.now ≤ max_columns }
+    {
+        self.database.columns(table)
+    }
+
+    /// How many rows a table has.
+    pub fn rows(&self, table: u32) -> u64
+        requires { table < length self.now.database.tables }
+        ensures count { result ≡ length (table_at self.now.database table).rows }
+        ensures few { result ≤ max_rows }
+    {
+        self.database.rows(table)
+    }
+
+    /// How many pages they take.
+    pub fn pages(&self, table: u32) -> u64
+        requires { table < length self.now.database.tables }
+        ensures { result ≡ table_pages self.now.database table }
+    {
+        self.database.pages(table)
+    }
+
+    /// How many rows stand on page `no` of a table, from 0.
+    pub fn rows_on_page(&self, table: u32, no: u64) -> usize
+        requires there { table < length self.now.database.tables }
+        requires page { no < table_pages self.now.database table }
+        ensures { result ≡ page_rows self.now.database table no }
+    {
+        self.database.rows_on_page(table, no)
+    }
+
+    /// The different texts that stand in the tables.
+    pub fn texts(&self) -> &'d Texts
+        ensures { result.now ≡ self.now.database.texts }
+    {
+        self.database.texts()
+    }
+
+    /// Opens page `no` of a table, from 0, which pays for it.
+    pub fn scan_page(&mut self, table: u32, no: u64) -> Result<PageView, Exhausted>
+        requires there { table < length self.old.database.tables }
+        requires page { no < table_pages self.old.database table }
+        ensures page { IfOk result (λ view. view.number ≡ no) }
+        ensures reads { Reads page_charge self.old self.new result }
+    {
+        self.database.page(table, no, &mut self.ledger)
+    }
+
+    /// The words of the row in this slot, from 0, of an opened page, which pays for the row.
+    pub fn row(&mut self, table: u32, view: &PageView, slot: usize) -> Result<&'d [i64], Exhausted>
+        requires there { table < length self.old.database.tables }
+        requires slot { HasSlot self.old.database table view.now.number slot }
+        ensures row { IfOk result (λ words.
+            IsRowIn self.old.database table view.now.number slot words.now) }
+        ensures reads { Reads row_charge self.old self.new result }
+    {
+        self.database.row_of(table, view, slot, &mut self.ledger)
+    }
+
+    /// The words of row `i` of a table, from 0, which pays for the look-up.
+    pub fn fetch(&mut self, table: u32, i: u64) -> Result<&'d [i64], Exhausted>
+        requires there { table < length self.old.database.tables }
+        requires row { i < length (table_at self.old.database table).rows }
+        ensures row { IfOk result (λ words. IsRowAt self.old.database table i words.now) }
+        ensures reads { Reads fetch_charge self.old self.new result }
+    {
+        self.database.fetch(table, i, &mut self.ledger)
+    }
+}

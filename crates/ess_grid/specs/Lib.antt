@@ -1,0 +1,5 @@
+pub mod Levels
+pub mod Points
+pub mod Order
+pub mod Refused
+pub mod Kept

@@ -1,0 +1,12 @@
+pub mod Columns
+pub mod Ascending
+pub mod RowsInOrder
+pub mod SortKeys
+pub mod TextWriter
+pub mod Values
+pub mod Ranks
+pub mod Ascent
+pub mod Zips
+pub mod Placing
+pub mod TableText
+pub mod FirstBytes

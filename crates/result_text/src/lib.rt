@@ -1,0 +1,20 @@
+//! Prints a table as CSV: a header and the rows in ascending order of their values.
+//! To the layer above it promises exactly the text: which rows stand in it, how often, in which order, and how each
+//! value is written. Its only refusal is out of memory.
+//! It never copies a row that the order of its numbers decides, nor compares two texts where their places will do.
+#![tactic(auto)]
+
+mod decide;
+mod places;
+mod print;
+mod row;
+mod short_text;
+mod sort;
+mod table;
+mod texts;
+
+pub use row::LentRow;
+pub use table::{rows_in_order, table_text};
+
+#[cfg(test)]
+mod tests;

@@ -1,0 +1,161 @@
+// Prints rows as CSV (RFC 4180), as the csv crate writes it. Each error of the csv crate is out of memory, since nothing
+// else can fail where a vector is written to and each row is as wide as the header.
+ghost use Rattle.std.specs.Prelude.{◌≡◌, [], ◌∷◌, ◌++◌, All, IfOk, OnOk};
+ghost use Rattle.csv.specs.Writing.{row_text, default_writer};
+ghost use Rattle.sql_values.specs.Words.{value_of, IsWord};
+ghost use Rattle.result_text.specs.Rows.{values_of, AreWordsOf, words_of};
+ghost use Rattle.result_text.specs.Printed.{field_of, record_of, records_of};
+ghost use Rattle.result_text.specs.TextWriter.{WritesFields, EndsRecord, WritesText};
+
+use crate::sort::SortedRow;
+use crate::texts::TextList;
+use csv::Writer;
+use itoa::Buffer;
+use sql_values::{ColumnType, NULL_WORD, Text};
+use std::alloc::{AllocError, Global};
+
+// How many rows are gathered before they are written.
+const BATCH_ROWS: usize = 64;
+
+type TextWriter = Writer<Vec<u8>>;
+
+fn write_field(writer: &mut TextWriter, field: &[u8]) -> Result<(), AllocError>
+    ensures { OnOk result (WritesFields (field.now ∷ []) writer.old writer.new) }
+{
+    match writer.write_field(field) {
+        Ok(()) => Ok(()),
+        Err(_) => Err(AllocError),
+    }
+}
+
+fn end_record(writer: &mut TextWriter) -> Result<(), AllocError>
+    ensures { OnOk result (EndsRecord writer.old writer.new) }
+{
+    match writer.end_record() {
+        Ok(()) => Ok(()),
+        Err(_) => Err(AllocError),
+    }
+}
+
+fn write_header(writer: &mut TextWriter, names: &[Text]) -> Result<(), AllocError>
+    ensures { OnOk result (WritesText (row_text default_writer names.now) writer.old writer.new) }
+{
+    for name in names {
+        write_field(writer, name.bytes())?;
+    }
+    end_record(writer)
+}
+
+// Writes the value of a word as a field.
+fn write_value<L: TextList>(
+    writer: &mut TextWriter,
+    texts: &L,
+    kind: ColumnType,
+    word: i64,
+) -> Result<(), AllocError>
+    requires { IsWord (L.texts texts.now) kind word }
+    ensures { OnOk result
+        (WritesFields (field_of (value_of (L.texts texts.now) kind word) ∷ []) writer.old writer.new) }
+{
+    if word == NULL_WORD {
+        return write_field(writer, b"");
+    }
+    match kind {
+        ColumnType::Integer => write_field(writer, Buffer::new().format(word).as_bytes()),
+        ColumnType::Varchar(_) => write_field(writer, texts.text_at(word)),
+    }
+}
+
+// Writes the values of a row as a record.
+fn write_row<L: TextList>(
+    writer: &mut TextWriter,
+    texts: &L,
+    kinds: &[ColumnType],
+    row: &[i64],
+) -> Result<(), AllocError>
+    requires { AreWordsOf (L.texts texts.now) kinds.now row.now }
+    ensures { OnOk result
+        (WritesText (record_of (values_of (L.texts texts.now) kinds.now row.now)) writer.old writer.new) }
+{
+    for (place, kind) in kinds.iter().enumerate() {
+        write_value(writer, texts, *kind, row[place])?;
+    }
+    end_record(writer)
+}
+
+// The words of rows, one row after the other.
+fn gather(rows: &[SortedRow<'_>], words: &mut Vec<i64>) -> Result<(), AllocError>
+    ensures { OnOk result (words.new.items ≡ words_of rows.now) }
+{
+    words.clear();
+    for row in rows {
+        words.extend_from_slice(row.row())?;
+    }
+    Ok(())
+}
+
+// Writes rows whose words are gathered.
+fn write_gathered<L: TextList>(
+    writer: &mut TextWriter,
+    texts: &L,
+    kinds: &[ColumnType],
+    rows: &[SortedRow<'_>],
+    words: &[i64],
+) -> Result<(), AllocError>
+    requires allowed { All (AreWordsOf (L.texts texts.now) kinds.now) rows.now }
+    requires gathered { words.now ≡ words_of rows.now }
+    ensures { OnOk result
+        (WritesText (records_of (L.texts texts.now) kinds.now rows.now) writer.old writer.new) }
+{
+    let mut left = words;
+    for row in rows {
+        let (first, rest) = left.split_at(row.row().len());
+        write_row(writer, texts, kinds, first)?;
+        left = rest;
+    }
+    Ok(())
+}
+
+// Writes rows, some at a time. Their words lie all over the table, and gathered first they come from memory together.
+fn write_rows<L: TextList>(
+    alloc: Global,
+    writer: &mut TextWriter,
+    texts: &L,
+    kinds: &[ColumnType],
+    rows: &[SortedRow<'_>],
+) -> Result<(), AllocError>
+    requires { All (AreWordsOf (L.texts texts.now) kinds.now) rows.now }
+    ensures { OnOk result
+        (WritesText (records_of (L.texts texts.now) kinds.now rows.now) writer.old writer.new) }
+{
+    let mut words = Vec::new(alloc);
+    let mut from = 0;
+    while from < rows.len() {
+        let upto = rows.len().min(from + BATCH_ROWS);
+        gather(&rows[from..upto], &mut words)?;
+        write_gathered(writer, texts, kinds, &rows[from..upto], &words)?;
+        from = upto;
+    }
+    Ok(())
+}
+
+/// The text of a header and of these rows as they stand.
+pub(crate) fn text_in_turn<L: TextList>(
+    alloc: Global,
+    texts: &L,
+    kinds: &[ColumnType],
+    names: &[Text],
+    rows: &[SortedRow<'_>],
+) -> Result<Vec<u8>, AllocError>
+    requires { All (AreWordsOf (L.texts texts.now) kinds.now) rows.now }
+    ensures { IfOk result (λ text. text.items
+        ≡ row_text default_writer names.now ++ records_of (L.texts texts.now) kinds.now rows.now) }
+{
+    let mut writer = Writer::from_writer(Vec::new(alloc));
+    write_header(&mut writer, names)?;
+    write_rows(alloc, &mut writer, texts, kinds, rows)?;
+    match writer.into_inner() {
+        Ok(text) => Ok(text),
+        Err(_) => Err(AllocError),
+    }
+}

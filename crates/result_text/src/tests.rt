@@ -1,0 +1,190 @@
+// What no clause says: that a table is printed where memory is ample, and the printed texts of worked tables.
+ghost use Rattle.std.specs.Prelude.{◌≡◌, All, IsTrue, length};
+ghost use Rattle.sql_values.specs.Words.{IsWord};
+ghost use Rattle.result_text.specs.Rows.{AreWordsOf};
+
+use super::*;
+use sql_values::{ColumnType, NULL_WORD, Text, Texts};
+use std::alloc::{AllocError, Global};
+use std::test::Fail;
+
+// The columns' names and kinds, the texts by their codes, the words of all rows, and what they print.
+struct Case<'a> {
+    about: &'a str,
+    names: &'a [&'a [u8]],
+    kinds: &'a [ColumnType],
+    texts: &'a [&'a [u8]],
+    words: &'a [i64],
+    printed: &'a [u8],
+}
+
+const INTEGER: ColumnType = ColumnType::Integer;
+
+const TEXT: ColumnType = ColumnType::Varchar(20);
+
+const NULL: i64 = NULL_WORD;
+
+const CASES: [Case; 11] = [
+    Case {
+        about: "no rows",
+        names: &[b"K", b"V"],
+        kinds: &[INTEGER, TEXT],
+        texts: &[],
+        words: &[],
+        printed: b"K,V\n",
+    },
+    Case {
+        about: "numbers, NULL first",
+        names: &[b"A", b"B"],
+        kinds: &[INTEGER, INTEGER],
+        texts: &[],
+        words: &[2, NULL, NULL, 5, 1, 1],
+        printed: b"A,B\n,5\n1,1\n2,\n",
+    },
+    Case {
+        about: "numbers below and above zero, and equal rows",
+        names: &[b"A", b"B"],
+        kinds: &[INTEGER, INTEGER],
+        texts: &[],
+        words: &[10, 0, -7, 3, 9, 1, -7, 3],
+        printed: b"A,B\n-7,3\n-7,3\n9,1\n10,0\n",
+    },
+    Case {
+        about: "quoted texts",
+        names: &[b"S"],
+        kinds: &[TEXT],
+        texts: &[b"a,b", b"say \"hi\"", b"x\ny", b"B"],
+        words: &[0, 1, 2, 3],
+        printed: b"S\nB\n\"a,b\"\n\"say \"\"hi\"\"\"\n\"x\ny\"\n",
+    },
+    Case {
+        about: "one column, NULL",
+        names: &[b"S"],
+        kinds: &[TEXT],
+        texts: &[],
+        words: &[NULL],
+        printed: b"S\n\"\"\n",
+    },
+    Case {
+        about: "one column, the number's NULL",
+        names: &[b"N"],
+        kinds: &[INTEGER],
+        texts: &[],
+        words: &[0, NULL],
+        printed: b"N\n\"\"\n0\n",
+    },
+    Case {
+        about: "equal rows, NULL among texts, and no text at all",
+        names: &[b"S", b"N"],
+        kinds: &[TEXT, INTEGER],
+        texts: &[b"b", b"a", b""],
+        words: &[0, 1, 1, 2, NULL, 3, 0, 1, 2, 4],
+        printed: b"S,N\n,3\n,4\na,2\nb,1\nb,1\n",
+    },
+    Case {
+        about: "texts that begin as others do",
+        names: &[b"S"],
+        kinds: &[TEXT],
+        texts: &[b"abc", b"ab", b"b", b"a", b"a\0"],
+        words: &[0, 1, 2, 3, 4],
+        printed: b"S\na\na\0\nab\nabc\nb\n",
+    },
+    Case {
+        about: "texts with the same first eight bytes",
+        names: &[b"S"],
+        kinds: &[TEXT],
+        texts: &[
+            b"Customer#9",
+            b"Customer",
+            b"Customer#10",
+            b"Customer\xff",
+            b"Custome",
+        ],
+        words: &[0, 1, 2, 3, 4],
+        printed: b"S\nCustome\nCustomer\nCustomer#10\nCustomer#9\nCustomer\xff\n",
+    },
+    Case {
+        about: "the first column decides, so no text is compared",
+        names: &[b"K", b"S"],
+        kinds: &[INTEGER, TEXT],
+        texts: &[b"z", b"a"],
+        words: &[2, 1, 1, 0, NULL, NULL],
+        printed: b"K,S\n,\n1,z\n2,a\n",
+    },
+    Case {
+        about: "ties of the first column, decided by two columns of texts",
+        names: &[b"K", b"S", b"T"],
+        kinds: &[INTEGER, TEXT, TEXT],
+        texts: &[b"z", b"a", b"m"],
+        words: &[1, 0, 1, 1, 2, 0, 1, 2, 1, 0, NULL, 0],
+        printed: b"K,S,T\n0,,z\n1,m,a\n1,m,z\n1,z,a\n",
+    },
+];
+
+// Whether a word may stand in a column.
+fn is_word(texts: &Texts, kind: ColumnType, word: i64) -> bool
+    ensures { IsTrue result → IsWord texts.now kind word }
+{
+    match kind {
+        ColumnType::Integer => true,
+        ColumnType::Varchar(_) => {
+            word == NULL_WORD || (word >= 0 && (word as usize) < texts.len())
+        }
+    }
+}
+
+// Whether the words of a row may stand in columns of these kinds.
+fn are_words(texts: &Texts, kinds: &[ColumnType], row: &[i64]) -> bool
+    ensures { IsTrue result → AreWordsOf texts.now kinds.now row.now }
+{
+    if row.len() != kinds.len() {
+        return false;
+    }
+    for (place, kind) in kinds.iter().enumerate() {
+        if !is_word(texts, *kind, row[place]) {
+            return false;
+        }
+    }
+    true
+}
+
+// Whether this holds of each row.
+fn all_are_words(texts: &Texts, kinds: &[ColumnType], rows: &[LentRow<'_>]) -> bool
+    ensures { IsTrue result → All (AreWordsOf texts.now kinds.now) rows.now }
+{
+    for row in rows {
+        if !are_words(texts, kinds, row.words()) {
+            return false;
+        }
+    }
+    true
+}
+
+// The rows of these words.
+fn rows_of(alloc: Global, width: usize, words: &[i64]) -> Result<Vec<LentRow<'_>>, AllocError> {
+    let mut rows = Vec::new(alloc);
+    for words in words.chunks(width.max(1)) {
+        rows.push(LentRow::new(words))?;
+    }
+    Ok(rows)
+}
+
+#[test]
+fn tables_print_as_worked(rt: HostRuntime) -> Result<(), Fail> {
+    for case in &CASES {
+        let mut texts = Texts::new(rt.alloc());
+        for text in case.texts {
+            let _ = texts.add(text)?;
+        }
+        let mut names = Vec::new(rt.alloc());
+        for name in case.names {
+            names.push(Text::new(rt.alloc(), name)?)?;
+        }
+        let rows = rows_of(rt.alloc(), case.kinds.len(), case.words)?;
+        assert!(rt; names.len() == case.kinds.len(), "{}", case.about);
+        assert!(rt; all_are_words(&texts, case.kinds, &rows), "{}", case.about);
+        let text = table_text(rt.alloc(), &texts, case.kinds, &names, &rows)?;
+        assert!(rt; text.as_slice() == case.printed, "{}", case.about);
+    }
+    Ok(())
+}

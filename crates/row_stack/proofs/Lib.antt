@@ -1,0 +1,2 @@
+pub mod RowsAmong
+pub mod Places

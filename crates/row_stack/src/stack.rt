@@ -1,0 +1,165 @@
+// The stack: the words of all rows in one vector, whose memory is kept when rows are released. It relies on nothing.
+ghost use Rattle.std.specs.Prelude.{max, ◌≡◌, ◌+◌, ◌-◌, ◌*◌, ◌^◌, ◌<◌, ◌≤◌, [], ◌∷◌, ◌++◌, take, drop, length, Some, slice_get, IsOk, OnOk, OnErr, IfOk};
+ghost use Rattle.row_stack.specs.Limits.{max_width};
+ghost use Rattle.row_stack.specs.Stack.{room_of, new_stack, IsRowStack};
+
+use std::alloc::{AllocError, Global};
+use std::marker::Model;
+
+// How many rows the first growth makes room for.
+const FIRST_ROWS: u64 = 16;
+
+/// Rows of one width.
+#[derive(Drop)]
+pub struct RowStack {
+    width: usize,
+    words: Vec<i64>,
+    rows: u64,
+    room: u64,
+}
+
+impl Model for RowStack {
+    ghost use Rattle.std.specs.Prelude.{◌-◌, vec_len, vec_capacity};
+    ghost use Rattle.row_stack.specs.Stack.{RowStackState};
+    ghost use Rattle.row_stack.specs.Packed.{rows_among, IsPacked};
+
+    ghost Value = { RowStackState };
+
+    ghost view = { λ s. record {
+      width = s.width;
+      rows = rows_among s.width s.rows s.words.items;
+      spare = s.room - s.rows;
+    } };
+
+    ghost invariant = { λ s.
+        IsPacked s.width s.rows s.room (vec_len s.words) (vec_capacity s.words) };
+}
+
+#[tactic(auto, using(crate::proofs::RowsAmong::of_rows))]
+impl RowStack {
+    /// A stack without rows, of rows of `width` words, 1 to 192. It takes no memory.
+    pub fn new(alloc: Global, width: usize) -> RowStack
+        requires some { 1 ≤ width }
+        requires few { width ≤ max_width }
+        ensures { result ≡ new_stack width }
+    {
+        RowStack {
+            width,
+            words: Vec::new(alloc),
+            rows: 0,
+            room: 0,
+        }
+    }
+
+    /// How many rows there are.
+    pub fn len(&self) -> u64
+        ensures count { result ≡ length self.now.rows }
+        ensures stack { IsRowStack self.now }
+    {
+        self.rows
+    }
+
+    /// How many rows can be pushed without taking memory.
+    pub fn spare(&self) -> u64
+        ensures { result ≡ self.now.spare }
+    {
+        self.room - self.rows
+    }
+
+    /// Row `i`, from 0, the first pushed.
+    pub fn row(&self, i: u64) -> &[i64]
+        requires { i < length self.now.rows }
+        ensures row { slice_get self.now.rows i ≡ Some result.now }
+        ensures width { length result.now ≡ self.now.width }
+    {
+        let start = i as usize * self.width;
+        &self.words[start..start + self.width]
+    }
+
+    /// Puts a row at the end and returns its place, from 0. Where a row is spare it takes no memory and can't fail.
+    /// Else it takes memory for as many rows as there are. Out of memory the stack is as it was.
+    pub fn push(&mut self, row: &[i64]) -> Result<u64, AllocError>
+        requires { length row.now ≡ self.old.width }
+        ensures place { IfOk result (λ place. place ≡ length self.old.rows) }
+        ensures rows { OnOk result (self.new.rows ≡ self.old.rows ++ row.now ∷ []) }
+        ensures width { self.new.width ≡ self.old.width }
+
+        // With a row to spare.
+        ensures succeeds { 0 < self.old.spare → IsOk result }
+        ensures spare { 0 < self.old.spare → self.new.spare + 1 ≡ self.old.spare }
+
+        // With none.
+        ensures doubles { self.old.spare ≡ 0
+            → OnOk result (2 * length self.old.rows ≤ room_of self.new) }
+
+        // Whatever the answer.
+        ensures unchanged { OnErr result (self.new ≡ self.old) }
+        ensures no_room_lost { room_of self.old ≤ room_of self.new }
+        ensures stack { IsRowStack self.new }
+    {
+        if self.rows == self.room {
+            self.grow()?;
+        }
+        Ok(self.put(row))
+    }
+
+    // Puts a row at the end, where one is spare.
+    fn put(&mut self, row: &[i64]) -> u64
+        requires room { 0 < self.old.spare }
+        requires width { length row.now ≡ self.old.width }
+        ensures place { result ≡ length self.old.rows }
+        ensures rows { self.new.rows ≡ self.old.rows ++ row.now ∷ [] }
+        ensures width { self.new.width ≡ self.old.width }
+        ensures spare { self.new.spare + 1 ≡ self.old.spare }
+        ensures stack { IsRowStack self.new }
+    {
+        let Ok(()) = self.words.extend_from_slice(row) else {
+            unreachable!()
+        };
+        let place = self.rows;
+        self.rows += 1;
+        place
+    }
+
+    // Makes room for as many rows more as there are. It stands apart, so that what is inlined of a push stays small.
+    #[cold]
+    #[inline(never)]
+    fn grow(&mut self) -> Result<(), AllocError>
+        ensures rows { self.new.rows ≡ self.old.rows }
+        ensures width { self.new.width ≡ self.old.width }
+        ensures some { OnOk result (1 ≤ self.new.spare) }
+        ensures doubles { OnOk result (length self.old.rows ≤ self.new.spare) }
+        ensures unchanged { OnErr result (self.new ≡ self.old) }
+    {
+        self.reserve(self.rows.max(FIRST_ROWS))
+    }
+
+    /// Makes sure that `n` rows can be pushed without taking memory. Where so many are spare it takes none and can't
+    /// fail. Out of memory the stack is as it was.
+    pub fn reserve(&mut self, n: u64) -> Result<(), AllocError>
+        ensures rows { self.new.rows ≡ self.old.rows }
+        ensures width { self.new.width ≡ self.old.width }
+        ensures spare { OnOk result (self.new.spare ≡ max n self.old.spare) }
+        ensures succeeds { n ≤ self.old.spare → IsOk result }
+        ensures unchanged { OnErr result (self.new ≡ self.old) }
+    {
+        if n <= self.room - self.rows {
+            return Ok(());
+        }
+        let words = (n as usize).checked_mul(self.width).ok_or(AllocError)?;
+        self.words.reserve(words)?;
+        self.room = self.rows + n;
+        Ok(())
+    }
+
+    /// Keeps the first `to` rows. The memory of the others is spare from then on. It takes no memory.
+    pub fn release(&mut self, to: u64)
+        requires { to ≤ length self.old.rows }
+        ensures rows { self.new.rows ≡ take to self.old.rows }
+        ensures spare { self.new.spare ≡ self.old.spare + (length self.old.rows - to) }
+        ensures width { self.new.width ≡ self.old.width }
+    {
+        self.words.truncate(to as usize * self.width);
+        self.rows = to;
+    }
+}

@@ -1,0 +1,3 @@
+pub mod Dictionary
+pub mod ValueOrder
+pub mod Stored
