@@ -1,8 +1,9 @@
-ghost use Rattle.std.specs.Prelude.{◌≡◌, false, IfOk};
+ghost use Rattle.std.specs.Prelude.{◌≡◌, false, length, IfOk};
 ghost use Rattle.sql_values.specs.declared.column.ColumnType.TheVariants.{Varchar};
+ghost use Rattle.db_catalog.specs.Database.{table_at};
 
 use super::*;
-use sql_values::{ColumnDef, ColumnType, LimitName, Text};
+use sql_values::{ColumnDef, ColumnType, LimitName, NULL_WORD, Text, Value};
 use std::alloc::{AllocError, Global};
 use std::test::Fail;
 
@@ -59,5 +60,28 @@ fn a_text_past_its_limit_is_refused(rt: HostRuntime) -> Result<(), Fail> {
             value: 65536
         })
     );
+    Ok(())
+}
+
+// One table, of one row, which is NULL.
+fn one_null(alloc: Global) -> Result<Database, Fail>
+    ensures there { IfOk result (λ db. length db.tables ≡ 1) }
+    ensures row { IfOk result (λ db. length (table_at db 0).rows ≡ 1) }
+{
+    let mut db = Database::new(alloc);
+    let columns = [text_column(alloc, b"S")?];
+    db.create_table(b"T", &columns).ok().ok_or("T is new")?;
+    db.append_rows(0, &[Value::Null]).ok().ok_or("a NULL fits")?;
+    Ok(db)
+}
+
+#[test]
+fn rows_are_read_for_pay(rt: HostRuntime) -> Result<(), Fail> {
+    let db = one_null(rt.alloc())?;
+    let mut metered = Metered::new(&db);
+    metered.grant(10);
+    assert_eq!(rt; metered.pay(1), Ok(()));
+    assert_eq!(rt; metered.fetch(0, 0), Ok([NULL_WORD].as_slice()));
+    assert_eq!(rt; metered.spent(), 10);
     Ok(())
 }
