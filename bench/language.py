@@ -21,9 +21,8 @@ import subprocess
 import sys
 import time
 
-HERE = os.path.dirname(os.path.abspath(__file__))
-DATA = os.path.join(HERE, "data")
-PROGRAM = os.path.join(HERE, "..", "crates", "bouquet", "out", "bouquet")
+from beside_sqlite import DATA, PROGRAM
+
 SCRIPT_BYTES = 16 * 1024 * 1024
 FEW, MANY = 50_000, 200_000
 TIMES_FEW = 5
