@@ -84,10 +84,8 @@ fn nested(alloc: Global, depth: usize) -> Result<Vec<u8>, AllocError> {
 fn many_tables(alloc: Global, tables: usize) -> Result<Vec<u8>, AllocError> {
     let mut text = Vec::new(alloc);
     for i in 0..tables {
-        let name = [b'T', b'A' + (i / 26) as u8, b'A' + (i % 26) as u8];
-        text.extend_from_slice(b"CREATE TABLE ")?;
-        text.extend_from_slice(&name)?;
-        text.extend_from_slice(b" (A INTEGER);")?;
+        let statement = format!(in alloc; "CREATE TABLE T{i} (A INTEGER);")?;
+        text.extend_from_slice(statement.as_bytes())?;
     }
     Ok(text)
 }
@@ -101,368 +99,307 @@ struct Case<'a> {
     text: &'a [u8],
 }
 
+static CASES: [Case<'static>; 42] = [
+    Case {
+        name: "nothing",
+        script: b"",
+        file: ROWS,
+        status: Status::Done,
+        text: b"",
+    },
+    Case {
+        name: "empty pieces",
+        script: b";; -- nothing\n;",
+        file: ROWS,
+        status: Status::Done,
+        text: b"",
+    },
+    Case {
+        name: "rows in order",
+        script: SCRIPT,
+        file: ROWS,
+        status: Status::Done,
+        text: TEXT,
+    },
+    Case {
+        name: "any case, no last semicolon; a byte order mark, quotes, CR LF, a blank line, signs and zeros",
+        script: b"create\ttable t(a int,b Integer);;load't.csv'into T\r\n; -- all\nSelect*From t",
+        file: b"\xef\xbb\xbfa,\"B\"\r\n2,\r\n\r\n,+5\r\n1,01",
+        status: Status::Done,
+        text: TEXT,
+    },
+    Case {
+        name: "no row",
+        script: ONE_COLUMN,
+        file: b"A\n",
+        status: Status::Done,
+        text: b"-- load rows=0\nA\n-- rows=0 work=1 runs=1 contour=1 plan=S0\n",
+    },
+    Case {
+        name: "no load",
+        script: b"CREATE TABLE T (A INTEGER); SELECT * FROM T",
+        file: ROWS,
+        status: Status::Done,
+        text: b"A\n-- rows=0 work=1 runs=1 contour=1 plan=S0\n",
+    },
+    Case {
+        name: "NULL alone, and equal rows",
+        script: ONE_COLUMN,
+        file: b"A\n\"\"\n7\n-7\n7\n",
+        status: Status::Done,
+        text: b"-- load rows=4\nA\n\"\"\n-7\n7\n7\n-- rows=4 work=17 runs=1 contour=1 plan=S0\n",
+    },
+    Case {
+        name: "the greatest and the least INTEGER",
+        script: ONE_COLUMN,
+        file: b"A\n9223372036854775807\n-9223372036854775807\n",
+        status: Status::Done,
+        text: b"-- load rows=2\nA\n-9223372036854775807\n9223372036854775807\n-- rows=2 work=13 runs=1 contour=1 plan=S0\n",
+    },
+    Case {
+        name: "a file loaded twice",
+        script: b"CREATE TABLE T (A INTEGER); LOAD 't.csv' INTO T; SELECT * FROM T; LOAD 't.csv' INTO T; SELECT * FROM T",
+        file: b"A\n1\n",
+        status: Status::Done,
+        text: b"-- load rows=1\nA\n1\n-- rows=1 work=11 runs=1 contour=1 plan=S0\n-- load rows=1\nA\n1\n1\n-- rows=2 work=13 runs=1 contour=1 plan=S0\n",
+    },
+    Case {
+        name: "texts, quoted where they have to be",
+        script: b"CREATE TABLE T (S VARCHAR(20)); LOAD 't.csv' INTO T; SELECT * FROM T",
+        file: b"S\nS\n\"a,b\"\n\"say \"\"hi\"\"\"\n\"x\ny\"\nB\n",
+        status: Status::Done,
+        text: b"-- load rows=5\nS\nB\nS\n\"a,b\"\n\"say \"\"hi\"\"\"\n\"x\ny\"\n-- rows=5 work=19 runs=1 contour=1 plan=S0\n",
+    },
+    Case {
+        name: "two tables, one of texts, each with its rows",
+        script: b"CREATE TABLE T (A INTEGER, B INTEGER); CREATE TABLE U (A VARCHAR(9), B INTEGER); LOAD 't.csv' INTO U; LOAD 't.csv' INTO T; SELECT * FROM U; SELECT * FROM T",
+        file: b"A,B\n10,1\n9,2\n",
+        status: Status::Done,
+        text: b"-- load rows=2\n-- load rows=2\nA,B\n10,1\n9,2\n-- rows=2 work=13 runs=1 contour=1 plan=S0\nA,B\n9,2\n10,1\n-- rows=2 work=13 runs=1 contour=1 plan=S0\n",
+    },
+    Case {
+        name: "the first field of a header that isn't a column",
+        script: b"CREATE TABLE T (A INTEGER, B INTEGER); LOAD 't.csv' INTO T",
+        file: b"A,C\n1,2\n",
+        status: Status::Refused,
+        text: b"error E10 header 2\n",
+    },
+    Case {
+        name: "an entry with a field too few",
+        script: b"CREATE TABLE T (A INTEGER, B INTEGER); LOAD 't.csv' INTO T",
+        file: b"A,B\n1,2\n1\n",
+        status: Status::Refused,
+        text: b"error E10 fields 2 1 2\n",
+    },
+    Case {
+        name: "a field that is no number",
+        script: b"CREATE TABLE T (A INTEGER, B INTEGER); LOAD 't.csv' INTO T",
+        file: b"A,B\n1,z\n",
+        status: Status::Refused,
+        text: b"error E11 integer 1 2\n",
+    },
+    Case {
+        name: "a number out of range",
+        script: b"CREATE TABLE T (A INTEGER, B INTEGER); LOAD 't.csv' INTO T",
+        file: b"A,B\n9223372036854775807,-9223372036854775808\n",
+        status: Status::Refused,
+        text: b"error E11 range 1 2\n",
+    },
+    Case {
+        name: "a field that isn't UTF-8",
+        script: b"CREATE TABLE T (A INTEGER, B INTEGER); LOAD 't.csv' INTO T",
+        file: b"A,B\n\xff,1\n",
+        status: Status::Refused,
+        text: b"error E11 utf8 1 1\n",
+    },
+    Case {
+        name: "NULL where it is refused",
+        script: b"CREATE TABLE T (S VARCHAR(2) NOT NULL); LOAD 't.csv' INTO T",
+        file: b"S\nab\n\"\"\n",
+        status: Status::Refused,
+        text: b"error E11 null 2 1\n",
+    },
+    Case {
+        name: "a text of too many characters",
+        script: b"CREATE TABLE T (S VARCHAR(2) NOT NULL); LOAD 't.csv' INTO T",
+        file: b"S\nabc\n",
+        status: Status::Refused,
+        text: b"error E11 long 1 1\n",
+    },
+    Case {
+        name: "two tables of one name",
+        script: b"CREATE TABLE T (A INTEGER); CREATE TABLE t (B INTEGER)",
+        file: ROWS,
+        status: Status::Refused,
+        text: b"error E06 duplicate T\n",
+    },
+    Case {
+        name: "two columns of one name",
+        script: b"CREATE TABLE T (A INTEGER, B INTEGER, a INTEGER)",
+        file: ROWS,
+        status: Status::Refused,
+        text: b"error E06 duplicate A\n",
+    },
+    Case {
+        name: "a text without length",
+        script: b"CREATE TABLE T (S VARCHAR(0))",
+        file: ROWS,
+        status: Status::Refused,
+        text: b"error E12 limit length 0\n",
+    },
+    Case {
+        name: "a byte that begins nothing",
+        script: b"SELECT \"x\"",
+        file: ROWS,
+        status: Status::Refused,
+        text: b"error E01 byte 7\n",
+    },
+    Case {
+        name: "a text that stays open, after a piece that is no statement",
+        script: b"SELECT; 'abc",
+        file: ROWS,
+        status: Status::Refused,
+        text: b"error E01 text 8\n",
+    },
+    Case {
+        name: "a number past its limit",
+        script: b"SELECT 9223372036854775808",
+        file: ROWS,
+        status: Status::Refused,
+        text: b"error E01 number 7\n",
+    },
+    Case {
+        name: "a text that isn't UTF-8",
+        script: b"'\xff'",
+        file: ROWS,
+        status: Status::Refused,
+        text: b"error E01 utf8 0\n",
+    },
+    Case {
+        name: "no statement",
+        script: b"SELECT FROM A;",
+        file: ROWS,
+        status: Status::Refused,
+        text: b"error E02 syntax 0\n",
+    },
+    Case {
+        name: "a later piece that is none",
+        script: b"CREATE TABLE T (A INTEGER); SELECT; SELECT",
+        file: ROWS,
+        status: Status::Refused,
+        text: b"error E02 syntax 28\n",
+    },
+    Case {
+        name: "a table that isn't there",
+        script: b"CREATE TABLE T (A INTEGER); SELECT * FROM N",
+        file: ROWS,
+        status: Status::Refused,
+        text: b"error E03 table N\n",
+    },
+    Case {
+        name: "no table to load",
+        script: b"LOAD 'g.csv' INTO n",
+        file: ROWS,
+        status: Status::Refused,
+        text: b"error E03 table N\n",
+    },
+    Case {
+        name: "an absent file",
+        script: b"CREATE TABLE T (A INTEGER); LOAD 'it''s' INTO T; SELECT * FROM T",
+        file: ROWS,
+        status: Status::Refused,
+        text: b"error E09 absent it's\n",
+    },
+    Case {
+        name: "a named column",
+        script: b"SELECT A FROM T",
+        file: ROWS,
+        status: Status::Refused,
+        text: LATER_SELECT,
+    },
+    Case {
+        name: "an alias",
+        script: b"SELECT * FROM T P",
+        file: ROWS,
+        status: Status::Refused,
+        text: LATER_SELECT,
+    },
+    Case {
+        name: "the table's name as alias",
+        script: b"CREATE TABLE T (A INTEGER); SELECT * FROM T AS t",
+        file: ROWS,
+        status: Status::Done,
+        text: b"A\n-- rows=0 work=1 runs=1 contour=1 plan=S0\n",
+    },
+    Case {
+        name: "a condition",
+        script: b"SELECT * FROM T WHERE A = 1",
+        file: ROWS,
+        status: Status::Refused,
+        text: LATER_SELECT,
+    },
+    Case {
+        name: "two tables",
+        script: b"SELECT * FROM T, U",
+        file: ROWS,
+        status: Status::Refused,
+        text: LATER_SELECT,
+    },
+    Case {
+        name: "an index",
+        script: b"CREATE INDEX I ON T (A)",
+        file: ROWS,
+        status: Status::Refused,
+        text: LATER_STATEMENT,
+    },
+    Case {
+        name: "COMPILE",
+        script: b"COMPILE Q AS SELECT * FROM T",
+        file: ROWS,
+        status: Status::Refused,
+        text: LATER_STATEMENT,
+    },
+    Case {
+        name: "RUN",
+        script: b"RUN Q",
+        file: ROWS,
+        status: Status::Refused,
+        text: LATER_STATEMENT,
+    },
+    Case {
+        name: "EXPLAIN",
+        script: b"EXPLAIN Q",
+        file: ROWS,
+        status: Status::Refused,
+        text: LATER_STATEMENT,
+    },
+    Case {
+        name: "SAVE",
+        script: b"SAVE Q TO 'q'",
+        file: ROWS,
+        status: Status::Refused,
+        text: LATER_STATEMENT,
+    },
+    Case {
+        name: "OPEN",
+        script: b"OPEN Q FROM 'q' AS SELECT * FROM T",
+        file: ROWS,
+        status: Status::Refused,
+        text: LATER_STATEMENT,
+    },
+    Case {
+        name: "AUDIT",
+        script: b"AUDIT Q AT 1",
+        file: ROWS,
+        status: Status::Refused,
+        text: LATER_STATEMENT,
+    },
+];
+
 #[test]
 fn scripts_print_their_texts(rt: HostRuntime) -> Result<(), Fail> {
     let alloc = rt.alloc();
-    let one_page = repeated(alloc, b"A,B\n", b"1,2\n", 512, b"")?;
-    let one_page_text = repeated(
-        alloc,
-        b"-- load rows=512\nA,B\n",
-        b"1,2\n",
-        512,
-        b"-- rows=512 work=1033 runs=1 contour=1 plan=S0\n",
-    )?;
-    let two_pages = repeated(alloc, b"A,B\n", b"1,2\n", 513, b"")?;
-    let two_pages_text = repeated(
-        alloc,
-        b"-- load rows=513\nA,B\n",
-        b"1,2\n",
-        513,
-        b"-- rows=513 work=1043 runs=1 contour=1 plan=S0\n",
-    )?;
-    let deepest = nested(alloc, 32)?;
-    let too_deep = nested(alloc, 33)?;
-    let tables = many_tables(alloc, 65)?;
-    let columns = repeated(alloc, b"CREATE TABLE T (C INT", b", C INT", 32, b")")?;
-    let cases = [
-        Case {
-            name: "nothing",
-            script: b"",
-            file: ROWS,
-            status: Status::Done,
-            text: b"",
-        },
-        Case {
-            name: "empty pieces",
-            script: b";; -- nothing\n;",
-            file: ROWS,
-            status: Status::Done,
-            text: b"",
-        },
-        Case {
-            name: "rows in order",
-            script: SCRIPT,
-            file: ROWS,
-            status: Status::Done,
-            text: TEXT,
-        },
-        Case {
-            name: "any case, no last semicolon; a byte order mark, quotes, CR LF, a blank line, signs and zeros",
-            script: b"create\ttable t(a int,b Integer);;load't.csv'into T\r\n; -- all\nSelect*From t",
-            file: b"\xef\xbb\xbfa,\"B\"\r\n2,\r\n\r\n,+5\r\n1,01",
-            status: Status::Done,
-            text: TEXT,
-        },
-        Case {
-            name: "no row",
-            script: ONE_COLUMN,
-            file: b"A\n",
-            status: Status::Done,
-            text: b"-- load rows=0\nA\n-- rows=0 work=1 runs=1 contour=1 plan=S0\n",
-        },
-        Case {
-            name: "no load",
-            script: b"CREATE TABLE T (A INTEGER); SELECT * FROM T",
-            file: ROWS,
-            status: Status::Done,
-            text: b"A\n-- rows=0 work=1 runs=1 contour=1 plan=S0\n",
-        },
-        Case {
-            name: "NULL alone, and equal rows",
-            script: ONE_COLUMN,
-            file: b"A\n\"\"\n7\n-7\n7\n",
-            status: Status::Done,
-            text: b"-- load rows=4\nA\n\"\"\n-7\n7\n7\n-- rows=4 work=17 runs=1 contour=1 plan=S0\n",
-        },
-        Case {
-            name: "the greatest and the least INTEGER",
-            script: ONE_COLUMN,
-            file: b"A\n9223372036854775807\n-9223372036854775807\n",
-            status: Status::Done,
-            text: b"-- load rows=2\nA\n-9223372036854775807\n9223372036854775807\n-- rows=2 work=13 runs=1 contour=1 plan=S0\n",
-        },
-        Case {
-            name: "one page",
-            script: SCRIPT,
-            file: &one_page,
-            status: Status::Done,
-            text: &one_page_text,
-        },
-        Case {
-            name: "two pages",
-            script: SCRIPT,
-            file: &two_pages,
-            status: Status::Done,
-            text: &two_pages_text,
-        },
-        Case {
-            name: "a file loaded twice",
-            script: b"CREATE TABLE T (A INTEGER); LOAD 't.csv' INTO T; SELECT * FROM T; LOAD 't.csv' INTO T; SELECT * FROM T",
-            file: b"A\n1\n",
-            status: Status::Done,
-            text: b"-- load rows=1\nA\n1\n-- rows=1 work=11 runs=1 contour=1 plan=S0\n-- load rows=1\nA\n1\n1\n-- rows=2 work=13 runs=1 contour=1 plan=S0\n",
-        },
-        Case {
-            name: "texts, quoted where they have to be",
-            script: b"CREATE TABLE T (S VARCHAR(20)); LOAD 't.csv' INTO T; SELECT * FROM T",
-            file: b"S\nS\n\"a,b\"\n\"say \"\"hi\"\"\"\n\"x\ny\"\nB\n",
-            status: Status::Done,
-            text: b"-- load rows=5\nS\nB\nS\n\"a,b\"\n\"say \"\"hi\"\"\"\n\"x\ny\"\n-- rows=5 work=19 runs=1 contour=1 plan=S0\n",
-        },
-        Case {
-            name: "two tables, one of texts, each with its rows",
-            script: b"CREATE TABLE T (A INTEGER, B INTEGER); CREATE TABLE U (A VARCHAR(9), B INTEGER); LOAD 't.csv' INTO U; LOAD 't.csv' INTO T; SELECT * FROM U; SELECT * FROM T",
-            file: b"A,B\n10,1\n9,2\n",
-            status: Status::Done,
-            text: b"-- load rows=2\n-- load rows=2\nA,B\n10,1\n9,2\n-- rows=2 work=13 runs=1 contour=1 plan=S0\nA,B\n9,2\n10,1\n-- rows=2 work=13 runs=1 contour=1 plan=S0\n",
-        },
-        Case {
-            name: "the first field of a header that isn't a column",
-            script: b"CREATE TABLE T (A INTEGER, B INTEGER); LOAD 't.csv' INTO T",
-            file: b"A,C\n1,2\n",
-            status: Status::Refused,
-            text: b"error E10 header 2\n",
-        },
-        Case {
-            name: "an entry with a field too few",
-            script: b"CREATE TABLE T (A INTEGER, B INTEGER); LOAD 't.csv' INTO T",
-            file: b"A,B\n1,2\n1\n",
-            status: Status::Refused,
-            text: b"error E10 fields 2 1 2\n",
-        },
-        Case {
-            name: "a field that is no number",
-            script: b"CREATE TABLE T (A INTEGER, B INTEGER); LOAD 't.csv' INTO T",
-            file: b"A,B\n1,z\n",
-            status: Status::Refused,
-            text: b"error E11 integer 1 2\n",
-        },
-        Case {
-            name: "a number out of range",
-            script: b"CREATE TABLE T (A INTEGER, B INTEGER); LOAD 't.csv' INTO T",
-            file: b"A,B\n9223372036854775807,-9223372036854775808\n",
-            status: Status::Refused,
-            text: b"error E11 range 1 2\n",
-        },
-        Case {
-            name: "a field that isn't UTF-8",
-            script: b"CREATE TABLE T (A INTEGER, B INTEGER); LOAD 't.csv' INTO T",
-            file: b"A,B\n\xff,1\n",
-            status: Status::Refused,
-            text: b"error E11 utf8 1 1\n",
-        },
-        Case {
-            name: "NULL where it is refused",
-            script: b"CREATE TABLE T (S VARCHAR(2) NOT NULL); LOAD 't.csv' INTO T",
-            file: b"S\nab\n\"\"\n",
-            status: Status::Refused,
-            text: b"error E11 null 2 1\n",
-        },
-        Case {
-            name: "a text of too many characters",
-            script: b"CREATE TABLE T (S VARCHAR(2) NOT NULL); LOAD 't.csv' INTO T",
-            file: b"S\nabc\n",
-            status: Status::Refused,
-            text: b"error E11 long 1 1\n",
-        },
-        Case {
-            name: "two tables of one name",
-            script: b"CREATE TABLE T (A INTEGER); CREATE TABLE t (B INTEGER)",
-            file: ROWS,
-            status: Status::Refused,
-            text: b"error E06 duplicate T\n",
-        },
-        Case {
-            name: "two columns of one name",
-            script: b"CREATE TABLE T (A INTEGER, B INTEGER, a INTEGER)",
-            file: ROWS,
-            status: Status::Refused,
-            text: b"error E06 duplicate A\n",
-        },
-        Case {
-            name: "a text without length",
-            script: b"CREATE TABLE T (S VARCHAR(0))",
-            file: ROWS,
-            status: Status::Refused,
-            text: b"error E12 limit length 0\n",
-        },
-        Case {
-            name: "33 columns",
-            script: &columns,
-            file: ROWS,
-            status: Status::Refused,
-            text: b"error E12 limit columns 33\n",
-        },
-        Case {
-            name: "65 tables",
-            script: &tables,
-            file: ROWS,
-            status: Status::Refused,
-            text: b"error E12 limit tables 65\n",
-        },
-        Case {
-            name: "a byte that begins nothing",
-            script: b"SELECT \"x\"",
-            file: ROWS,
-            status: Status::Refused,
-            text: b"error E01 byte 7\n",
-        },
-        Case {
-            name: "a text that stays open, after a piece that is no statement",
-            script: b"SELECT; 'abc",
-            file: ROWS,
-            status: Status::Refused,
-            text: b"error E01 text 8\n",
-        },
-        Case {
-            name: "a number past its limit",
-            script: b"SELECT 9223372036854775808",
-            file: ROWS,
-            status: Status::Refused,
-            text: b"error E01 number 7\n",
-        },
-        Case {
-            name: "a text that isn't UTF-8",
-            script: b"'\xff'",
-            file: ROWS,
-            status: Status::Refused,
-            text: b"error E01 utf8 0\n",
-        },
-        Case {
-            name: "no statement",
-            script: b"SELECT FROM A;",
-            file: ROWS,
-            status: Status::Refused,
-            text: b"error E02 syntax 0\n",
-        },
-        Case {
-            name: "a later piece that is none",
-            script: b"CREATE TABLE T (A INTEGER); SELECT; SELECT",
-            file: ROWS,
-            status: Status::Refused,
-            text: b"error E02 syntax 28\n",
-        },
-        Case {
-            name: "parentheses as deep as may be",
-            script: &deepest,
-            file: ROWS,
-            status: Status::Refused,
-            text: LATER_SELECT,
-        },
-        Case {
-            name: "parentheses that are too deep",
-            script: &too_deep,
-            file: ROWS,
-            status: Status::Refused,
-            text: b"error E02 syntax 0\n",
-        },
-        Case {
-            name: "a table that isn't there",
-            script: b"CREATE TABLE T (A INTEGER); SELECT * FROM N",
-            file: ROWS,
-            status: Status::Refused,
-            text: b"error E03 table N\n",
-        },
-        Case {
-            name: "no table to load",
-            script: b"LOAD 'g.csv' INTO n",
-            file: ROWS,
-            status: Status::Refused,
-            text: b"error E03 table N\n",
-        },
-        Case {
-            name: "an absent file",
-            script: b"CREATE TABLE T (A INTEGER); LOAD 'it''s' INTO T; SELECT * FROM T",
-            file: ROWS,
-            status: Status::Refused,
-            text: b"error E09 absent it's\n",
-        },
-        Case {
-            name: "a named column",
-            script: b"SELECT A FROM T",
-            file: ROWS,
-            status: Status::Refused,
-            text: LATER_SELECT,
-        },
-        Case {
-            name: "an alias",
-            script: b"SELECT * FROM T P",
-            file: ROWS,
-            status: Status::Refused,
-            text: LATER_SELECT,
-        },
-        Case {
-            name: "the table's name as alias",
-            script: b"CREATE TABLE T (A INTEGER); SELECT * FROM T AS t",
-            file: ROWS,
-            status: Status::Done,
-            text: b"A\n-- rows=0 work=1 runs=1 contour=1 plan=S0\n",
-        },
-        Case {
-            name: "a condition",
-            script: b"SELECT * FROM T WHERE A = 1",
-            file: ROWS,
-            status: Status::Refused,
-            text: LATER_SELECT,
-        },
-        Case {
-            name: "two tables",
-            script: b"SELECT * FROM T, U",
-            file: ROWS,
-            status: Status::Refused,
-            text: LATER_SELECT,
-        },
-        Case {
-            name: "an index",
-            script: b"CREATE INDEX I ON T (A)",
-            file: ROWS,
-            status: Status::Refused,
-            text: LATER_STATEMENT,
-        },
-        Case {
-            name: "COMPILE",
-            script: b"COMPILE Q AS SELECT * FROM T",
-            file: ROWS,
-            status: Status::Refused,
-            text: LATER_STATEMENT,
-        },
-        Case {
-            name: "RUN",
-            script: b"RUN Q",
-            file: ROWS,
-            status: Status::Refused,
-            text: LATER_STATEMENT,
-        },
-        Case {
-            name: "EXPLAIN",
-            script: b"EXPLAIN Q",
-            file: ROWS,
-            status: Status::Refused,
-            text: LATER_STATEMENT,
-        },
-        Case {
-            name: "SAVE",
-            script: b"SAVE Q TO 'q'",
-            file: ROWS,
-            status: Status::Refused,
-            text: LATER_STATEMENT,
-        },
-        Case {
-            name: "OPEN",
-            script: b"OPEN Q FROM 'q' AS SELECT * FROM T",
-            file: ROWS,
-            status: Status::Refused,
-            text: LATER_STATEMENT,
-        },
-        Case {
-            name: "AUDIT",
-            script: b"AUDIT Q AT 1",
-            file: ROWS,
-            status: Status::Refused,
-            text: LATER_STATEMENT,
-        },
-    ];
-    for case in &cases {
+    for case in &CASES {
         let answer = run(alloc, &[], case.script, case.file, NO_FAULTS)?;
         assert_eq!(rt; answer.0, case.status, "{}", case.name);
         assert_eq!(rt; answer.1.as_slice(), case.text, "{}", case.name);
@@ -471,6 +408,111 @@ fn scripts_print_their_texts(rt: HostRuntime) -> Result<(), Fail> {
     let answer = run(alloc, &help, SCRIPT, ROWS, NO_FAULTS)?;
     assert_eq!(rt; answer.0, Status::BadWords);
     assert_eq!(rt; answer.1.as_slice(), USAGE);
+    Ok(())
+}
+
+// Tables of a page and of a row more, with what is printed of them.
+#[derive(Drop)]
+struct Pages {
+    one: Vec<u8>,
+    one_text: Vec<u8>,
+    two: Vec<u8>,
+    two_text: Vec<u8>,
+}
+
+fn make_pages(alloc: Global) -> Result<Pages, AllocError> {
+    Ok(Pages {
+        one: repeated(alloc, b"A,B\n", b"1,2\n", 512, b"")?,
+        one_text: repeated(
+            alloc,
+            b"-- load rows=512\nA,B\n",
+            b"1,2\n",
+            512,
+            b"-- rows=512 work=1033 runs=1 contour=1 plan=S0\n",
+        )?,
+        two: repeated(alloc, b"A,B\n", b"1,2\n", 513, b"")?,
+        two_text: repeated(
+            alloc,
+            b"-- load rows=513\nA,B\n",
+            b"1,2\n",
+            513,
+            b"-- rows=513 work=1043 runs=1 contour=1 plan=S0\n",
+        )?,
+    })
+}
+
+// Scripts at a limit and past it.
+#[derive(Drop)]
+struct Limits {
+    deepest: Vec<u8>,
+    too_deep: Vec<u8>,
+    tables: Vec<u8>,
+    columns: Vec<u8>,
+}
+
+fn make_limits(alloc: Global) -> Result<Limits, AllocError> {
+    Ok(Limits {
+        deepest: nested(alloc, 32)?,
+        too_deep: nested(alloc, 33)?,
+        tables: many_tables(alloc, 65)?,
+        columns: repeated(alloc, b"CREATE TABLE T (C INT", b", C INT", 32, b")")?,
+    })
+}
+
+#[test]
+fn scripts_at_a_limit_print_their_texts(rt: HostRuntime) -> Result<(), Fail> {
+    let alloc = rt.alloc();
+    let pages = make_pages(alloc)?;
+    let limits = make_limits(alloc)?;
+    let cases = [
+        Case {
+            name: "one page",
+            script: SCRIPT,
+            file: &pages.one,
+            status: Status::Done,
+            text: &pages.one_text,
+        },
+        Case {
+            name: "two pages",
+            script: SCRIPT,
+            file: &pages.two,
+            status: Status::Done,
+            text: &pages.two_text,
+        },
+        Case {
+            name: "33 columns",
+            script: &limits.columns,
+            file: ROWS,
+            status: Status::Refused,
+            text: b"error E12 limit columns 33\n",
+        },
+        Case {
+            name: "65 tables",
+            script: &limits.tables,
+            file: ROWS,
+            status: Status::Refused,
+            text: b"error E12 limit tables 65\n",
+        },
+        Case {
+            name: "parentheses as deep as may be",
+            script: &limits.deepest,
+            file: ROWS,
+            status: Status::Refused,
+            text: LATER_SELECT,
+        },
+        Case {
+            name: "parentheses that are too deep",
+            script: &limits.too_deep,
+            file: ROWS,
+            status: Status::Refused,
+            text: b"error E02 syntax 0\n",
+        },
+    ];
+    for case in &cases {
+        let answer = run(alloc, &[], case.script, case.file, NO_FAULTS)?;
+        assert_eq!(rt; answer.0, case.status, "{}", case.name);
+        assert_eq!(rt; answer.1.as_slice(), case.text, "{}", case.name);
+    }
     Ok(())
 }
 
