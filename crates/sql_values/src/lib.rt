@@ -1,8 +1,10 @@
-//! The values of SQL as every layer above passes them: texts, values, the columns of a table, and the operators that
-//! compare values. The limits of the whole product stand here too, under their names.
-//! It promises that a `Text` is exactly the bytes that it was made from, and that two of them are equal exactly where
-//! their bytes are.
-//! It never looks into the bytes of a `Text` (they need not be UTF-8), and only `Text::new` and `clone` take memory.
+//! The values of SQL as every layer above passes them: texts, values and their order, the columns of a table, the
+//! operators that compare values, and the dictionary in which a text is a place. The limits of the whole product stand
+//! here too, each figure once, under their names.
+//! It promises that a `Text` is exactly the bytes that it was made from, that `order` is total and finds only the same
+//! value equal, and that a dictionary is a list of different texts, which a refusal leaves as it was.
+//! It never looks at what the bytes of a text mean (they need not be UTF-8), never knows a table by name, and never tests
+//! a number against a limit.
 #![tactic(auto)]
 
 mod column;
