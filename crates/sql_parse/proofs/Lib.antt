@@ -16,5 +16,6 @@ pub mod PrintedStatements
 pub mod Sound
 pub mod WrittenParts
 pub mod SoundForms
+pub mod Literals
 pub mod WellFormed
 pub mod CanonicalText

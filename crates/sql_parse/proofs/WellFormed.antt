@@ -14,6 +14,7 @@ use Rattle.sql_parse.specs.Grammar.{Rule, Separated, IsSelection, IsSelect, IsSt
 use Rattle.sql_parse.specs.Script.{is_semicolon, in_front, split, not_empty, pieces, AreStatementsOf, AreStatements}
 use Rattle.sql_parse.specs.WellFormed.{IsWellFormedQuery, IsWellFormed}
 use Rattle.sql_parse.proofs.Sound.{EachSound, tokens-sound}
+use Rattle.sql_parse.proofs.Literals.{where-free}
 
 separated-some : {A : Type 0} (separator : Mark) (IsPart : Rule A) (tokens : List Lexeme) (xs : List A) → Separated separator IsPart tokens xs → 0 < length xs
 separated-some separator IsPart tokens [] form = absurd form
@@ -24,7 +25,8 @@ selection-some tokens None form = tt
 selection-some tokens (Some columns) form = separated-some m.Comma _ tokens columns form
 
 query-well_formed : (tokens : List Lexeme) (query : QueryTree) → IsSelect tokens query → IsWellFormedQuery query
-query-well_formed tokens query form = (separated-some m.Comma _ form.1 query.from form.5, selection-some form.0 query.columns form.4)
+query-well_formed tokens query form =
+    (separated-some m.Comma _ form.1 query.from form.5, selection-some form.0 query.columns form.4, where-free form.2 query.condition form.6)
 
 statement-well_formed : (tokens : List Lexeme) (statement : StatementTree) → EachSound tokens → IsStatement tokens statement → IsWellFormed statement
 statement-well_formed tokens (CreateTable table) sound form = separated-some m.Comma _ form.3.0 table.columns form.3.2

@@ -1,12 +1,42 @@
 -- What the layers above rely on in each statement that is read.
-use Rattle.std.specs.Prelude.{◌<◌, length, IfSome}
+use Rattle.std.specs.Prelude.{◌<◌, List, [], ◌∷◌, length, IfSome}
 use Rattle.std.specs.Str.{IsUtf8}
-use Rattle.sql_parse.specs.Trees.{QueryTree, StatementTree, CreateTable, CreateIndex, Load, Select, Compile, Run, Explain, SaveFile, OpenFile, Audit}
+use Rattle.sql_values.specs.declared.value.Value.TheVariants as value
+use Rattle.sql_parse.specs.declared.tree.Term.{Term}
+use Rattle.sql_parse.specs.declared.tree.Term.TheVariants as term
+use Rattle.sql_parse.specs.Trees.{ConditionTree, ConditionTrees, Compare, Between, OneOf, IsNull, Not, And, Or, NoMore, More, QueryTree, StatementTree, CreateTable, CreateIndex, Load, Select, Compile, Run, Explain, SaveFile, OpenFile, Audit}
 
--- a query has a table and, where it names columns, a column
+-- an operand isn't NULL as a literal
+abbrev pub IsNotNull : Term → Type 0
+IsNotNull (term.Column _) = Unit {0}
+IsNotNull (term.Literal value.Null) = ⊥
+IsNotNull (term.Literal (value.Int _)) = Unit {0}
+IsNotNull (term.Literal (value.Text _)) = Unit {0}
+
+abbrev pub AreNotNull : List Term → Type 0
+AreNotNull [] = Unit {0}
+AreNotNull (term ∷ terms) = IsNotNull term × AreNotNull terms
+
+abbrev mutual
+  -- no operand of the condition is NULL as a literal
+  pub HasNoNull : ConditionTree → Type 0
+  HasNoNull (Compare op left right) = IsNotNull left × IsNotNull right
+  HasNoNull (Between negated of low high) = IsNotNull of × IsNotNull low × IsNotNull high
+  HasNoNull (OneOf negated of terms) = IsNotNull of × AreNotNull terms
+  HasNoNull (IsNull negated column) = Unit {0}
+  HasNoNull (Not inner) = HasNoNull inner
+  HasNoNull (And parts) = HaveNoNull parts
+  HasNoNull (Or parts) = HaveNoNull parts
+
+  pub HaveNoNull : ConditionTrees → Type 0
+  HaveNoNull NoMore = Unit {0}
+  HaveNoNull (More part parts) = HasNoNull part × HaveNoNull parts
+
+-- a query has a table and, where it names columns, a column; no literal of its condition is NULL
 abbrev pub IsWellFormedQuery : QueryTree → Type 0
 IsWellFormedQuery query =
     (0 < length query.from) × IfSome query.columns (λ columns. 0 < length columns)
+    × IfSome query.condition HasNoNull
 
 -- a new table has a column, and the name of a file is UTF-8
 abbrev pub IsWellFormed : StatementTree → Type 0

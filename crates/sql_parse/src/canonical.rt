@@ -9,13 +9,12 @@ ghost use Rattle.sql_parse.specs.declared.mark.Mark.TheVariants as m;
 
 use crate::canonical_condition::condition;
 use crate::mark::Mark;
-use crate::sequence::Sequence;
 use crate::tree::{
     AuditDef, ColRef, CompileDef, Cond, FileDef, IndexDef, Item, LoadDef, Name, OpenDef, Query,
     Statement, TableDef, Term,
 };
 use crate::writer::Writer;
-use sql_values::{ColumnDef, ColumnType, Value};
+use sql_values::{ColumnDef, ColumnType, Sequence, Value};
 use std::alloc::{AllocError, Global};
 
 /// A statement's canonical text: keywords and names in upper case, one space between two tokens but at parentheses,

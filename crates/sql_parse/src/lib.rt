@@ -16,7 +16,6 @@ mod piece;
 mod predicate;
 mod query;
 mod script;
-mod sequence;
 mod statement;
 mod table;
 mod tree;
@@ -26,7 +25,6 @@ pub use canonical::{canonical_text_is_read, print, print_query};
 pub use fault::SyntaxFault;
 pub use mark::Mark;
 pub use script::{one_parsing_is_due, one_statement, read_script};
-pub use sequence::Sequence;
 pub use tree::{
     AuditDef, ColRef, CompileDef, Cond, FileDef, IndexDef, Item, LoadDef, Name, OpenDef, Query,
     Statement, TableDef, Term,

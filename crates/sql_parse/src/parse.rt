@@ -8,7 +8,7 @@ ghost use Rattle.sql_parse.specs.Reading.{Reader, GivesValue, list_with_first, l
 use crate::fault::ReadFault;
 use crate::mark::Mark;
 use crate::piece::Piece;
-use crate::sequence::Sequence;
+use sql_values::Sequence;
 use std::alloc::Global;
 
 // A value that can be read from the front of tokens.

@@ -9,8 +9,8 @@ use crate::fault::ReadFault;
 use crate::mark::Mark;
 use crate::parse::{Parse, list};
 use crate::piece::Piece;
-use crate::sequence::Sequence;
 use crate::tree::{ColRef, Cond, Item, Query};
+use sql_values::Sequence;
 use std::alloc::Global;
 
 impl Parse for ColRef {

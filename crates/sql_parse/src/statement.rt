@@ -10,9 +10,9 @@ use crate::mark::Mark;
 use crate::parse::{Parse, list};
 use crate::piece::Piece;
 use crate::query::select;
-use crate::sequence::Sequence;
 use crate::table::create;
 use crate::tree::{AuditDef, CompileDef, FileDef, LoadDef, OpenDef, Statement};
+use sql_values::Sequence;
 use std::alloc::Global;
 
 impl Parse for u64 {

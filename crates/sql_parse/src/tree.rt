@@ -1,7 +1,6 @@
 // What statements and conditions are made of. The definitions see them as the trees of `specs/Trees.antt`.
 
-use crate::sequence::Sequence;
-use sql_values::{ColumnDef, Op, Text, Value};
+use sql_values::{ColumnDef, Op, Sequence, Text, Value};
 
 /// A name, in upper case.
 pub type Name = Text;

@@ -4,3 +4,4 @@ pub mod Order
 pub mod Words
 pub mod Dictionary
 pub mod Stored
+pub mod Truth

@@ -48,6 +48,16 @@ row_of texts (column ∷ columns) (word ∷ words) = value_of texts column.kind 
 abbrev pub AreWords : List (List ℕ) → List ColumnDef → List ℤ → Type 0
 AreWords texts columns words = AllZip (λ column word. IsWord texts column.kind word) columns words
 
+-- the values for which the words of a row stand in columns of these kinds
+abbrev pub values_of : List (List ℕ) → List ColumnType → List ℤ → ValueRow
+values_of texts [] words = []
+values_of texts (kind ∷ kinds) [] = []
+values_of texts (kind ∷ kinds) (word ∷ words) = value_of texts kind word ∷ values_of texts kinds words
+
+-- the words may stand in a row of columns of these kinds: one for each
+abbrev pub AreWordsOf : List (List ℕ) → List ColumnType → List ℤ → Type 0
+AreWordsOf texts kinds words = AllZip (IsWord texts) kinds words
+
 -- the words of a row and its values, which fit the columns: each can be had from the other
 pub record StandsFor (texts : List (List ℕ)) (columns : List ColumnDef) (words : List ℤ) (row : ValueRow) : Type 0 where
   pub values : row ≡ row_of texts columns words

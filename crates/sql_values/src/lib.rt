@@ -10,8 +10,10 @@
 mod column;
 mod limit;
 mod op;
+mod sequence;
 mod text;
 mod texts;
+mod truth;
 mod value;
 mod value_order;
 
@@ -23,8 +25,10 @@ pub use limit::{
     limits_are_as_stated,
 };
 pub use op::Op;
+pub use sequence::Sequence;
 pub use text::Text;
 pub use texts::Texts;
+pub use truth::{Truth, and, certain, compare, holds, not, or};
 pub use value::{NULL_WORD, Value, null_word_is_as_stated};
 pub use value_order::{order, order_is_total};
 

@@ -1,3 +1,4 @@
+// A list of values that clauses see as a list. Nothing here asks what the values are.
 ghost use Rattle.std.specs.Prelude.{◌≡◌};
 
 use std::marker::Model;

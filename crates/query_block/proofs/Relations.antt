@@ -1,0 +1,30 @@
+-- Relations of a block have few columns.
+use Rattle.std.proofs.Common.{◌≡◌, ℕ, ◌≤◌, All, List, [], ◌∷◌, length, map, sum_by, sym, take, ◌∙◌, ◌+◌, ap, refl}
+use Rattle.std.proofs.lemmas.List.Sums.{sum_by-cons}
+use Rattle.std.proofs.lemmas.List.{take-map}
+use Rattle.std.proofs.lemmas.List.Elements.{All-nil, All-cons, All-head, All-tail}
+use Rattle.sql_values.specs.Limits.{max_columns}
+use Rattle.query_block.specs.declared.block.Relation.{Relation}
+use Rattle.query_block.specs.Blocks.{RelationTree, relation_tree, IsRelation}
+
+abbrev pub IsNarrow : Relation → Type 0
+IsNarrow relation = length relation.columns ≤ max_columns
+
+pub narrow : (relations : List Relation) → All IsRelation (map relation_tree relations) → All IsNarrow relations
+narrow [] all = All-nil IsNarrow
+narrow (relation ∷ relations) all =
+    All-cons IsNarrow relation relations (All-head IsRelation _ _ all).few (narrow relations (All-tail IsRelation _ _ all))
+
+abbrev pub words_in : RelationTree → ℕ
+words_in relation = length relation.columns
+
+words-map : (relations : List Relation) → sum_by (λ relation. length relation.columns) relations ≡ sum_by words_in (map relation_tree relations)
+words-map [] = refl
+words-map (relation ∷ relations) =
+    sum_by-cons (λ one. length one.columns) relation relations
+    ∙ ap (λ n. length relation.columns + n) (words-map relations)
+    ∙ sym (sum_by-cons words_in (relation_tree relation) (map relation_tree relations))
+
+pub words-first : (number : ℕ) (relations : List Relation)
+    → sum_by (λ relation. length relation.columns) (take number relations) ≡ sum_by words_in (take number (map relation_tree relations))
+words-first number relations = words-map (take number relations) ∙ ap (sum_by words_in) (sym (take-map relation_tree number relations))

@@ -1,0 +1,140 @@
+-- Blocks as plain data, and what is always so of a block.
+use Rattle.std.specs.Prelude.{◌≡◌, ◌≢◌, ℕ, ◌<◌, ◌≤◌, Bool, true, false, nat_eq, List, [], All, length, map, slice_index_or, sum_by, take}
+use Rattle.std.specs.List.{IsDistinct}
+use Rattle.sql_values.specs.declared.column.ColumnType.{ColumnType}
+use Rattle.sql_values.specs.declared.column.ColumnType.TheVariants.{Integer, Varchar}
+use Rattle.sql_values.specs.declared.value.Value.{Value}
+use Rattle.sql_values.specs.declared.value.Value.TheVariants as value
+use Rattle.sql_values.specs.Limits.{max_relations, max_columns, max_axes}
+use Rattle.query_block.specs.declared.condition.Operand.{Operand}
+use Rattle.query_block.specs.declared.condition.Operand.TheVariants.{Column, Literal}
+use Rattle.query_block.specs.declared.block.Relation.{Relation}
+use Rattle.query_block.specs.declared.edge.Edge.{Edge}
+use Rattle.query_block.specs.declared.edge.ColumnAt.{ColumnAt}
+use Rattle.query_block.specs.Shape.{BlockShape}
+use Rattle.query_block.specs.Conditions.{FilterTree, FilterTrees, Compare, Between, OneOf, IsNull, Not, And, Or, NoMore, More, filter_tree}
+
+-- a table by its number, what its columns hold, the conjuncts over it alone, its indexed columns
+pub record RelationTree : Type 0 where
+  pub table : ℕ
+  pub columns : List ColumnType
+  pub filter : List FilterTree
+  pub indexes : List ℕ
+
+-- relations in FROM order, edges and the projection in written order
+pub record BlockTree : Type 0 where
+  pub relations : List RelationTree
+  pub edges : List Edge
+  pub projection : List ColumnAt
+
+abbrev pub relation_tree : Relation → RelationTree
+relation_tree relation = record {
+  table = relation.table;
+  columns = relation.columns;
+  filter = map filter_tree relation.filter;
+  indexes = relation.indexes;
+}
+
+abbrev pub block_tree : BlockShape → BlockTree
+block_tree block = record {
+  relations = map relation_tree block.relations;
+  edges = block.edges;
+  projection = block.projection;
+}
+
+-- the relation of this number, from 0
+abbrev pub relation_at : List RelationTree → ℕ → RelationTree
+relation_at relations number =
+    slice_index_or relations number (record { table = 0; columns = []; filter = []; indexes = [] })
+
+-- what the column of this number holds, from 0
+abbrev pub kind_at : List ColumnType → ℕ → ColumnType
+kind_at columns number = slice_index_or columns number Integer
+
+-- whether a column holds texts; else it holds numbers
+abbrev pub holds_texts : ColumnType → Bool
+holds_texts Integer = false
+holds_texts (Varchar _) = true
+
+-- whether a literal is a text
+abbrev pub is_text : Value → Bool
+is_text value.Null = false
+is_text (value.Int _) = false
+is_text (value.Text _) = true
+
+-- whether an operand is a text
+abbrev pub is_text_operand : List ColumnType → Operand → Bool
+is_text_operand columns (Column column) = holds_texts (kind_at columns column)
+is_text_operand columns (Literal literal) = is_text literal
+
+-- a column that exists, or a literal that isn't NULL
+abbrev pub IsOperand : List ColumnType → Operand → Type 0
+IsOperand columns (Column column) = column < length columns
+IsOperand columns (Literal literal) = literal ≢ value.Null
+
+-- both are such operands, of one kind
+abbrev pub AreOperands : List ColumnType → Operand → Operand → Type 0
+AreOperands columns a b =
+    IsOperand columns a × IsOperand columns b × (is_text_operand columns a ≡ is_text_operand columns b)
+
+abbrev mutual
+  -- a condition names columns that exist and no NULL, and compares operands of one kind
+  pub FitsColumns : List ColumnType → FilterTree → Type 0
+  FitsColumns columns (Compare op left right) = AreOperands columns left right
+  FitsColumns columns (Between of low high) = AreOperands columns of low × AreOperands columns of high
+  FitsColumns columns (OneOf of operands) = IsOperand columns of × All (AreOperands columns of) operands
+  FitsColumns columns (IsNull column) = column < length columns
+  FitsColumns columns (Not inner) = FitsColumns columns inner
+  FitsColumns columns (And parts) = FitColumns columns parts
+  FitsColumns columns (Or parts) = FitColumns columns parts
+
+  pub FitColumns : List ColumnType → FilterTrees → Type 0
+  FitColumns columns NoMore = Unit {0}
+  FitColumns columns (More part parts) = FitsColumns columns part × FitColumns columns parts
+
+-- a relation has 1 to 32 columns, a filter that fits them, and different indexed columns among them
+pub record IsRelation (relation : RelationTree) : Type 0 where
+  pub some : 1 ≤ length relation.columns
+  pub few : length relation.columns ≤ max_columns
+  pub filter : All (FitsColumns relation.columns) relation.filter
+  pub indexes : All (λ column. column < length relation.columns) relation.indexes
+  pub different : IsDistinct nat_eq relation.indexes
+
+-- the relation and its column exist
+abbrev pub IsPlace : List RelationTree → ColumnAt → Type 0
+IsPlace relations place =
+    (place.relation < length relations) × (place.column < length (relation_at relations place.relation).columns)
+
+-- the kind of a column at a place
+abbrev pub kind_of : List RelationTree → ColumnAt → ColumnType
+kind_of relations place = kind_at (relation_at relations place.relation).columns place.column
+
+-- both columns exist, the lower relation's on the left, and hold one kind
+abbrev pub left_of : Edge → ColumnAt
+left_of edge = record { relation = edge.left; column = edge.left_column }
+
+abbrev pub right_of : Edge → ColumnAt
+right_of edge = record { relation = edge.right; column = edge.right_column }
+
+pub record IsEdge (relations : List RelationTree) (edge : Edge) : Type 0 where
+  pub left : IsPlace relations (left_of edge)
+  pub right : IsPlace relations (right_of edge)
+  pub lower : edge.left < edge.right
+  pub one_kind : holds_texts (kind_of relations (left_of edge)) ≡ holds_texts (kind_of relations (right_of edge))
+
+-- 1 to 6 relations, at most 6 edges, a projection of columns that exist
+pub record IsBlock (block : BlockTree) : Type 0 where
+  pub some : 1 ≤ length block.relations
+  pub few : length block.relations ≤ max_relations
+  pub relations : All IsRelation block.relations
+  pub axes : length block.edges ≤ max_axes
+  pub edges : All (IsEdge block.relations) block.edges
+  pub projection : All (IsPlace block.relations) block.projection
+
+-- how many words a row of all relations together has
+abbrev pub width_of : BlockTree → ℕ
+width_of block = sum_by (λ relation. length relation.columns) block.relations
+
+-- where the words of a relation begin in such a row
+abbrev pub offset_of : BlockTree → ℕ → ℕ
+offset_of block number = sum_by (λ relation. length relation.columns) (take number block.relations)

@@ -1,0 +1,5 @@
+pub mod Conditions
+pub mod Truth
+pub mod Shape
+pub mod Blocks
+pub mod Meaning

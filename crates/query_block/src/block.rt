@@ -1,0 +1,130 @@
+// A block: what a query asks of which tables. It knows tables by their numbers alone.
+ghost use Rattle.std.specs.Prelude.{◌≡◌, ◌*◌, ◌<◌, ◌≤◌, All, length, sum_by};
+ghost use Rattle.sql_values.specs.Limits.{max_relations, max_columns};
+ghost use Rattle.query_block.specs.Blocks.{block_tree, IsBlock, width_of, offset_of};
+
+use crate::condition::Condition;
+use crate::edge::{ColumnAt, Edge};
+use sql_values::{ColumnType, Sequence};
+use std::marker::Model;
+
+/// A table of FROM, and what WHERE asks of it alone.
+#[derive(Debug, Drop)]
+pub struct Relation {
+    /// The table's number, from 0.
+    pub table: u32,
+    /// What its columns hold.
+    pub columns: Sequence<ColumnType>,
+    /// The conjuncts over this relation alone, in written order.
+    pub filter: Sequence<Condition>,
+    /// The numbers of its indexed columns, from 0.
+    pub indexes: Sequence<u8>,
+}
+
+/// A query with its names bound. Its parts never change, and keep the invariant `IsBlock`.
+#[derive(Debug, Drop)]
+pub struct Block {
+    relations: Vec<Relation>,
+    edges: Vec<Edge>,
+    projection: Vec<ColumnAt>,
+}
+
+impl Model for Block {
+    ghost use Rattle.query_block.specs.Shape.{BlockShape};
+    ghost use Rattle.query_block.specs.contracts.condition.Condition as condition;
+    ghost use Rattle.std.specs.Coded.{codes};
+
+    ghost Value = { BlockShape };
+
+    ghost coded = { Prim.hlevel (codes, condition.the_row.coded) };
+
+    ghost use Rattle.query_block.specs.Blocks.{block_tree, IsBlock};
+
+    ghost view = { λ b. record {
+      relations = b.relations.items;
+      edges = b.edges.items;
+      projection = b.projection.items;
+    } };
+
+    ghost invariant = { λ b. IsBlock (block_tree (record {
+      relations = b.relations.items;
+      edges = b.edges.items;
+      projection = b.projection.items;
+    })) };
+}
+
+// How many words these relations have together.
+fn words_of(relations: &[Relation]) -> usize
+    requires few { length relations.now ≤ max_relations }
+    requires narrow { All (λ relation. length relation.columns ≤ max_columns) relations.now }
+    ensures words { result ≡ sum_by (λ relation. length relation.columns) relations.now }
+    ensures bound { result ≤ length relations.now * max_columns }
+{
+    let mut words = 0;
+    for relation in relations {
+        words += relation.columns.as_slice().len();
+    }
+    words
+}
+
+impl Block {
+    /// The block of these relations, in FROM order, of these edges, each of which is an axis, and of the columns that the
+    /// query asks for, in written order. It takes no memory.
+    pub fn new(relations: Vec<Relation>, edges: Vec<Edge>, projection: Vec<ColumnAt>) -> Block
+        requires { IsBlock (block_tree (record {
+          relations = relations.items;
+          edges = edges.items;
+          projection = projection.items;
+        })) }
+        ensures relations { result.relations ≡ relations.items }
+        ensures edges { result.edges ≡ edges.items }
+        ensures projection { result.projection ≡ projection.items }
+    {
+        Block {
+            relations,
+            edges,
+            projection,
+        }
+    }
+
+    /// Its relations, in FROM order: 1 to 6, of 1 to 32 columns each.
+    pub fn relations(&self) -> &[Relation]
+        ensures relations { result.now ≡ self.now.relations }
+        ensures block { IsBlock (block_tree self.now) }
+    {
+        &self.relations
+    }
+
+    /// Its edges, in written order: at most 6.
+    pub fn edges(&self) -> &[Edge]
+        ensures edges { result.now ≡ self.now.edges }
+        ensures block { IsBlock (block_tree self.now) }
+    {
+        &self.edges
+    }
+
+    /// The columns that the query asks for, in written order.
+    pub fn projection(&self) -> &[ColumnAt]
+        ensures projection { result.now ≡ self.now.projection }
+        ensures block { IsBlock (block_tree self.now) }
+    {
+        &self.projection
+    }
+
+    /// How many words a row of all relations together has: 1 to 192. The words of each relation follow those of the one
+    /// before.
+    pub fn width(&self) -> usize
+        ensures width { result ≡ width_of (block_tree self.now) }
+        ensures bound { result ≤ max_relations * max_columns }
+    {
+        words_of(&self.relations)
+    }
+
+    /// Where the words of a relation begin in such a row, from 0.
+    pub fn offset(&self, relation: u8) -> usize
+        requires { relation < length self.now.relations }
+        ensures { result ≡ offset_of (block_tree self.now) relation }
+    {
+        words_of(&self.relations[..relation as usize])
+    }
+}

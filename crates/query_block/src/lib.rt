@@ -1,0 +1,15 @@
+//! What a query means, once its names are bound: a block of relations with filters, edges between them and a projection,
+//! and the truth of a condition on a row.
+//! To the layers above it promises that a block keeps its invariant (numbers that stand for something, operands of one
+//! kind, no NULL literal), and that `truth` is the truth of SQL-92 on the values for which the words of a row stand. The
+//! definitions of a query's rows, as a filtered product, stand here too.
+//! It never reads a table, never looks up a name, and takes no memory to find a truth.
+#![tactic(auto)]
+
+mod block;
+mod condition;
+mod edge;
+
+pub use block::{Block, Relation};
+pub use condition::{Condition, Operand};
+pub use edge::{ColumnAt, Edge};
