@@ -4,3 +4,4 @@ pub mod Cut
 pub mod Refusals
 pub mod Recoding
 pub mod Appended
+pub mod Growth

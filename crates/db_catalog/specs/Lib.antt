@@ -4,3 +4,4 @@ pub mod Batch
 pub mod Meter
 pub mod Kept
 pub mod Recoded
+pub mod Fits

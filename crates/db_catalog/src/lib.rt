@@ -1,7 +1,8 @@
 //! The database: tables of typed columns under their names, their rows, the dictionary of their texts, and the meter
 //! through which alone a row is read.
 //! To the layers above a database is a list of tables of values. Earlier rows stay where they are, a refusal names the
-//! first check that fails and changes nothing, and each read through the meter pays exactly its charge.
+//! first check that fails and changes nothing, and each read through the meter pays exactly its charge. It tells whether
+//! a block still stands over its tables.
 //! It never reads a file or a statement, and never changes or drops a row.
 #![tactic(auto)]
 
@@ -10,6 +11,7 @@ mod check;
 mod columns;
 mod database;
 mod fault;
+mod fits;
 mod metered;
 mod recode;
 mod table;
@@ -17,6 +19,7 @@ mod table;
 pub use batch::Batch;
 pub use database::Database;
 pub use fault::DbFault;
+pub use fits::blocks_fit_as_a_database_grows;
 pub use metered::Metered;
 
 #[cfg(test)]

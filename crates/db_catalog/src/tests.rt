@@ -3,7 +3,8 @@ ghost use Rattle.sql_values.specs.declared.column.ColumnType.TheVariants.{Varcha
 ghost use Rattle.db_catalog.specs.Database.{table_at};
 
 use super::*;
-use sql_values::{ColumnDef, ColumnType, LimitName, NULL_WORD, Text, Value};
+use query_block::{Block, Relation};
+use sql_values::{ColumnDef, ColumnType, LimitName, NULL_WORD, Sequence, Text, Value};
 use std::alloc::{AllocError, Global};
 use std::test::Fail;
 
@@ -83,5 +84,43 @@ fn rows_are_read_for_pay(rt: HostRuntime) -> Result<(), Fail> {
     assert_eq!(rt; metered.pay(1), Ok(()));
     assert_eq!(rt; metered.fetch(0, 0), Ok([NULL_WORD].as_slice()));
     assert_eq!(rt; metered.spent(), 10);
+    Ok(())
+}
+
+// A block over one table, of one column, which may be indexed.
+fn block_over(
+    alloc: Global,
+    table: u32,
+    kind: ColumnType,
+    indexed: bool,
+) -> Result<Block, AllocError> {
+    let columns = Vec::from_slice(alloc, &[kind])?;
+    let mut indexes = Vec::new(alloc);
+    if indexed {
+        indexes.push(0)?;
+    }
+    let mut relations = Vec::new(alloc);
+    relations.push(Relation {
+        table,
+        columns: Sequence::from(columns),
+        filter: Sequence::from(Vec::new(alloc)),
+        indexes: Sequence::from(indexes),
+    })?;
+    Ok(Block::new(relations, Vec::new(alloc), Vec::new(alloc)))
+}
+
+#[test]
+fn a_block_fits_the_tables_that_it_names(rt: HostRuntime) -> Result<(), Fail> {
+    let alloc = rt.alloc();
+    let db = one_null(alloc)?;
+    let text = ColumnType::Varchar(20);
+    let plain = block_over(alloc, 0, text, false)?;
+    let numbers = block_over(alloc, 0, ColumnType::Integer, false)?;
+    let elsewhere = block_over(alloc, 1, text, false)?;
+    let indexed = block_over(alloc, 0, text, true)?;
+    assert!(rt; db.fits(&plain));
+    assert!(rt; !db.fits(&numbers));
+    assert!(rt; !db.fits(&elsewhere));
+    assert!(rt; !db.fits(&indexed));
     Ok(())
 }
