@@ -17,26 +17,31 @@ abbrev pub AreNotNull : List Term → Type 0
 AreNotNull [] = Unit {0}
 AreNotNull (term ∷ terms) = IsNotNull term × AreNotNull terms
 
+-- a chain has an operand
+abbrev pub HasOperand : ConditionTrees → Type 0
+HasOperand NoMore = ⊥
+HasOperand (More _ _) = Unit {0}
+
 abbrev mutual
-  -- no operand of the condition is NULL as a literal
-  pub HasNoNull : ConditionTree → Type 0
-  HasNoNull (Compare op left right) = IsNotNull left × IsNotNull right
-  HasNoNull (Between negated of low high) = IsNotNull of × IsNotNull low × IsNotNull high
-  HasNoNull (OneOf negated of terms) = IsNotNull of × AreNotNull terms
-  HasNoNull (IsNull negated column) = Unit {0}
-  HasNoNull (Not inner) = HasNoNull inner
-  HasNoNull (And parts) = HaveNoNull parts
-  HasNoNull (Or parts) = HaveNoNull parts
+  -- no literal of the condition is NULL, and each chain has an operand
+  pub IsWellFormedCondition : ConditionTree → Type 0
+  IsWellFormedCondition (Compare op left right) = IsNotNull left × IsNotNull right
+  IsWellFormedCondition (Between negated of low high) = IsNotNull of × IsNotNull low × IsNotNull high
+  IsWellFormedCondition (OneOf negated of terms) = IsNotNull of × AreNotNull terms
+  IsWellFormedCondition (IsNull negated column) = Unit {0}
+  IsWellFormedCondition (Not inner) = IsWellFormedCondition inner
+  IsWellFormedCondition (And parts) = HasOperand parts × AreWellFormedConditions parts
+  IsWellFormedCondition (Or parts) = HasOperand parts × AreWellFormedConditions parts
 
-  pub HaveNoNull : ConditionTrees → Type 0
-  HaveNoNull NoMore = Unit {0}
-  HaveNoNull (More part parts) = HasNoNull part × HaveNoNull parts
+  pub AreWellFormedConditions : ConditionTrees → Type 0
+  AreWellFormedConditions NoMore = Unit {0}
+  AreWellFormedConditions (More part parts) = IsWellFormedCondition part × AreWellFormedConditions parts
 
--- a query has a table and, where it names columns, a column; no literal of its condition is NULL
+-- a query has a table and, where it names columns, a column; its condition is well-formed
 abbrev pub IsWellFormedQuery : QueryTree → Type 0
 IsWellFormedQuery query =
     (0 < length query.from) × IfSome query.columns (λ columns. 0 < length columns)
-    × IfSome query.condition HasNoNull
+    × IfSome query.condition IsWellFormedCondition
 
 -- a new table has a column, and the name of a file is UTF-8
 abbrev pub IsWellFormed : StatementTree → Type 0
