@@ -1,5 +1,5 @@
 -- Words whose texts got new codes mean the same.
-use Rattle.std.proofs.Common.{◌≡◌, ℕ, zero, suc, ◌+◌, ◌-◌, ◌*◌, ◌<◌, ◌≤◌, List, [], ◌∷◌, ◌++◌, length, map, take, drop, get_or, set, Some, ℤ, pos, negsuc, refl, sym, ap, subst, ◌∙◌, arith, add-one, slice_get, unwrap_or, append-nil}
+use Rattle.std.proofs.Common.{◌≡◌, ℕ, zero, suc, ◌+◌, ◌*◌, ◌<◌, ◌≤◌, List, [], ◌∷◌, ◌++◌, length, map, take, drop, get_or, set, Some, ℤ, pos, negsuc, refl, sym, ap, subst, ◌∙◌, arith, add-one, slice_get, unwrap_or, append-nil}
 use Rattle.std.proofs.lemmas.List.{drop-drop, map-append, take-append-drop, length-take-le, take_at, drop_at}
 use Rattle.std.proofs.lemmas.List.Elements.{All-nil, All-cons, All-head, All-tail}
 use Rattle.std.proofs.lemmas.Slice.{drop-put_mid}

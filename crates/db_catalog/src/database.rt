@@ -1,7 +1,7 @@
 // The database: tables under their names, and the one dictionary of their texts. It relies on the heap for rows and on
 // the batch for their words, and never drops or changes a row.
 ghost use Rattle.std.specs.Prelude.{◌≡◌, ◌+◌, ◌*◌, ◌<◌, ◌≤◌, ◌^◌, [], ◌∷◌, ◌++◌, length, map, All};
-ghost use Rattle.std.specs.Prelude.{OnOk, OnErr, IfOk, vec_capacity};
+ghost use Rattle.std.specs.Prelude.{OnOk, OnErr, IfOk, nat_eq, vec_capacity};
 ghost use Rattle.std.specs.List.{IsDistinct};
 ghost use Rattle.std.specs.Str.{bytes_eq};
 ghost use Rattle.sql_values.specs.Limits.{max_tables, max_columns, max_rows};
@@ -295,10 +295,13 @@ impl Database {
         self.tables[table as usize].heap.rows()
     }
 
-    /// The numbers of a table's columns that are indexed, from 0. So far no column is.
+    /// The numbers of a table's columns that are indexed, from 0, each once. So far no column is.
     pub fn indexes(&self, table: u32) -> &[u8]
         requires { table < length self.now.tables }
-        ensures { result.now ≡ (table_at self.now table).indexed }
+        ensures indexed { result.now ≡ (table_at self.now table).indexed }
+        ensures there { All (λ column.
+            column < length (table_at self.now table).columns) result.now }
+        ensures different { IsDistinct nat_eq result.now }
     {
         prove!((table as usize) < self.tables.len());
         &[]

@@ -1,4 +1,4 @@
-use Rattle.std.proofs.Common.{◌≡◌, ◌∙◌, ◌+◌, ◌++◌, ◌<◌, [], sym, ap, subst, length, take, drop, None, Err, arith}
+use Rattle.std.proofs.Common.{◌≡◌, ◌∙◌, ◌++◌, ◌<◌, [], sym, ap, subst, length, take, drop, None, Err, arith}
 use Rattle.std.proofs.lemmas.List.{length-map, take_at}
 use Rattle.sql_values.specs.Dictionary.{with_texts, Begins}
 use Rattle.sql_values.specs.Stored.{row_of, texts_in}

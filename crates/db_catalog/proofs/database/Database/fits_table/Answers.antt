@@ -8,7 +8,7 @@ returns-then-hold_kinds c = (
     columns =
         sym c.as_slice.ensures ∙ c.hold_kinds.ensures.0 c.if-hold_kinds.true
         ∙ ap (map (λ column. column.kind)) c.columns.ensures.columns;
-    indexes = rw (sym c.indexes.ensures, sym c.as_slice-then-hold_kinds.ensures) (c.are_indexed.ensures.0 indexed);
+    indexes = rw (sym c.indexes.ensures.indexed, sym c.as_slice-then-hold_kinds.ensures) (c.are_indexed.ensures.0 indexed);
   },
-  λ fits. c.are_indexed.ensures.1 (rw (c.indexes.ensures, c.as_slice-then-hold_kinds.ensures) fits.indexes),
+  λ fits. c.are_indexed.ensures.1 (rw (c.indexes.ensures.indexed, c.as_slice-then-hold_kinds.ensures) fits.indexes),
 )
