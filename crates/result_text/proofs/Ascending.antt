@@ -1,6 +1,6 @@
 -- Lists that ascend: which elements they have, and how often, determines them.
-use Rattle.std.proofs.Common.{All, ◌≡◌, ℕ, zero, suc, ◌+◌, ◌≤◌, ◌<◌, Bool, true, false, cond, List, [], ◌∷◌, length, slice_index_or, sum_by, refl, sym, ap, ◌∙◌, arith}
-use Rattle.std.proofs.lemmas.List.Elements.{All-cons, All-head, All-tail}
+use Rattle.std.proofs.Common.{All, ◌≡◌, ℕ, zero, suc, ◌+◌, ◌≤◌, ◌<◌, Bool, true, false, cond, List, [], ◌∷◌, length, map, slice_index_or, sum_by, refl, sym, ap, ◌∙◌, arith}
+use Rattle.std.proofs.lemmas.List.Elements.{All-nil, All-cons, All-head, All-tail}
 use Rattle.std.proofs.lemmas.List.Sums.{sum_by-cons}
 use Rattle.std.proofs.lemmas.List.Sorted.{ranks_by, sorted_far}
 use Rattle.std.specs.List.Sorted.{IsSorted}
@@ -87,3 +87,14 @@ module _ {K : Type 0} (R : K → K → Ordering) where
     IsSorted-from_ascends (x ∷ xs) up (suc k) d low inside =
         let next : suc k + 1 ≡ suc (k + 1) = omega arith in
         rw next (IsSorted-from_ascends xs up.1 k d (omega arith) (omega arith))
+
+-- what stands for elements ascends as they do, where each two of them compare alike
+module _ {K L : Type 0} (R : K → K → Ordering) (S : L → L → Ordering) (g : K → L) (P : K → Type 0) (keeps : (x y : K) → P x → P y → IsUpto R x y → IsUpto S (g x) (g y)) where
+  All-upto : (x : K) (xs : List K) → P x → All P xs → All (IsUpto R x) xs → All (IsUpto S (g x)) (map g xs)
+  All-upto x [] one each least = All-nil (IsUpto S (g x))
+  All-upto x (y ∷ xs) one each least =
+      All-cons (IsUpto S (g x)) (g y) (map g xs) (keeps x y one (All-head P y xs each) (All-head (IsUpto R x) y xs least)) (All-upto x xs one (All-tail P y xs each) (All-tail (IsUpto R x) y xs least))
+
+  pub Ascends-map : (xs : List K) → Ascends R xs → All P xs → Ascends S (map g xs)
+  Ascends-map [] up each = tt
+  Ascends-map (x ∷ xs) up each = (All-upto x xs (All-head P x xs each) (All-tail P x xs each) up.0, Ascends-map xs up.1 (All-tail P x xs each))

@@ -1,5 +1,5 @@
 -- Texts that ascend, and what one more at the end leaves of them.
-use Rattle.std.proofs.Common.{Bool, ◌≡◌, ◌≢◌, ℕ, zero, suc, ℤ, pos, negsuc, ◌+◌, ◌-◌, ◌<◌, false, true, List, [], ◌∷◌, ◌++◌, length, get_or, take, slice_get, Option, Some, None, IfSome, inl, inr, refl, sym, ap, ◌∙◌, subst, arith, length-append}
+use Rattle.std.proofs.Common.{Bool, ◌≡◌, ◌≢◌, ℕ, zero, suc, ℤ, pos, negsuc, ◌+◌, ◌-◌, ◌<◌, false, true, List, [], ◌∷◌, ◌++◌, length, get_or, take, slice_get, Option, Some, None, IfSome, inl, inr, refl, sym, ap, ◌∙◌, subst, arith, append_assoc, length-append}
 use Rattle.std.proofs.lemmas.Bool.{cases_lt}
 use Rattle.std.proofs.lemmas.Cmp.{nat_list_cmp_total}
 use Rattle.std.proofs.lemmas.List.{get_or_append_left, get_or-append_right, take_more}
@@ -36,6 +36,10 @@ slice_get-append (y ∷ xs) more (suc n) x is = slice_get-append xs more n x is
 pub text_of-Begins : (old new : List (List ℕ)) → Begins old new → (place : ℤ) (text : List ℕ) → text_of old place ≡ Some text → text_of new place ≡ Some text
 text_of-Begins old new begins (pos n) text is = subst (λ texts. slice_get texts n ≡ Some text) (sym begins.1) (slice_get-append old begins.0 n text is)
 text_of-Begins old new begins (negsuc n) text is = is
+
+-- also where all of them stand behind others
+pub begins_behind : (known old new : List (List ℕ)) → Begins old new → Begins (known ++ old) (known ++ new)
+begins_behind known old new begins = (begins.0, ap (λ texts. known ++ texts) begins.1 ∙ sym (append_assoc known old begins.0))
 
 same_text : (a b : List ℕ) → slice_cmp nat_cmp a b ≡ Equal → a ≡ b
 same_text a b e = (bytes_eq-Decides a b).0 (sym (is_eq-slice_cmp a b) ∙ ap is_eq e)

@@ -1,7 +1,8 @@
 -- The codes of rows' texts, and the words that stand for the same values over sorted texts.
-use Rattle.std.proofs.Common.{All, Contains, ◌≡◌, ◌≢◌, ℕ, zero, suc, ℤ, pos, negsuc, ◌+◌, ◌<◌, true, false, true≢false, cond, List, [], ◌∷◌, ◌++◌, length, get_or, map, flat_map, take, slice_get, option_map, unwrap_or, Some, None, Ok, Err, Result, IsSome, IfSome, Option, IsSorted, MatchResult, inl, inr, refl, sym, ap, ◌∙◌, subst, arith, append_assoc, append-nil, add-one}
+use Rattle.std.proofs.Common.{All, Contains, ◌≡◌, ◌≢◌, ℕ, zero, suc, ℤ, pos, negsuc, ◌+◌, ◌+ℤ◌, ◌≤ℤ◌, ◌<◌, true, false, true≢false, cond, List, [], ◌∷◌, ◌++◌, length, get_or, map, flat_map, take, slice_get, option_map, unwrap_or, Some, None, Ok, Err, Result, IsSome, IfSome, Option, IsSorted, MatchResult, inl, inr, refl, sym, ap, ◌∙◌, subst, arith, append_assoc, append-nil, add-one}
 use Rattle.std.proofs.lemmas.Bool.{cases_lt}
 use Rattle.std.proofs.lemmas.Bool.Decides.{Decides-int_eq}
+use Rattle.std.proofs.lemmas.Int.{ints}
 use Rattle.std.proofs.lemmas.List.{get_or_default, get_or-map, length-map}
 use Rattle.std.proofs.lemmas.List.Elements.{All-nil, All-cons, All-head, All-tail, All-append, All-contains, Contains-append_left, Contains-append_right}
 use Rattle.std.proofs.lemmas.List.Sorted.{searchable_from_sorted}
@@ -22,10 +23,12 @@ use Rattle.sql_values.specs.Words.{null_word, value_of, meaning_of, IsTextWord, 
 use Rattle.result_text.specs.declared.places.CodedText.{CodedText}
 use Rattle.result_text.specs.declared.places.Placed.{Placed}
 use Rattle.result_text.specs.Lists.{last_of}
-use Rattle.result_text.specs.Placing.{text_code, text_codes, IsCodedText, HasPlace, IsPlaced, placed_cmp, codes_of, HavePlaces, IsPlacedWord, IsPlacedRow}
+use Rattle.result_text.specs.Placing.{text_code, text_codes, IsCodedText, HasPlace, IsPlaced, placed_cmp, codes_of, HavePlaces, IsPlacedWord, IsPlacedRow, ArePlaced}
+use Rattle.result_text.specs.Ranks.{IsRankedWord}
 use Rattle.result_text.specs.Rows.{WordRow, values_of, AreWordsOf}
 use Rattle.result_text.proofs.Ascent.{last_of-take}
 use Rattle.result_text.proofs.Ranks.{value_cases}
+use Rattle.result_text.proofs.Zips.{length-AllZip}
 
 -- the codes of one column more
 pub text_codes-more : (kinds : List ColumnType) (row : WordRow) (i : ℕ) (kind : ColumnType) (word : ℤ) → i < length kinds → i < length row →
@@ -96,21 +99,32 @@ HavePlaces-rows placed kinds (row ∷ rows) each =
     (HavePlaces-rows placed kinds rows (λ code there. each code (Contains-append_right (text_codes kinds row) (flat_map (text_codes kinds) rows) code there)))
 
 -- the codes that have places are those of the texts
-pub codes_of-placed : (texts : List (List ℕ)) (coded : List CodedText) (placed : List Placed) → AllZip (HasPlace texts) coded placed → codes_of placed ≡ map (λ one. one.code) coded
-codes_of-placed texts [] [] all = refl
-codes_of-placed texts [] (q ∷ placed) all = absurd all
-codes_of-placed texts (one ∷ coded) [] all = absurd all
-codes_of-placed texts (one ∷ coded) (q ∷ placed) all = λ i. all.0.0 i ∷ codes_of-placed texts coded placed all.1 i
+pub codes_of-placed : (known sorted : List (List ℕ)) (coded : List CodedText) (placed : List Placed) → AllZip (HasPlace known sorted) coded placed → codes_of placed ≡ map (λ one. one.code) coded
+codes_of-placed known sorted [] [] all = refl
+codes_of-placed known sorted [] (q ∷ placed) all = absurd all
+codes_of-placed known sorted (one ∷ coded) [] all = absurd all
+codes_of-placed known sorted (one ∷ coded) (q ∷ placed) all = λ i. all.0.0 i ∷ codes_of-placed known sorted coded placed all.1 i
 
 -- and in its place each has the text that it has in the dictionary
-pub IsPlaced-placed : (texts sorted : List (List ℕ)) (coded : List CodedText) (placed : List Placed) → All (IsCodedText texts) coded → AllZip (HasPlace sorted) coded placed → All (IsPlaced texts sorted) placed
-IsPlaced-placed texts sorted [] [] each all = All-nil (IsPlaced texts sorted)
-IsPlaced-placed texts sorted [] (q ∷ placed) each all = absurd all
-IsPlaced-placed texts sorted (one ∷ coded) [] each all = absurd all
-IsPlaced-placed texts sorted (one ∷ coded) (q ∷ placed) each all =
-    All-cons (IsPlaced texts sorted) q placed
-    (all.0.1 ∙ sym (All-head (IsCodedText texts) one coded each) ∙ ap (text_of texts) (sym all.0.0))
-    (IsPlaced-placed texts sorted coded placed (All-tail (IsCodedText texts) one coded each) all.1)
+pub IsPlaced-placed : (known sorted : List (List ℕ)) (coded : List CodedText) (placed : List Placed) → All (IsCodedText known) coded → AllZip (HasPlace known sorted) coded placed → All (IsPlaced known sorted) placed
+IsPlaced-placed known sorted [] [] each all = All-nil (IsPlaced known sorted)
+IsPlaced-placed known sorted [] (q ∷ placed) each all = absurd all
+IsPlaced-placed known sorted (one ∷ coded) [] each all = absurd all
+IsPlaced-placed known sorted (one ∷ coded) (q ∷ placed) each all =
+    All-cons (IsPlaced known sorted) q placed
+    (all.0.1 ∙ sym (All-head (IsCodedText known) one coded each) ∙ ap (text_of known) (sym all.0.0), all.0.2)
+    (IsPlaced-placed known sorted coded placed (All-tail (IsCodedText known) one coded each) all.1)
+
+-- a place among some texts, counted behind others
+pub text_of-behind : (known sorted : List (List ℕ)) (place : ℤ) (text : List ℕ) → text_of sorted place ≡ Some text →
+    (text_of (known ++ sorted) (pos (length known) +ℤ place) ≡ Some text) × (pos (length known) ≤ℤ (pos (length known) +ℤ place))
+text_of-behind known sorted (pos n) text is = (behind known (length known + n) refl, omega (arith, ints))
+  where
+    behind : (known : List (List ℕ)) (place : ℕ) → place ≡ length known + n → slice_get (known ++ sorted) place ≡ Some text
+    behind [] place same = let one : n ≡ place = omega arith in subst (λ k. slice_get sorted k ≡ Some text) one is
+    behind (a ∷ known) zero same = absurd (omega arith)
+    behind (a ∷ known) (suc place) same = behind known place (omega arith)
+text_of-behind known sorted (negsuc n) text is = absurd (cc is)
 
 turned : (r : Ordering) → is_gt r ≡ is_lt (ordering_reverse r)
 turned Less = refl
@@ -176,35 +190,33 @@ IsPlacedRow-more placed (k ∷ kinds) (w ∷ row) (first ∷ new) (suc i) kind w
     (is.0, IsPlacedRow-more placed kinds row new i kind word last (omega arith) (omega arith) is.1 one)
 
 -- the values of a word, and of the word that it becomes
-module _ (texts sorted : List (List ℕ)) (placed : List Placed) (each : All (IsPlaced texts sorted) placed) where
-  text_placed : (most : ℕ) (word new : ℤ) → IsTextWord texts word → word ≢ null_word → Contains placed (record { code = word; place = new }) →
-      (value_of sorted (Varchar most) new ≡ meaning_of texts (Varchar most) word) × IsTextWord sorted new
+module _ (known sorted : List (List ℕ)) (placed : List Placed) (each : All (IsPlaced known sorted) placed) where
+  text_placed : (most : ℕ) (word new : ℤ) → IsTextWord known word → word ≢ null_word → Contains placed (record { code = word; place = new }) →
+      (value_of (known ++ sorted) (Varchar most) new ≡ meaning_of known (Varchar most) word) × IsRankedWord known sorted (Varchar most) new
   text_placed most word new is other there =
-      let same : text_of sorted new ≡ text_of texts word = All-contains (IsPlaced texts sorted) placed (record { code = word; place = new }) each there in
-      by new same
+      let told = All-contains (IsPlaced known sorted) placed (record { code = word; place = new }) each there in
+      by new told.0 told.1
     where
-      known : IsSome (text_of texts word)
-      known = IsSome-text_of texts word is other
-
-      by : (new : ℤ) → text_of sorted new ≡ text_of texts word → (value_of sorted (Varchar most) new ≡ meaning_of texts (Varchar most) word) × IsTextWord sorted new
-      by (pos i) same = (ap (λ o. value.Text (unwrap_or o [])) same, inside (text_of sorted (pos i)) refl)
+      by : (new : ℤ) → text_of (known ++ sorted) new ≡ text_of known word → pos (length known) ≤ℤ new →
+          (value_of (known ++ sorted) (Varchar most) new ≡ meaning_of known (Varchar most) word) × IsRankedWord known sorted (Varchar most) new
+      by (pos i) same low = (ap (λ o. value.Text (unwrap_or o [])) same, (omega (arith, ints), inside (text_of (known ++ sorted) (pos i)) refl))
         where
-          inside : (o : Option (List ℕ)) → slice_get sorted i ≡ o → i < length sorted
-          inside None none = absurd (true≢false (sym (subst IsSome (sym same ∙ none) known)))
-          inside (Some text) is' = slice_get_within sorted i text is'
-      by (negsuc n) same = absurd (true≢false (sym (subst IsSome (sym same) known)))
+          inside : (o : Option (List ℕ)) → slice_get (known ++ sorted) i ≡ o → i < length (known ++ sorted)
+          inside None none = absurd (true≢false (sym (subst IsSome (sym same ∙ none) (IsSome-text_of known word is other))))
+          inside (Some text) is' = slice_get_within (known ++ sorted) i text is'
+      by (negsuc n) same low = absurd (omega (arith, ints))
 
-  word_placed : (kind : ColumnType) (word new : ℤ) → IsWord texts kind word → IsPlacedWord placed kind word new →
-      (value_of sorted kind new ≡ value_of texts kind word) × IsWord sorted kind new
-  word_placed Integer word new is becomes = (ap (value_of sorted Integer) becomes, tt)
+  word_placed : (kind : ColumnType) (word new : ℤ) → IsWord known kind word → IsPlacedWord placed kind word new →
+      (value_of (known ++ sorted) kind new ≡ value_of known kind word) × IsRankedWord known sorted kind new
+  word_placed Integer word new is becomes = (ap (value_of (known ++ sorted) Integer) becomes, tt)
   word_placed (Varchar most) word new is becomes =
-      value_cases (λ v. (value_of sorted (Varchar most) new ≡ v) × IsTextWord sorted new) texts (Varchar most) word
-      (λ null. subst (λ w. (value_of sorted (Varchar most) w ≡ value.Null) × IsTextWord sorted w) (sym (becomes.0 null)) (refl, refl))
+      value_cases (λ v. (value_of (known ++ sorted) (Varchar most) new ≡ v) × IsRankedWord known sorted (Varchar most) new) known (Varchar most) word
+      (λ null. subst (λ w. (value_of (known ++ sorted) (Varchar most) w ≡ value.Null) × IsRankedWord known sorted (Varchar most) w) (sym (becomes.0 null)) (refl, refl))
       (λ other. text_placed most word new is other (becomes.1 other))
 
-  row_placed : (kinds : List ColumnType) (row new : WordRow) → AreWordsOf texts kinds row → IsPlacedRow placed kinds row new →
-      (values_of sorted kinds new ≡ values_of texts kinds row) × AreWordsOf sorted kinds new
-  row_placed [] [] new are becomes = (refl, subst (AreWordsOf sorted []) (sym becomes) tt)
+  row_placed : (kinds : List ColumnType) (row new : WordRow) → AreWordsOf known kinds row → IsPlacedRow placed kinds row new →
+      (values_of (known ++ sorted) kinds new ≡ values_of known kinds row) × AllZip (IsRankedWord known sorted) kinds new
+  row_placed [] [] new are becomes = (refl, subst (AllZip (IsRankedWord known sorted) []) (sym becomes) tt)
   row_placed [] (word ∷ row) new are becomes = absurd are
   row_placed (kind ∷ kinds) [] new are becomes = absurd are
   row_placed (kind ∷ kinds) (word ∷ row) [] are becomes = absurd becomes
@@ -213,31 +225,18 @@ module _ (texts sorted : List (List ℕ)) (placed : List Placed) (each : All (Is
       let rest = row_placed kinds row new are.1 becomes.1 in
       ((λ i. one.0 i ∷ rest.0 i), (one.1, rest.1))
 
-  -- rows that become others stand for the same values
-  pub rows_placed : (kinds : List ColumnType) (rows new : List WordRow) → All (AreWordsOf texts kinds) rows → AllZip (IsPlacedRow placed kinds) rows new →
-      (map (values_of sorted kinds) new ≡ map (values_of texts kinds) rows) × All (AreWordsOf sorted kinds) new
-  rows_placed kinds [] [] are become = (refl, All-nil (AreWordsOf sorted kinds))
+  -- rows become others that stand for the same values
+  pub rows_placed : (kinds : List ColumnType) (rows new : List WordRow) → All (AreWordsOf known kinds) rows → AllZip (IsPlacedRow placed kinds) rows new → ArePlaced known sorted kinds rows new
+  rows_placed kinds [] [] are become = record { long = refl; values = refl; words = All-nil (λ row. AllZip (IsRankedWord known sorted) kinds row) }
   rows_placed kinds [] (first ∷ new) are become = absurd become
   rows_placed kinds (row ∷ rows) [] are become = absurd become
   rows_placed kinds (row ∷ rows) (first ∷ new) are become =
-      let one = row_placed kinds row first (All-head (AreWordsOf texts kinds) row rows are) become.0 in
-      let rest = rows_placed kinds rows new (All-tail (AreWordsOf texts kinds) row rows are) become.1 in
-      ((λ i. one.0 i ∷ rest.0 i), All-cons (AreWordsOf sorted kinds) first new one.1 rest.1)
-
--- a row and what it becomes are as long as each other
-pub length-IsPlacedRow : (placed : List Placed) (kinds : List ColumnType) (row new : WordRow) → length row ≡ length kinds → IsPlacedRow placed kinds row new → length new ≡ length row
-length-IsPlacedRow placed [] [] new long becomes = ap length becomes
-length-IsPlacedRow placed [] (word ∷ row) new long becomes = absurd (omega arith)
-length-IsPlacedRow placed (kind ∷ kinds) [] new long becomes = ap length becomes
-length-IsPlacedRow placed (kind ∷ kinds) (word ∷ row) [] long becomes = absurd becomes
-length-IsPlacedRow placed (kind ∷ kinds) (word ∷ row) (first ∷ new) long becomes = omega (arith, length-IsPlacedRow placed kinds row new (omega arith) becomes.1)
-
-pub lengths-IsPlacedRow : (placed : List Placed) (kinds : List ColumnType) (rows new : List WordRow) → All (λ row. length row ≡ length kinds) rows → AllZip (IsPlacedRow placed kinds) rows new → map length new ≡ map length rows
-lengths-IsPlacedRow placed kinds [] [] long become = refl
-lengths-IsPlacedRow placed kinds [] (first ∷ new) long become = absurd become
-lengths-IsPlacedRow placed kinds (row ∷ rows) [] long become = absurd become
-lengths-IsPlacedRow placed kinds (row ∷ rows) (first ∷ new) long become =
-    let wide = λ (row : WordRow). length row ≡ length kinds in
-    let one = length-IsPlacedRow placed kinds row first (All-head wide row rows long) become.0 in
-    let rest = lengths-IsPlacedRow placed kinds rows new (All-tail wide row rows long) become.1 in
-    λ i. one i ∷ rest i
+      let here = All-head (AreWordsOf known kinds) row rows are in
+      let one = row_placed kinds row first here become.0 in
+      let rest = rows_placed kinds rows new (All-tail (AreWordsOf known kinds) row rows are) become.1 in
+      let long : length first ≡ length row = sym (length-AllZip (IsRankedWord known sorted) kinds first one.1) ∙ length-AllZip (IsWord known) kinds row here in
+      record {
+        long = λ i. long i ∷ rest.long i;
+        values = λ i. one.0 i ∷ rest.values i;
+        words = All-cons (λ row. AllZip (IsRankedWord known sorted) kinds row) first new one.1 rest.words;
+      }

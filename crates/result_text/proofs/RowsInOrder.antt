@@ -6,17 +6,20 @@ use Rattle.std.proofs.lemmas.List.Sorted.{sum_by-IsPermutation, IsPermutation-re
 use Rattle.std.specs.List.Sorted.{IsPermutation, IsSorted}
 use Rattle.std.specs.Cmp.{IsTotalOrder, upto}
 use Rattle.std.specs.Cmp.Lexicographic.{lists_total}
-use Rattle.std.specs.FinMap.{slice_cmp-IsAntisymmetric}
+use Rattle.std.specs.FinMap.{IsAntisymmetric, slice_cmp-IsAntisymmetric}
 use Rattle.std.specs.Ordering.{is_gt, ordering_reverse}
 use Rattle.std.specs.declared.cmp.Ordering.{Ordering}
 use Rattle.std.specs.declared.cmp.Ordering.TheVariants.{Less, Equal, Greater}
 use Rattle.sql_values.specs.Stored.{ValueRow}
 use Rattle.sql_values.proofs.ValueOrder.{total, same}
 use Rattle.result_text.specs.Order.{row_cmp, put_in_order, in_order}
-use Rattle.result_text.proofs.Ascending.{IsUpto, Ascends, Ascends-from_sort, IsSorted-from_ascends, ascending_determined}
+use Rattle.result_text.proofs.Ascending.{IsUpto, Ascends, IsSorted-from_ascends, ascending_determined}
 
-rows_total : IsTotalOrder row_cmp
+pub rows_total : IsTotalOrder row_cmp
 rows_total = lists_total total
+
+pub rows_antisymmetric : IsAntisymmetric row_cmp
+rows_antisymmetric = slice_cmp-IsAntisymmetric (λ a b e. (same a b).0 e)
 
 -- a row that is put into its place stands after the first one or before it
 put_cases : (P : List ValueRow → Type 0) (row first : ValueRow) (rest : List ValueRow) →
@@ -34,7 +37,7 @@ sum_by-put_in_order f row (first ∷ rest) =
     (λ _. omega (arith, sum_by-cons f first (put_in_order row rest), sum_by-cons f first rest, sum_by-put_in_order f row rest))
     (λ _. sum_by-cons f row (first ∷ rest))
 
-sum_by-in_order : (f : ValueRow → ℕ) (rows : List ValueRow) → sum_by f (in_order rows) ≡ sum_by f rows
+pub sum_by-in_order : (f : ValueRow → ℕ) (rows : List ValueRow) → sum_by f (in_order rows) ≡ sum_by f rows
 sum_by-in_order f [] = refl
 sum_by-in_order f (row ∷ rows) = omega (arith, sum_by-put_in_order f row (in_order rows), sum_by-cons f row rows, sum_by-in_order f rows)
 
@@ -61,16 +64,19 @@ Ascends-put_in_order row (first ∷ rest) up =
     let later : All (IsUpto row_cmp row) rest = All-weaker (IsUpto row_cmp first) (IsUpto row_cmp row) (λ other. upto rows_total row first other here) rest up.0 in
     (All-cons (IsUpto row_cmp row) first rest here later, up))
 
-Ascends-in_order : (rows : List ValueRow) → Ascends row_cmp (in_order rows)
+pub Ascends-in_order : (rows : List ValueRow) → Ascends row_cmp (in_order rows)
 Ascends-in_order [] = tt
 Ascends-in_order (row ∷ rows) = Ascends-put_in_order row (in_order rows) (Ascends-in_order rows)
 
--- what a sort leaves are the rows in order
-pub in_order-from_sort : (rows sorted : List ValueRow) → IsPermutation rows sorted → IsSorted row_cmp sorted → sorted ≡ in_order rows
-in_order-from_sort rows sorted moved up =
-    ascending_determined row_cmp rows_total (slice_cmp-IsAntisymmetric (λ a b e. (same a b).0 e)) sorted (in_order rows)
-    (Ascends-from_sort row_cmp rows_total sorted up) (Ascends-in_order rows)
-    (λ f. sum_by-in_order f rows ∙ sym (sum_by-IsPermutation f rows sorted moved))
+-- rows that ascend, of which each stands there as often as among others, are those in order
+pub in_order-from_ascends : (rows sorted : List ValueRow) → Ascends row_cmp sorted → ((f : ValueRow → ℕ) → sum_by f sorted ≡ sum_by f rows) → sorted ≡ in_order rows
+in_order-from_ascends rows sorted up each =
+    ascending_determined row_cmp rows_total rows_antisymmetric sorted (in_order rows) up (Ascends-in_order rows) (λ f. sum_by-in_order f rows ∙ sym (each f))
+
+-- the order doesn't depend on how rows stood before
+pub in_order-permutation : (rows others : List ValueRow) → IsPermutation rows others → in_order others ≡ in_order rows
+in_order-permutation rows others moved =
+    in_order-from_ascends rows (in_order others) (Ascends-in_order others) (λ f. sum_by-in_order f others ∙ sum_by-IsPermutation f rows others moved)
 
 IsPermutation-put_in_order : (row : ValueRow) (rows : List ValueRow) → IsPermutation (row ∷ rows) (put_in_order row rows)
 IsPermutation-put_in_order row [] = IsPermutation-refl (row ∷ [])

@@ -7,3 +7,5 @@ pub mod Ranks
 pub mod Lists
 pub mod Placing
 pub mod FirstBytes
+pub mod Ties
+pub mod Sorted

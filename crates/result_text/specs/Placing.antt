@@ -1,12 +1,14 @@
 -- The texts that stand in rows, and the places of their codes among these texts in ascending order.
-use Rattle.std.specs.Prelude.{◌≡◌, ◌≢◌, ◌++◌, ℕ, ℤ, List, [], ◌∷◌, Contains, Some, map, if◌then◌else◌}
+use Rattle.std.specs.Prelude.{◌≡◌, ◌≢◌, ◌++◌, ◌≤ℤ◌, ℕ, ℤ, pos, List, [], ◌∷◌, All, Contains, Some, length, map, if◌then◌else◌}
+use Rattle.std.specs.List.{AllZip}
 use Rattle.std.specs.declared.cmp.Ordering.{Ordering}
 use Rattle.std.specs.Ordering.{int_cmp, int_eq, ordering_then}
 use Rattle.sql_values.specs.declared.column.ColumnType.{ColumnType}
 use Rattle.sql_values.specs.declared.column.ColumnType.TheVariants.{Integer, Varchar}
 use Rattle.sql_values.specs.Dictionary.{text_of}
 use Rattle.sql_values.specs.Words.{null_word}
-use Rattle.result_text.specs.Rows.{WordRow}
+use Rattle.result_text.specs.Ranks.{IsRankedWord}
+use Rattle.result_text.specs.Rows.{WordRow, values_of}
 use Rattle.result_text.specs.declared.places.CodedText.{CodedText}
 use Rattle.result_text.specs.declared.places.Placed.{Placed}
 
@@ -25,13 +27,13 @@ text_codes (kind ∷ kinds) (word ∷ words) = text_code kind word ++ text_codes
 abbrev pub IsCodedText : List (List ℕ) → CodedText → Type 0
 IsCodedText texts coded = text_of texts coded.code ≡ Some coded.text
 
--- the code is the same, and the text stands in this place
-abbrev pub HasPlace : List (List ℕ) → CodedText → Placed → Type 0
-HasPlace texts coded placed = (placed.code ≡ coded.code) × (text_of texts placed.place ≡ Some coded.text)
+-- the code is the same, and the text stands in this place behind the known ones
+abbrev pub HasPlace : List (List ℕ) → List (List ℕ) → CodedText → Placed → Type 0
+HasPlace known sorted coded placed = (placed.code ≡ coded.code) × (text_of (known ++ sorted) placed.place ≡ Some coded.text) × (pos (length known) ≤ℤ placed.place)
 
--- the code's text in one list of texts stands in this place of another
+-- the text of a code stands once more in this place behind the known ones
 abbrev pub IsPlaced : List (List ℕ) → List (List ℕ) → Placed → Type 0
-IsPlaced texts sorted placed = text_of sorted placed.place ≡ text_of texts placed.code
+IsPlaced known sorted placed = (text_of (known ++ sorted) placed.place ≡ text_of known placed.code) × (pos (length known) ≤ℤ placed.place)
 
 -- how two of them compare
 abbrev pub placed_cmp : Placed → Placed → Ordering
@@ -55,3 +57,9 @@ IsPlacedRow placed [] row new = new ≡ []
 IsPlacedRow placed (kind ∷ kinds) [] new = new ≡ []
 IsPlacedRow placed (kind ∷ kinds) (word ∷ row) [] = ⊥
 IsPlacedRow placed (kind ∷ kinds) (word ∷ row) (first ∷ new) = IsPlacedWord placed kind word first × IsPlacedRow placed kinds row new
+
+-- rows as long as others, which stand for the same values by texts behind the known ones alone
+pub record ArePlaced (known sorted : List (List ℕ)) (kinds : List ColumnType) (rows new : List WordRow) : Type 0 where
+  pub long : map length new ≡ map length rows
+  pub values : map (values_of (known ++ sorted) kinds) new ≡ map (values_of known kinds) rows
+  pub words : All (λ row. AllZip (IsRankedWord known sorted) kinds row) new

@@ -4,14 +4,15 @@
 //! It never copies a row that the order of its numbers decides, nor compares two texts where their places will do.
 #![tactic(auto)]
 
-mod decide;
 mod places;
 mod print;
+mod ranked;
 mod row;
 mod short_text;
 mod sort;
 mod table;
 mod texts;
+mod ties;
 
 pub use row::LentRow;
 pub use table::{rows_in_order, table_text};

@@ -1,5 +1,5 @@
-// The texts that stand in rows, in ascending order, and the place there of each of their codes. It looks at no other text
-// of the dictionary, which may have many more.
+// The texts that stand in rows, in ascending order behind those of the dictionary, and the place there of each of their
+// codes. It looks at no other text of the dictionary, which may have many more.
 ghost use Rattle.std.specs.Prelude.{◌≡◌, ◌++◌, false, ℤ, List, All, Contains, IfOk, IsSome, IsSorted, OnOk, flat_map, length, map};
 ghost use Rattle.std.specs.List.{AllZip};
 ghost use Rattle.std.specs.Cmp.Lexicographic.{slice_cmp};
@@ -10,6 +10,7 @@ ghost use Rattle.result_text.specs.Ranks.{AreAscending};
 ghost use Rattle.result_text.specs.Rows.{WordRow, AreWordsOf, words_of};
 
 use crate::row::LentRow;
+use crate::ranked::RankedTexts;
 use crate::short_text::{ShortText, SortedTexts};
 use sql_values::{ColumnType, NULL_WORD, Texts};
 use std::alloc::{AllocError, Global};
@@ -28,11 +29,18 @@ pub(crate) struct Placed {
     place: i64,
 }
 
-/// Texts in ascending order, and the places of codes there, sorted by code.
+/// Texts in ascending order behind others, and the places of codes there, sorted by code.
 #[derive(Drop)]
 pub(crate) struct Places<'a> {
-    pub(crate) texts: SortedTexts<'a>,
+    pub(crate) texts: RankedTexts<'a>,
     pub(crate) placed: Vec<Placed>,
+}
+
+/// Rows one after the other, in which the word of a text is its place among texts that ascend behind others.
+#[derive(Drop)]
+pub(crate) struct PlacedRows<'a> {
+    pub(crate) texts: RankedTexts<'a>,
+    pub(crate) words: Vec<i64>,
 }
 
 // Adds the code of a word's text, if it stands for one.
@@ -95,37 +103,48 @@ fn coded_texts<'a>(
     Ok(coded)
 }
 
-// The place of each code, where texts come in ascending order.
-fn place_all<'a>(alloc: Global, coded: &[CodedText<'a>]) -> Result<Places<'a>, AllocError>
+// The place of each code behind the known texts, where texts come in ascending order.
+fn place_all<'a>(
+    alloc: Global,
+    known: &'a Texts,
+    coded: &[CodedText<'a>],
+) -> Result<Places<'a>, AllocError>
     requires { IsSorted (λ a b. slice_cmp nat_cmp a.text b.text) coded.now }
-    ensures ascending { IfOk result (λ places. AreAscending places.texts) }
+    ensures known { IfOk result (λ places. places.texts.known.now ≡ known.now) }
+    ensures ascending { IfOk result (λ places. AreAscending places.texts.sorted) }
     ensures placed { IfOk result (λ places.
-        AllZip (spec.HasPlace places.texts) coded.now places.placed.items) }
+        AllZip (spec.HasPlace known.now places.texts.sorted) coded.now places.placed.items) }
 {
-    let mut texts = SortedTexts::with_capacity(alloc, coded.len())?;
+    let count = known.len() as i64;
+    let mut sorted = SortedTexts::with_capacity(alloc, coded.len())?;
     let mut placed = Vec::with_capacity(alloc, coded.len())?;
     for one in coded {
-        let place = texts.place_of_last(ShortText::new(one.text.bytes()))?;
+        let place = sorted.place_of_last(ShortText::new(one.text.bytes()))?;
+        let Some(place) = count.checked_add(place) else {
+            return Err(AllocError);
+        };
         placed.push(Placed {
             code: one.code,
             place,
         })?;
     }
+    let texts = RankedTexts { known, sorted };
     Ok(Places { texts, placed })
 }
 
-/// The texts that stand in rows, and the place of each of their codes.
-pub(crate) fn places_in<'a>(
+// The texts that stand in rows, and the place of each of their codes.
+fn places_in<'a>(
     alloc: Global,
     texts: &'a Texts,
     kinds: &[ColumnType],
     rows: &[LentRow<'_>],
 ) -> Result<Places<'a>, AllocError>
     requires { All (AreWordsOf texts.now kinds.now) rows.now }
-    ensures ascending { IfOk result (λ places. AreAscending places.texts) }
+    ensures known { IfOk result (λ places. places.texts.known.now ≡ texts.now) }
+    ensures ascending { IfOk result (λ places. AreAscending places.texts.sorted) }
     ensures sorted { IfOk result (λ places. IsSorted spec.placed_cmp places.placed.items) }
     ensures same { IfOk result (λ places.
-        All (spec.IsPlaced texts.now places.texts) places.placed.items) }
+        All (spec.IsPlaced texts.now places.texts.sorted) places.placed.items) }
     ensures all { IfOk result (λ places.
         All (spec.HavePlaces places.placed.items kinds.now) rows.now) }
 {
@@ -134,7 +153,7 @@ pub(crate) fn places_in<'a>(
     codes.dedup();
     let mut coded = coded_texts(alloc, texts, &codes)?;
     coded.sort_unstable();
-    let mut places = place_all(alloc, &coded)?;
+    let mut places = place_all(alloc, texts, &coded)?;
     places.placed.sort_unstable();
     Ok(places)
 }
@@ -189,8 +208,8 @@ fn push_placed(
     Ok(())
 }
 
-/// The words over sorted texts that mean what the words of rows mean, one row after the other.
-pub(crate) fn placed_words(
+// The words over sorted texts that mean what the words of rows mean, one row after the other.
+fn placed_words(
     alloc: Global,
     placed: &[Placed],
     kinds: &[ColumnType],
@@ -207,4 +226,22 @@ pub(crate) fn placed_words(
         push_placed(placed, kinds, row.words(), &mut words)?;
     }
     Ok(words)
+}
+
+/// Rows with the places of their texts, which ascend as the texts do.
+pub(crate) fn place_rows<'a>(
+    alloc: Global,
+    texts: &'a Texts,
+    kinds: &[ColumnType],
+    rows: &[LentRow<'_>],
+) -> Result<PlacedRows<'a>, AllocError>
+    requires { All (AreWordsOf texts.now kinds.now) rows.now }
+    ensures known { IfOk result (λ placed. placed.texts.known.now ≡ texts.now) }
+    ensures ascending { IfOk result (λ placed. AreAscending placed.texts.sorted) }
+    ensures placed { IfOk result (λ placed. (new : List WordRow) × (placed.words.items ≡ words_of new)
+        × spec.ArePlaced texts.now placed.texts.sorted kinds.now rows.now new) }
+{
+    let Places { texts, placed } = places_in(alloc, texts, kinds, rows)?;
+    let words = placed_words(alloc, &placed, kinds, rows)?;
+    Ok(PlacedRows { texts, words })
 }

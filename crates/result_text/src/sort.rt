@@ -1,5 +1,5 @@
 // Rows sorted by their words as numbers. A row is lent by its table and never copied.
-ghost use Rattle.std.specs.Prelude.{◌≡◌, ◌↔◌, ◌≤◌, All, IsPermutation, IsSorted, IsTrue, IfOk, OnOk, length, take};
+ghost use Rattle.std.specs.Prelude.{◌≡◌, ◌↔◌, ◌≤◌, All, IsPermutation, IsSorted, IsTrue, IfOk, OnOk, length, sum_by, take};
 ghost use Rattle.std.proofs.Common.{rules};
 ghost use Rattle.std.specs.Cmp.{partial_order_from_own_ties, eq_by_cmp_equiv, int_cmp_total};
 ghost use Rattle.std.specs.Cmp.Rules.{comparing};
@@ -7,8 +7,9 @@ ghost use Rattle.std.specs.Ordering.{as_partial_cmp, eq_by_cmp};
 ghost use Rattle.result_text.specs.Rows.{WordRow, AreNumbers};
 ghost use Rattle.result_text.specs.Order.{word_row_cmp};
 ghost use Rattle.result_text.specs.SortKey.{word_at, key_of};
+ghost use Rattle.result_text.specs.Sorted.{AreSorted};
 
-use crate::row::LentRow;
+use crate::row::{LentRow, lend};
 use sql_values::NULL_WORD;
 use std::alloc::{AllocError, Global};
 use std::cmp::Ordering;
@@ -69,6 +70,18 @@ impl<'a> SortedRow<'a> {
         ensures { result.now ≡ self.now }
     {
         self.row
+    }
+
+    /// The same row once more.
+    pub(crate) fn again<'b>(&self) -> SortedRow<'b>
+    where
+        'a: 'b,
+        ensures { result ≡ self.now }
+    {
+        SortedRow {
+            key: self.key,
+            row: self.row,
+        }
     }
 
     /// Whether the first `count` words of both are the same.
@@ -169,4 +182,17 @@ pub(crate) fn by_words<'a>(
     let mut sorted = with_keys(alloc, rows)?;
     sorted.sort_unstable();
     Ok(sorted)
+}
+
+/// The rows of these words, each as long as the row at its place in `like`, sorted by their words as numbers.
+pub(crate) fn by_places<'a>(
+    alloc: Global,
+    like: &[LentRow<'_>],
+    words: &'a [i64],
+) -> Result<Vec<SortedRow<'a>>, AllocError>
+    requires { sum_by length like.now ≡ length words.now }
+    ensures { IfOk result (λ sorted. AreSorted words.now like.now sorted.items) }
+{
+    let lent = lend(alloc, like, words)?;
+    by_words(alloc, &lent)
 }

@@ -7,7 +7,7 @@ use Rattle.result_text.proofs.places.place_all.Given as goal
 
 abbrev pub invariant-loop-one : goal.invariant-loop-one
 invariant-loop-one l = record {
-  ascending : AreAscending l.texts;
-  placed : AllZip (HasPlace l.texts) (take l.one-index l.coded) l.placed.items;
-  last : last_of l.texts ≡ option_map (λ one. one.text) (last_of (take l.one-index l.coded));
+  ascending : AreAscending l.sorted;
+  placed : AllZip (HasPlace l.known l.sorted) (take l.one-index l.coded) l.placed.items;
+  last : last_of l.sorted ≡ option_map (λ one. one.text) (last_of (take l.one-index l.coded));
 }

@@ -32,8 +32,8 @@ pub returns-clause-same : goal.returns-clause-same
 returns-clause-same c =
     let texts = c.args.texts.now in
     let coded = All-permutation (IsCodedText texts) _ _ c.sort_unstable-2.ensures.permutation c.in_ok-coded.ensures.texts in
-    All-permutation (IsPlaced texts c.in_ok-places.places.texts) _ _ c.sort_unstable-3.ensures.permutation
-    (IsPlaced-placed texts c.in_ok-places.places.texts _ _ (subst (All (IsCodedText texts)) (sym c.deref-2.ensures.value) coded) c.in_ok-places.ensures.placed)
+    All-permutation (IsPlaced texts c.in_ok-places.places.texts.sorted) _ _ c.sort_unstable-3.ensures.permutation
+    (IsPlaced-placed texts c.in_ok-places.places.texts.sorted _ _ (subst (All (IsCodedText texts)) (sym c.deref-2.ensures.value) coded) c.in_ok-places.ensures.placed)
 
 pub returns-clause-all : goal.returns-clause-all
 returns-clause-all c =
@@ -47,5 +47,5 @@ returns-clause-all c =
     let once = Contains-dedup int_eq_equiv (λ x y e. (Decides-int_eq x y).0 e) _ code sorted in
     let lent = subst (λ l. Contains l code) (sym (c.in_ok-coded.ensures.codes ∙ c.deref.ensures.value ∙ dedup_is _ _ _ c.dedup.ensures.filtered)) once in
     let by_text = Contains-permutation _ _ code (IsPermutation-map code_of _ _ c.sort_unstable-2.ensures.permutation) lent in
-    let placed = subst (λ l. Contains l code) (sym (codes_of-placed c.in_ok-places.places.texts _ _ c.in_ok-places.ensures.placed)) (subst (λ l. Contains (map code_of l) code) (sym c.deref-2.ensures.value) by_text) in
+    let placed = subst (λ l. Contains l code) (sym (codes_of-placed c.args.texts.now c.in_ok-places.places.texts.sorted _ _ c.in_ok-places.ensures.placed)) (subst (λ l. Contains (map code_of l) code) (sym c.deref-2.ensures.value) by_text) in
     Contains-permutation _ _ code (IsPermutation-map code_of' _ _ c.sort_unstable-3.ensures.permutation) placed)
