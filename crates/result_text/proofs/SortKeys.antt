@@ -1,7 +1,7 @@
 -- Rows compare as their first words do, unless these tie.
 use Rattle.std.proofs.Common.{◌≡◌, ℕ, zero, suc, ◌<◌, [], ◌∷◌, take, refl, sym, ap, ◌∙◌, arith}
 use Rattle.std.proofs.lemmas.Int.{ints}
-use Rattle.std.specs.Prelude.{ℤ, ◌≤ℤ◌, ◌<ℤ◌, pos}
+use Rattle.std.specs.Prelude.{ℤ, ◌≤ℤ◌, ◌<ℤ◌, ◌+ℤ◌, ◌-ℤ◌, pos, negsuc, unsigned_abs}
 use Rattle.std.specs.Cmp.{int_ranks, int_cmp_is, int_cmp_total}
 use Rattle.std.specs.Ordering.{MatchOrdering, int_cmp, ordering_then, ordering_reverse}
 use Rattle.std.specs.declared.cmp.Ordering.{Ordering}
@@ -96,3 +96,19 @@ key_same {k} {l} {xs} {ys} p q count two same =
     let first : word_at 0 xs ≡ word_at 0 ys = at 0 (omega arith) in
     let second : word_at 1 xs ≡ word_at 1 ys = at 1 two in
     p.is ∙ (λ i. key_of (first i) (second i)) ∙ sym q.is
+
+abs_below : (z : ℤ) (n : ℕ) → z <ℤ pos n → pos 0 <ℤ (pos n +ℤ z) → unsigned_abs z < n
+abs_below (pos a) n less more = omega (arith, ints)
+abs_below (negsuc a) n less more = omega (arith, ints)
+
+-- the keys of rows that begin with the same word are near each other
+pub key_near : {k l : ℤ} {xs ys : WordRow} → IsSortKey k xs → IsSortKey l ys → (count : ℕ) → 0 < count → take count xs ≡ take count ys → unsigned_abs (k -ℤ l) < 18446744073709551616
+key_near {k} {l} {xs} {ys} p q count some same =
+    let first : word_at 0 xs ≡ word_at 0 ys = sym (word_at-take 0 count xs some) ∙ ap (word_at 0) same ∙ word_at-take 0 count ys some in
+    let left = p.is in
+    let right = q.is in
+    let low = p.low_second in
+    let high = p.high_second in
+    let low' = q.low_second in
+    let high' = q.high_second in
+    abs_below (k -ℤ l) 18446744073709551616 (omega (arith, ints)) (omega (arith, ints))

@@ -1,6 +1,6 @@
 -- Rows sorted by their words are their values in order, where words compare as values do, or where those that tie in their
 -- first columns, whose words do, are put in order too.
-use Rattle.std.proofs.Common.{All, ◌≡◌, ℕ, zero, suc, ℤ, pos, negsuc, ◌+◌, ◌<◌, ◌≤ℤ◌, Bool, if◌then◌else◌, slice_get, unwrap_or, List, [], ◌∷◌, ◌++◌, Result, Vec, Global, IfOk, length, get_or, map, flat_map, take, drop, sum_by, IsPermutation, IsSorted, false, refl, sym, ap, ◌∙◌, subst, arith, length-append}
+use Rattle.std.proofs.Common.{All, ◌≡◌, ℕ, zero, suc, ℤ, pos, negsuc, ◌<◌, ◌≤ℤ◌, Bool, if◌then◌else◌, slice_get, unwrap_or, List, [], ◌∷◌, ◌++◌, Result, Vec, Global, IfOk, length, get_or, map, flat_map, take, drop, sum_by, IsPermutation, IsSorted, false, refl, sym, ap, ◌∙◌, subst, arith, length-append}
 use Rattle.std.proofs.Math.Seq.{take-append_seam, drop-append_seam}
 use Rattle.std.proofs.lemmas.List.{get_or_default, get_or-map, length-map}
 use Rattle.std.proofs.lemmas.List.Elements.{All-head, All-tail, All-take}
@@ -28,7 +28,7 @@ use Rattle.result_text.specs.Printed.{record_of, records_of, table_text}
 use Rattle.result_text.specs.Ranks.{AreAscending, IsRankedWord}
 use Rattle.result_text.specs.Rows.{WordRow, values_of, AreWordsOf, AreNumbers, words_of}
 use Rattle.result_text.specs.Sorted.{AreSorted}
-use Rattle.result_text.specs.Ties.{AreMarked, TieAt, select, weave}
+use Rattle.result_text.specs.Ties.{AreMarked, select, weave}
 use Rattle.result_text.proofs.Ascending.{IsUpto, Ascends, Ascends-from_sort, Ascends-map}
 use Rattle.result_text.proofs.Ranks.{Ranks, Ranks-integer, Ranks-ascending, rows_rank}
 use Rattle.result_text.proofs.RowsInOrder.{rows_total, rows_antisymmetric, in_order-from_ascends, in_order-permutation, sum_by-in_order, Ascends-in_order}
@@ -166,11 +166,12 @@ placed_in_order known sorted kinds rows ranked words up (new, same, placed) s =
     let each = AllZip (IsRankedWord known sorted) kinds in
     let one : s.rows ≡ new = same_rows s.rows new (s.long ∙ sym placed.long) (s.is ∙ same) in
     let are : All each s.rows = subst (All each) (sym one) placed.words in
-    let are' = All-permutation each s.rows ranked s.moved are in
-    (in_order-by_words (IsRankedWord known sorted) (known ++ sorted) kinds (λ k d inside. Ranks-ascending known sorted up _) s.rows ranked s.moved s.ordered are s.numbers
-    ∙ ap (λ (l : List WordRow). in_order (map (values_of (known ++ sorted) kinds) l)) one
-    ∙ ap in_order placed.values,
-    λ k d inside. AllZip-weaker (IsRankedWord known sorted) (IsWord (known ++ sorted)) (IsWord-ranked known sorted) kinds _ (are' k d inside))
+    let are' = All-permutation each s.rows ranked s.moved are in (
+      in_order-by_words (IsRankedWord known sorted) (known ++ sorted) kinds (λ k d inside. Ranks-ascending known sorted up _) s.rows ranked s.moved s.ordered are s.numbers
+          ∙ ap (λ (l : List WordRow). in_order (map (values_of (known ++ sorted) kinds) l)) one
+          ∙ ap in_order placed.values,
+      λ k d inside. AllZip-weaker (IsRankedWord known sorted) (IsWord (known ++ sorted)) (IsWord-ranked known sorted) kinds _ (are' k d inside),
+    )
 
 -- the first columns are INTEGER
 module _ (texts : List (List ℕ)) (kinds : List ColumnType) (count : ℕ) (integers : All (λ kind. kind ≡ Integer) (take count kinds)) where
@@ -223,9 +224,10 @@ module _ (texts : List (List ℕ)) (kinds : List ColumnType) (count : ℕ) (inte
       let done = woven row_cmp rows_total rows_antisymmetric (take count) (front_decides value_cmp count) marks (map values turn) others
       (long ∙ sym (length-map turn values)) (ties_marked turn marks each marked) (fronts_ascend turn up each)
       (Ascends-in_order (select marks (map values turn))) (λ f. sum_by-in_order f (select marks (map values turn))) in
-      let known : All (AreWordsOf (texts ++ sorted) kinds) turn = λ k d inside. (AreWordsOf-known texts sorted kinds _ (here k d inside)).1 in
-      (map-weave (values_of (texts ++ sorted) kinds) marks turn ranked
-      ∙ (λ i. weave marks (rows_known texts sorted kinds turn here i) (same i))
-      ∙ in_order-from_ascends (map values turn) (weave marks (map values turn) others) done.0 done.1
-      ∙ in_order-permutation (map values rows) (map values turn) (IsPermutation-map values rows turn moved),
-      All-weave (AreWordsOf (texts ++ sorted) kinds) marks turn ranked known order.1)
+      let known : All (AreWordsOf (texts ++ sorted) kinds) turn = λ k d inside. (AreWordsOf-known texts sorted kinds _ (here k d inside)).1 in (
+        map-weave (values_of (texts ++ sorted) kinds) marks turn ranked
+            ∙ (λ i. weave marks (rows_known texts sorted kinds turn here i) (same i))
+            ∙ in_order-from_ascends (map values turn) (weave marks (map values turn) others) done.0 done.1
+            ∙ in_order-permutation (map values rows) (map values turn) (IsPermutation-map values rows turn moved),
+        All-weave (AreWordsOf (texts ++ sorted) kinds) marks turn ranked known order.1,
+      )

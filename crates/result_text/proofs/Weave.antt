@@ -111,9 +111,10 @@ module _ {K : Type 0} (R : K → K → Ordering) (total : IsTotalOrder R) (exact
   steps_from x p mark [] (y ∷ xs) ys here long marked up same ordered least = absurd (omega arith)
   steps_from x p mark (next ∷ marks) [] ys here long marked up same ordered least = absurd (omega arith)
   steps_from x p mark (false ∷ marks) (y ∷ xs) ys here long marked up same ordered least =
-      let differ : front x ≢ front y = λ tie. let never : false ≡ true = (marked zero x false (omega arith) tie).1 in cc never in
-      (apart x y p y (All-head (IsUpto R (front x)) (front y) (map front xs) up.0) differ here refl,
-      steps_from y y false marks xs ys refl (omega arith) (λ k d e inside. marked (suc k) d e (omega arith)) up.1 same ordered (λ never. cc never))
+      let differ : front x ≢ front y = λ tie. let never : false ≡ true = (marked zero x false (omega arith) tie).1 in cc never in (
+        apart x y p y (All-head (IsUpto R (front x)) (front y) (map front xs) up.0) differ here refl,
+        steps_from y y false marks xs ys refl (omega arith) (λ k d e inside. marked (suc k) d e (omega arith)) up.1 same ordered (λ never. cc never),
+      )
   steps_from x p mark (true ∷ marks) (y ∷ xs) [] here long marked up same ordered least = absurd (cc same)
   steps_from x p mark (true ∷ marks) (y ∷ xs) (z ∷ ys) here long marked up same ordered least =
       let front_of : front z ≡ front y = cc in

@@ -4,6 +4,7 @@
 //! It never copies a row that the order of its numbers decides, nor compares two texts where their places will do.
 #![tactic(auto)]
 
+mod placed;
 mod places;
 mod print;
 mod ranked;

@@ -1,6 +1,6 @@
 // The texts that stand in rows, in ascending order behind those of the dictionary, and the place there of each of their
 // codes. It looks at no other text of the dictionary, which may have many more.
-ghost use Rattle.std.specs.Prelude.{◌≡◌, ◌++◌, false, ℤ, List, All, Contains, IfOk, IsSome, IsSorted, OnOk, flat_map, length, map};
+ghost use Rattle.std.specs.Prelude.{◌≡◌, ◌++◌, false, ℤ, List, All, Contains, IfOk, IfSome, IsSome, IsSorted, OnOk, flat_map, length, map};
 ghost use Rattle.std.specs.List.{AllZip};
 ghost use Rattle.std.specs.Cmp.Lexicographic.{slice_cmp};
 ghost use Rattle.std.specs.Ordering.{nat_cmp, int_cmp};
@@ -9,8 +9,8 @@ ghost use Rattle.result_text.specs.Placing as spec;
 ghost use Rattle.result_text.specs.Ranks.{AreAscending};
 ghost use Rattle.result_text.specs.Rows.{WordRow, AreWordsOf, words_of};
 
-use crate::row::LentRow;
 use crate::ranked::RankedTexts;
+use crate::row::LentRow;
 use crate::short_text::{ShortText, SortedTexts};
 use sql_values::{ColumnType, NULL_WORD, Texts};
 use std::alloc::{AllocError, Global};
@@ -25,8 +25,8 @@ pub(crate) struct CodedText<'a> {
 /// A code of a dictionary, and the place of its text among sorted ones.
 #[derive(Clone, Copy, Drop, PartialEq, Eq, PartialOrd, Ord)]
 pub(crate) struct Placed {
-    code: i64,
-    place: i64,
+    pub(crate) code: i64,
+    pub(crate) place: i64,
 }
 
 /// Texts in ascending order behind others, and the places of codes there, sorted by code.
@@ -34,13 +34,6 @@ pub(crate) struct Placed {
 pub(crate) struct Places<'a> {
     pub(crate) texts: RankedTexts<'a>,
     pub(crate) placed: Vec<Placed>,
-}
-
-/// Rows one after the other, in which the word of a text is its place among texts that ascend behind others.
-#[derive(Drop)]
-pub(crate) struct PlacedRows<'a> {
-    pub(crate) texts: RankedTexts<'a>,
-    pub(crate) words: Vec<i64>,
 }
 
 // Adds the code of a word's text, if it stands for one.
@@ -132,8 +125,8 @@ fn place_all<'a>(
     Ok(Places { texts, placed })
 }
 
-// The texts that stand in rows, and the place of each of their codes.
-fn places_in<'a>(
+/// The texts that stand in rows, and the place of each of their codes.
+pub(crate) fn places_in<'a>(
     alloc: Global,
     texts: &'a Texts,
     kinds: &[ColumnType],
@@ -156,92 +149,4 @@ fn places_in<'a>(
     let mut places = place_all(alloc, texts, &coded)?;
     places.placed.sort_unstable();
     Ok(places)
-}
-
-// The place of this code.
-fn place_of(placed: &[Placed], code: i64) -> i64
-    requires sorted { IsSorted spec.placed_cmp placed.now }
-    requires there { Contains (spec.codes_of placed.now) code }
-    ensures { Contains placed.now (record { code = code; place = result }) }
-{
-    match placed.binary_search_by_key(&code, |one| one.code) {
-        Ok(at) => placed[at].place,
-        Err(_) => unreachable!(),
-    }
-}
-
-// The word over sorted texts that means what this word means.
-fn placed_word(placed: &[Placed], kind: ColumnType, word: i64) -> i64
-    requires sorted { IsSorted spec.placed_cmp placed.now }
-    requires there { (code : ℤ) → Contains (spec.text_code kind word) code
-        → Contains (spec.codes_of placed.now) code }
-    ensures { spec.IsPlacedWord placed.now kind word result }
-{
-    match kind {
-        ColumnType::Integer => word,
-        ColumnType::Varchar(_) => {
-            if word == NULL_WORD {
-                word
-            } else {
-                place_of(placed, word)
-            }
-        }
-    }
-}
-
-// Adds the words over sorted texts that mean what a row's words mean.
-fn push_placed(
-    placed: &[Placed],
-    kinds: &[ColumnType],
-    row: &[i64],
-    words: &mut Vec<i64>,
-) -> Result<(), AllocError>
-    requires sorted { IsSorted spec.placed_cmp placed.now }
-    requires wide { length row.now ≡ length kinds.now }
-    requires there { spec.HavePlaces placed.now kinds.now row.now }
-    ensures { OnOk result ((new : WordRow) × (words.new.items ≡ words.old.items ++ new)
-        × spec.IsPlacedRow placed.now kinds.now row.now new) }
-{
-    for (place, kind) in kinds.iter().enumerate() {
-        words.push(placed_word(placed, *kind, row[place]))?;
-    }
-    Ok(())
-}
-
-// The words over sorted texts that mean what the words of rows mean, one row after the other.
-fn placed_words(
-    alloc: Global,
-    placed: &[Placed],
-    kinds: &[ColumnType],
-    rows: &[LentRow<'_>],
-) -> Result<Vec<i64>, AllocError>
-    requires sorted { IsSorted spec.placed_cmp placed.now }
-    requires wide { All (λ row. length row ≡ length kinds.now) rows.now }
-    requires there { All (spec.HavePlaces placed.now kinds.now) rows.now }
-    ensures { IfOk result (λ words. (new : List WordRow) × (words.items ≡ words_of new)
-        × AllZip (spec.IsPlacedRow placed.now kinds.now) rows.now new) }
-{
-    let mut words = Vec::new(alloc);
-    for row in rows {
-        push_placed(placed, kinds, row.words(), &mut words)?;
-    }
-    Ok(words)
-}
-
-/// Rows with the places of their texts, which ascend as the texts do.
-pub(crate) fn place_rows<'a>(
-    alloc: Global,
-    texts: &'a Texts,
-    kinds: &[ColumnType],
-    rows: &[LentRow<'_>],
-) -> Result<PlacedRows<'a>, AllocError>
-    requires { All (AreWordsOf texts.now kinds.now) rows.now }
-    ensures known { IfOk result (λ placed. placed.texts.known.now ≡ texts.now) }
-    ensures ascending { IfOk result (λ placed. AreAscending placed.texts.sorted) }
-    ensures placed { IfOk result (λ placed. (new : List WordRow) × (placed.words.items ≡ words_of new)
-        × spec.ArePlaced texts.now placed.texts.sorted kinds.now rows.now new) }
-{
-    let Places { texts, placed } = places_in(alloc, texts, kinds, rows)?;
-    let words = placed_words(alloc, &placed, kinds, rows)?;
-    Ok(PlacedRows { texts, words })
 }

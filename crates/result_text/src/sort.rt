@@ -90,6 +90,9 @@ impl<'a> SortedRow<'a> {
         requires there { count ≤ length other.now }
         ensures { IsTrue result ↔ (take count self.now ≡ take count other.now) }
     {
+        if count > 0 && self.key.abs_diff(other.key) >= 18446744073709551616 {
+            return false;
+        }
         if count > 1 && self.key != other.key {
             return false;
         }

@@ -8,7 +8,7 @@ ghost use Rattle.result_text.specs.Rows.{values_of, AreWordsOf};
 ghost use Rattle.result_text.specs.Order.{row_cmp, in_order};
 ghost use Rattle.result_text.specs.Printed.{table_text};
 
-use crate::places::{PlacedRows, place_rows};
+use crate::placed::{PlacedRows, place_rows};
 use crate::print::text_in_turn;
 use crate::row::LentRow;
 use crate::sort::{by_places, by_words};

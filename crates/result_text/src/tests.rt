@@ -24,7 +24,7 @@ const TEXT: ColumnType = ColumnType::Varchar(20);
 
 const NULL: i64 = NULL_WORD;
 
-const CASES: [Case; 11] = [
+const CASES: [Case; 17] = [
     Case {
         about: "no rows",
         names: &[b"K", b"V"],
@@ -118,6 +118,58 @@ const CASES: [Case; 11] = [
         texts: &[b"z", b"a", b"m"],
         words: &[1, 0, 1, 1, 2, 0, 1, 2, 1, 0, NULL, 0],
         printed: b"K,S,T\n0,,z\n1,m,a\n1,m,z\n1,z,a\n",
+    },
+    Case {
+        about: "ties at the beginning, in the middle and at the end, between rows that tie with none",
+        names: &[b"K", b"S"],
+        kinds: &[INTEGER, TEXT],
+        texts: &[b"z", b"m", b"a"],
+        words: &[
+            9, 0, 5, 1, 2, 0, 1, 0, 7, 2, 5, 0, 9, 1, 1, 2, 5, 2, 9, 2, 1, NULL,
+        ],
+        printed: b"K,S\n1,\n1,a\n1,z\n2,z\n5,a\n5,m\n5,z\n7,a\n9,a\n9,m\n9,z\n",
+    },
+    Case {
+        about: "ties that follow one another, and a row that ties with none at both ends",
+        names: &[b"K", b"S"],
+        kinds: &[INTEGER, TEXT],
+        texts: &[b"d", b"c", b"b", b"a"],
+        words: &[3, 1, 2, 0, 4, 0, 3, 2, 1, 3, 2, 1],
+        printed: b"K,S\n1,a\n2,c\n2,d\n3,b\n3,c\n4,d\n",
+    },
+    Case {
+        about: "all rows tie, two of them wholly",
+        names: &[b"K", b"S", b"N"],
+        kinds: &[INTEGER, TEXT, INTEGER],
+        texts: &[b"y", b"x"],
+        words: &[4, 0, 1, 4, 1, 2, 4, 0, 0, 4, NULL, 9, 4, 1, 2],
+        printed: b"K,S,N\n4,,9\n4,x,2\n4,x,2\n4,y,0\n4,y,1\n",
+    },
+    Case {
+        about: "ties of NULL",
+        names: &[b"K", b"S"],
+        kinds: &[INTEGER, TEXT],
+        texts: &[b"q", b"p"],
+        words: &[NULL, 0, 0, 1, NULL, 1, NULL, NULL],
+        printed: b"K,S\n,\n,p\n,q\n0,p\n",
+    },
+    Case {
+        about: "two columns of numbers, then a text: ties of the first alone, and of both",
+        names: &[b"K", b"L", b"S"],
+        kinds: &[INTEGER, INTEGER, TEXT],
+        texts: &[b"w", b"v", b"u"],
+        words: &[
+            1, 2, 0, 1, 1, 0, 1, 2, 1, 0, 3, 2, 1, -1, 1, 1, 2, 2, 2, 2, 0,
+        ],
+        printed: b"K,L,S\n0,3,u\n1,-1,v\n1,1,w\n1,2,u\n1,2,v\n1,2,w\n2,2,w\n",
+    },
+    Case {
+        about: "codes with gaps between them, and texts that tie with none",
+        names: &[b"K", b"S"],
+        kinds: &[INTEGER, TEXT],
+        texts: &[b"e", b"d", b"c", b"b", b"a"],
+        words: &[1, 0, 2, 1, 1, 2, 3, 3, 1, 4],
+        printed: b"K,S\n1,a\n1,c\n1,e\n2,d\n3,b\n",
     },
 ];
 

@@ -1,11 +1,10 @@
-use Rattle.std.proofs.Common.{◌∙◌, ◌≡◌, ◌≤◌, ◌++◌, All, ap, length, map, subst, sym}
+use Rattle.std.proofs.Common.{◌∙◌, ◌≤◌, ◌++◌, length, map, subst}
 use Rattle.std.proofs.lemmas.List.Elements.{All-weaker}
 use Rattle.std.proofs.lemmas.List.Sorted.{All-permutation}
 use Rattle.sql_values.specs.Words.{IsWord}
 use Rattle.result_text.specs.Rows.{WordRow, AreWordsOf, values_of}
-use Rattle.result_text.specs.Ties.{select}
-use Rattle.result_text.proofs.TableText.{woven_in_order, length-words_of, placed_in_order, text_of_rows}
-use Rattle.result_text.proofs.Weave.{All-select, All-weave}
+use Rattle.result_text.proofs.TableText.{woven_in_order, length-words_of, text_of_rows}
+use Rattle.result_text.proofs.Weave.{All-select}
 use Rattle.result_text.proofs.Zips.{length-AllZip}
 use Rattle.result_text.proofs.table.text_by_ties.Goals as goal
 

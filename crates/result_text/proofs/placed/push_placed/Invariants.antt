@@ -1,7 +1,7 @@
 use Rattle.std.proofs.Common.{◌≡◌, ◌++◌, take}
 use Rattle.result_text.specs.Placing.{IsPlacedRow}
 use Rattle.result_text.specs.Rows.{WordRow}
-use Rattle.result_text.proofs.places.push_placed.Given as goal
+use Rattle.result_text.proofs.placed.push_placed.Given as goal
 
 abbrev pub invariant-loop-place : goal.invariant-loop-place
 invariant-loop-place l =

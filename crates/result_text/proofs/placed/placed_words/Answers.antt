@@ -3,7 +3,7 @@ use Rattle.std.proofs.lemmas.Grind.{flat_map-append}
 use Rattle.std.proofs.lemmas.List.Elements.{All-get_or, all_zip_more}
 use Rattle.result_text.specs.Placing.{HavePlaces, IsPlacedRow}
 use Rattle.result_text.specs.Rows.{WordRow, words_of}
-use Rattle.result_text.proofs.places.placed_words.Goals as goal
+use Rattle.result_text.proofs.placed.placed_words.Goals as goal
 
 pub push_placed-requires-clause-there : goal.push_placed-requires-clause-there
 push_placed-requires-clause-there c =

@@ -6,7 +6,7 @@ use Rattle.result_text.specs.Placing.{HavePlaces, IsPlaced}
 use Rattle.result_text.specs.Rows.{WordRow, AreWordsOf}
 use Rattle.result_text.proofs.Placing.{rows_placed}
 use Rattle.result_text.proofs.Zips.{length-AllZip}
-use Rattle.result_text.proofs.places.place_rows.Goals as goal
+use Rattle.result_text.proofs.placed.place_rows.Goals as goal
 
 pub placed_words-requires-clause-wide : goal.placed_words-requires-clause-wide
 placed_words-requires-clause-wide c =

@@ -2,7 +2,7 @@ use Rattle.std.proofs.Common.{◌≡◌, List, take}
 use Rattle.std.specs.List.{AllZip}
 use Rattle.result_text.specs.Placing.{IsPlacedRow}
 use Rattle.result_text.specs.Rows.{WordRow, words_of}
-use Rattle.result_text.proofs.places.placed_words.Given as goal
+use Rattle.result_text.proofs.placed.placed_words.Given as goal
 
 abbrev pub invariant-loop-row : goal.invariant-loop-row
 invariant-loop-row l =

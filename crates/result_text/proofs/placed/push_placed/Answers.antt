@@ -2,7 +2,7 @@ use Rattle.std.proofs.Common.{◌≡◌, ◌++◌, ◌∷◌, [], ◌<◌, ◌�
 use Rattle.std.proofs.lemmas.Int.{to_z-of_z}
 use Rattle.sql_values.specs.declared.column.ColumnType.TheVariants.{Integer}
 use Rattle.result_text.proofs.Placing.{Contains-text_codes, IsPlacedRow-more}
-use Rattle.result_text.proofs.places.push_placed.Goals as goal
+use Rattle.result_text.proofs.placed.push_placed.Goals as goal
 
 pub placed_word-requires-clause-there : goal.placed_word-requires-clause-there
 placed_word-requires-clause-there c =

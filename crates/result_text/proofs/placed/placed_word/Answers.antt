@@ -3,7 +3,7 @@ use Rattle.std.proofs.lemmas.Int.{ints, to_z-of_z}
 use Rattle.sql_values.specs.Words.{null_word}
 use Rattle.result_text.specs.Placing.{text_code, IsPlacedWord}
 use Rattle.result_text.proofs.Placing.{Contains-text_code}
-use Rattle.result_text.proofs.places.placed_word.Goals as goal
+use Rattle.result_text.proofs.placed.placed_word.Goals as goal
 
 pub returns-in-Integer : goal.returns-in-Integer
 returns-in-Integer c =

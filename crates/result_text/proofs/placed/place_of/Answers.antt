@@ -3,7 +3,7 @@ use Rattle.std.proofs.lemmas.Int.{to_z-of_z}
 use Rattle.std.proofs.lemmas.List.Sorted.{answers_always}
 use Rattle.result_text.specs.declared.places.Placed.{Placed}
 use Rattle.result_text.proofs.Placing.{found, Contains-found}
-use Rattle.result_text.proofs.places.place_of.Goals as goal
+use Rattle.result_text.proofs.placed.place_of.Goals as goal
 
 pub unreachable-requires : goal.unreachable-requires
 unreachable-requires c =
