@@ -3,7 +3,7 @@ use Rattle.std.proofs.Common.{◌≡◌, ℕ, ℤ, List, [], ◌∷◌, map, ref
 use Rattle.sql_values.specs.declared.column.ColumnDef.{ColumnDef}
 use Rattle.sql_values.specs.Stored.{row_of, AreWords}
 use Rattle.sql_values.specs.Words.{value_of}
-use Rattle.result_text.specs.Rows.{values_of, AreWordsOf}
+use Rattle.sql_values.specs.Stored.{values_of, AreWordsOf}
 
 -- the values of a stored table's row
 pub values_of-kinds : (texts : List (List ℕ)) (columns : List ColumnDef) (words : List ℤ) →

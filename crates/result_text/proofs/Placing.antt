@@ -25,7 +25,8 @@ use Rattle.result_text.specs.declared.places.Placed.{Placed}
 use Rattle.result_text.specs.Lists.{last_of}
 use Rattle.result_text.specs.Placing.{text_code, text_codes, IsCodedText, HasPlace, IsPlaced, placed_cmp, codes_of, HavePlaces, IsPlacedWord, IsPlacedRow, ArePlaced}
 use Rattle.result_text.specs.Ranks.{IsRankedWord}
-use Rattle.result_text.specs.Rows.{WordRow, values_of, AreWordsOf}
+use Rattle.result_text.specs.Rows.{WordRow}
+use Rattle.sql_values.specs.Stored.{values_of, AreWordsOf}
 use Rattle.result_text.proofs.Ascent.{last_of-take}
 use Rattle.result_text.proofs.Ranks.{value_cases}
 use Rattle.result_text.proofs.Zips.{length-AllZip}

@@ -19,7 +19,8 @@ use Rattle.sql_values.specs.Order.{value_cmp}
 use Rattle.sql_values.specs.Words.{null_word, value_of, meaning_of}
 use Rattle.result_text.specs.Order.{row_cmp, word_row_cmp}
 use Rattle.result_text.specs.Ranks.{AreAscending, IsRankedWord}
-use Rattle.result_text.specs.Rows.{WordRow, values_of, AreNumbers}
+use Rattle.result_text.specs.Rows.{WordRow, AreNumbers}
+use Rattle.sql_values.specs.Stored.{values_of}
 
 -- words of a column of this kind that are so compare as their values do
 abbrev pub Ranks : (ColumnType → ℤ → Type 0) → List (List ℕ) → ColumnType → Type 0

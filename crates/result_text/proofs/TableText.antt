@@ -26,7 +26,8 @@ use Rattle.result_text.specs.Order.{row_cmp, word_row_cmp, in_order}
 use Rattle.result_text.specs.Placing.{ArePlaced}
 use Rattle.result_text.specs.Printed.{record_of, records_of, table_text}
 use Rattle.result_text.specs.Ranks.{AreAscending, IsRankedWord}
-use Rattle.result_text.specs.Rows.{WordRow, values_of, AreWordsOf, AreNumbers, words_of}
+use Rattle.result_text.specs.Rows.{WordRow, AreNumbers, words_of}
+use Rattle.sql_values.specs.Stored.{values_of, AreWordsOf}
 use Rattle.result_text.specs.Sorted.{AreSorted}
 use Rattle.result_text.specs.Ties.{AreMarked, select, weave}
 use Rattle.result_text.proofs.Ascending.{IsUpto, Ascends, Ascends-from_sort, Ascends-map}

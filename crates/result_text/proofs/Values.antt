@@ -2,7 +2,8 @@
 use Rattle.std.proofs.Common.{◌≡◌, ℕ, ℤ, zero, suc, ◌<◌, List, [], ◌∷◌, ◌++◌, length, get_or, take, refl, ap, arith}
 use Rattle.sql_values.specs.declared.column.ColumnType.{ColumnType}
 use Rattle.sql_values.specs.Words.{value_of}
-use Rattle.result_text.specs.Rows.{WordRow, values_of}
+use Rattle.result_text.specs.Rows.{WordRow}
+use Rattle.sql_values.specs.Stored.{values_of}
 
 -- one column more
 pub values_of-more : (texts : List (List ℕ)) (kinds : List ColumnType) (row : WordRow) (i : ℕ) (kind : ColumnType) (word : ℤ) → i < length kinds → i < length row →

@@ -8,7 +8,8 @@ use Rattle.sql_values.specs.declared.column.ColumnType.TheVariants.{Integer, Var
 use Rattle.sql_values.specs.Dictionary.{text_of}
 use Rattle.sql_values.specs.Words.{null_word}
 use Rattle.result_text.specs.Ranks.{IsRankedWord}
-use Rattle.result_text.specs.Rows.{WordRow, values_of}
+use Rattle.result_text.specs.Rows.{WordRow}
+use Rattle.sql_values.specs.Stored.{values_of}
 use Rattle.result_text.specs.declared.places.CodedText.{CodedText}
 use Rattle.result_text.specs.declared.places.Placed.{Placed}
 

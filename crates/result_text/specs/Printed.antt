@@ -6,7 +6,8 @@ use Rattle.sql_values.specs.declared.value.Value.{Value}
 use Rattle.sql_values.specs.declared.value.Value.TheVariants as value
 use Rattle.sql_values.specs.Stored.{ValueRow}
 use Rattle.sql_values.specs.declared.column.ColumnType.{ColumnType}
-use Rattle.result_text.specs.Rows.{WordRow, values_of}
+use Rattle.result_text.specs.Rows.{WordRow}
+use Rattle.sql_values.specs.Stored.{values_of}
 use Rattle.result_text.specs.Order.{in_order}
 
 -- the field of a value: NULL is empty, a number is decimal, a text is its bytes

@@ -3,7 +3,8 @@ ghost use Rattle.std.specs.Prelude.{◌≡◌, ◌++◌, ℤ, List, All, Contain
 ghost use Rattle.std.specs.List.{AllZip};
 ghost use Rattle.result_text.specs.Placing as spec;
 ghost use Rattle.result_text.specs.Ranks.{AreAscending};
-ghost use Rattle.result_text.specs.Rows.{WordRow, AreWordsOf, words_of};
+ghost use Rattle.result_text.specs.Rows.{WordRow, words_of};
+ghost use Rattle.sql_values.specs.Stored.{AreWordsOf};
 
 use crate::places::{Placed, Places, places_in};
 use crate::ranked::RankedTexts;

@@ -7,7 +7,8 @@ ghost use Rattle.std.specs.Ordering.{nat_cmp, int_cmp};
 ghost use Rattle.sql_values.specs.Dictionary.{text_of};
 ghost use Rattle.result_text.specs.Placing as spec;
 ghost use Rattle.result_text.specs.Ranks.{AreAscending};
-ghost use Rattle.result_text.specs.Rows.{WordRow, AreWordsOf, words_of};
+ghost use Rattle.result_text.specs.Rows.{WordRow, words_of};
+ghost use Rattle.sql_values.specs.Stored.{AreWordsOf};
 
 use crate::ranked::RankedTexts;
 use crate::row::LentRow;

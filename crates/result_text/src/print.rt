@@ -3,7 +3,8 @@
 ghost use Rattle.std.specs.Prelude.{◌≡◌, [], ◌∷◌, ◌++◌, All, IfOk, OnOk};
 ghost use Rattle.csv.specs.Writing.{row_text, default_writer};
 ghost use Rattle.sql_values.specs.Words.{value_of, IsWord};
-ghost use Rattle.result_text.specs.Rows.{values_of, AreWordsOf, words_of};
+ghost use Rattle.result_text.specs.Rows.{words_of};
+ghost use Rattle.sql_values.specs.Stored.{values_of, AreWordsOf};
 ghost use Rattle.result_text.specs.Printed.{field_of, record_of, records_of};
 ghost use Rattle.result_text.specs.TextWriter.{WritesFields, EndsRecord, WritesText};
 

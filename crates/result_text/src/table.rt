@@ -4,7 +4,7 @@
 ghost use Rattle.std.specs.Prelude.{◌≡◌, ◌≤◌, List, All, length, map, take, IfOk, IsPermutation, IsSorted};
 ghost use Rattle.sql_values.specs.declared.column.ColumnType.TheVariants.{Integer};
 ghost use Rattle.sql_values.specs.Stored.{ValueRow};
-ghost use Rattle.result_text.specs.Rows.{values_of, AreWordsOf};
+ghost use Rattle.sql_values.specs.Stored.{values_of, AreWordsOf};
 ghost use Rattle.result_text.specs.Order.{row_cmp, in_order};
 ghost use Rattle.result_text.specs.Printed.{table_text};
 

@@ -1,7 +1,7 @@
 // What no clause says: that a table is printed where memory is ample, and the printed texts of worked tables.
 ghost use Rattle.std.specs.Prelude.{◌≡◌, All, IsTrue, length};
 ghost use Rattle.sql_values.specs.Words.{IsWord};
-ghost use Rattle.result_text.specs.Rows.{AreWordsOf};
+ghost use Rattle.sql_values.specs.Stored.{AreWordsOf};
 
 use super::*;
 use sql_values::{ColumnType, NULL_WORD, Text, Texts};

@@ -5,7 +5,7 @@ use Rattle.std.proofs.lemmas.List.Elements.{All-weaker}
 use Rattle.sql_values.specs.declared.column.ColumnDef.{ColumnDef}
 use Rattle.sql_values.specs.declared.column.ColumnType.{ColumnType}
 use Rattle.sql_values.specs.Stored.{AreWords, row_of}
-use Rattle.result_text.specs.Rows.{values_of, AreWordsOf}
+use Rattle.sql_values.specs.Stored.{values_of, AreWordsOf}
 use Rattle.result_text.specs.Printed.{table_text}
 use Rattle.result_text.proofs.Columns.{values_of-kinds, AreWordsOf-kinds}
 use Rattle.db_catalog.specs.Database.{DatabaseState, table_at}

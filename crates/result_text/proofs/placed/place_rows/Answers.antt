@@ -3,7 +3,8 @@ use Rattle.std.proofs.lemmas.List.Elements.{All-weaker}
 use Rattle.sql_values.specs.Words.{IsWord}
 use Rattle.result_text.specs.declared.places.Placed.{Placed}
 use Rattle.result_text.specs.Placing.{HavePlaces, IsPlaced}
-use Rattle.result_text.specs.Rows.{WordRow, AreWordsOf}
+use Rattle.result_text.specs.Rows.{WordRow}
+use Rattle.sql_values.specs.Stored.{AreWordsOf}
 use Rattle.result_text.proofs.Placing.{rows_placed}
 use Rattle.result_text.proofs.Zips.{length-AllZip}
 use Rattle.result_text.proofs.placed.place_rows.Goals as goal

@@ -10,7 +10,8 @@ use Rattle.sql_values.specs.Words.{IsWord}
 use Rattle.result_text.specs.declared.places.CodedText.{CodedText}
 use Rattle.result_text.specs.declared.places.Placed.{Placed}
 use Rattle.result_text.specs.Placing.{IsCodedText, IsPlaced}
-use Rattle.result_text.specs.Rows.{WordRow, AreWordsOf}
+use Rattle.result_text.specs.Rows.{WordRow}
+use Rattle.sql_values.specs.Stored.{AreWordsOf}
 use Rattle.result_text.proofs.Placing.{codes_of-placed, HasText-rows, HavePlaces-rows, IsPlaced-placed}
 use Rattle.result_text.proofs.Zips.{length-AllZip}
 use Rattle.result_text.proofs.places.places_in.Goals as goal

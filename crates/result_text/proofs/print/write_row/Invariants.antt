@@ -1,6 +1,6 @@
 use Rattle.std.proofs.Common.{map, take}
 use Rattle.result_text.specs.Printed.{field_of}
-use Rattle.result_text.specs.Rows.{values_of}
+use Rattle.sql_values.specs.Stored.{values_of}
 use Rattle.result_text.specs.TextWriter.{WritesFields}
 use Rattle.result_text.proofs.print.write_row.Given as goal
 

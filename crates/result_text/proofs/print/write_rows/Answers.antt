@@ -2,7 +2,7 @@ use Rattle.std.proofs.Common.{◌≡◌, ◌+◌, ◌-◌, ◌≤◌, ◌++◌, 
 use Rattle.std.proofs.Math.Seq.{take-add}
 use Rattle.std.proofs.lemmas.Grind.{flat_map-append}
 use Rattle.result_text.specs.Printed.{record_of}
-use Rattle.result_text.specs.Rows.{values_of}
+use Rattle.sql_values.specs.Stored.{values_of}
 use Rattle.result_text.proofs.TextWriter.{text_more}
 use Rattle.result_text.proofs.print.write_rows.Goals as goal
 

@@ -1,5 +1,5 @@
 use Rattle.std.proofs.Common.{◌∙◌, ◌++◌, ap, length, map, sym}
-use Rattle.result_text.specs.Rows.{values_of}
+use Rattle.sql_values.specs.Stored.{values_of}
 use Rattle.result_text.proofs.TableText.{length-words_of, placed_in_order, text_of_rows}
 use Rattle.result_text.proofs.table.text_by_places.Goals as goal
 

@@ -2,7 +2,8 @@ use Rattle.std.proofs.Common.{◌∙◌, ◌≤◌, ◌++◌, length, map, subst
 use Rattle.std.proofs.lemmas.List.Elements.{All-weaker}
 use Rattle.std.proofs.lemmas.List.Sorted.{All-permutation}
 use Rattle.sql_values.specs.Words.{IsWord}
-use Rattle.result_text.specs.Rows.{WordRow, AreWordsOf, values_of}
+use Rattle.result_text.specs.Rows.{WordRow}
+use Rattle.sql_values.specs.Stored.{AreWordsOf, values_of}
 use Rattle.result_text.proofs.TableText.{woven_in_order, length-words_of, text_of_rows}
 use Rattle.result_text.proofs.Weave.{All-select}
 use Rattle.result_text.proofs.Zips.{length-AllZip}

@@ -1,7 +1,7 @@
 use Rattle.std.proofs.Common.{All, map, subst, sym}
 use Rattle.std.proofs.lemmas.List.Sorted.{All-permutation}
 use Rattle.sql_values.specs.Words.{IsWord}
-use Rattle.result_text.specs.Rows.{AreWordsOf, values_of}
+use Rattle.sql_values.specs.Stored.{AreWordsOf, values_of}
 use Rattle.result_text.proofs.Ranks.{Ranks-integer}
 use Rattle.result_text.proofs.TableText.{in_order-by_words, text_of_rows}
 use Rattle.result_text.proofs.table.text_by_words.Goals as goal

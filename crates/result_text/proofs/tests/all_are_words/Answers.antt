@@ -1,7 +1,7 @@
 use Rattle.std.proofs.Common.{◌≡◌, ◌∙◌, arith, subst, take}
 use Rattle.std.proofs.lemmas.List.{take_all}
 use Rattle.std.proofs.lemmas.List.Elements.{All-more}
-use Rattle.result_text.specs.Rows.{AreWordsOf}
+use Rattle.sql_values.specs.Stored.{AreWordsOf}
 use Rattle.result_text.proofs.tests.all_are_words.Goals as goal
 
 pub loop-row-preserved : goal.loop-row-preserved

@@ -1,5 +1,5 @@
 use Rattle.std.proofs.Common.{All, take}
-use Rattle.result_text.specs.Rows.{AreWordsOf}
+use Rattle.sql_values.specs.Stored.{AreWordsOf}
 use Rattle.result_text.proofs.tests.all_are_words.Given as goal
 
 abbrev pub invariant-loop-row : goal.invariant-loop-row
