@@ -1,1 +1,4 @@
 pub mod Relations
+pub mod Words
+pub mod Equality
+pub mod Chains

@@ -3,3 +3,4 @@ pub mod Truth
 pub mod Shape
 pub mod Blocks
 pub mod Meaning
+pub mod Cells

@@ -7,9 +7,14 @@
 #![tactic(auto)]
 
 mod block;
+mod cell;
 mod condition;
 mod edge;
+mod evaluate;
+mod predicate;
+mod row;
 
 pub use block::{Block, Relation};
 pub use condition::{Condition, Operand};
 pub use edge::{ColumnAt, Edge};
+pub use evaluate::{meets_filter, truth};

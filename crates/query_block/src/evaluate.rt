@@ -1,0 +1,104 @@
+// The truth of a condition on a row. It calls itself for a nested condition alone: a chain is a loop, however long.
+ghost use Rattle.std.specs.Prelude.{◌≡◌, All, map};
+ghost use Rattle.sql_values.specs.Stored.{values_of, AreWordsOf};
+ghost use Rattle.query_block.specs.Conditions.{filter_tree, chain};
+ghost use Rattle.query_block.specs.Blocks.{FitsColumns, FitColumns};
+ghost use Rattle.query_block.specs.Cells.{row_values, IsRow};
+ghost use Rattle.query_block.specs.Truth.{truth_of, truth_of_all, truth_of_any};
+ghost use Rattle.query_block.specs.Meaning.{meets_filter};
+
+use crate::condition::Condition;
+use crate::predicate::{between, compare, is_null, one_of};
+use crate::row::Row;
+use sql_values::{ColumnType, Texts, Truth, and, not, or};
+
+// The truth of a condition.
+#[cycle(truth)]
+fn truth_on(condition: &Condition, row: &Row<'_>) -> Truth
+    requires row { IsRow row.now }
+    requires condition { FitsColumns row.now.columns.now (filter_tree condition.now) }
+    ensures { result ≡ truth_of (filter_tree condition.now) (row_values row.now) }
+{
+    match condition {
+        Condition::Compare(op, left, right) => compare(*op, left, right, row),
+        Condition::Between(of, low, high) => between(of, low, high, row),
+        Condition::OneOf(of, operands) => one_of(of, operands.as_slice(), row),
+        Condition::IsNull(column) => is_null(*column, row),
+        Condition::Not(inner) => not(truth_on(inner, row)),
+        Condition::And(parts) => truth_of_all(parts.as_slice(), row),
+        Condition::Or(parts) => truth_of_any(parts.as_slice(), row),
+    }
+}
+
+// The truth of a AND b AND .., up to the first that is false.
+#[cycle(truth)]
+fn truth_of_all(parts: &[Condition], row: &Row<'_>) -> Truth
+    requires row { IsRow row.now }
+    requires parts { FitColumns row.now.columns.now (chain (map filter_tree parts.now)) }
+    ensures { result ≡ truth_of_all (chain (map filter_tree parts.now)) (row_values row.now) }
+{
+    let mut found = Truth::True;
+    for part in parts {
+        found = and(found, truth_on(part, row));
+        if found == Truth::False {
+            return Truth::False;
+        }
+    }
+    found
+}
+
+// The truth of a OR b OR .., up to the first that is true.
+#[cycle(truth)]
+fn truth_of_any(parts: &[Condition], row: &Row<'_>) -> Truth
+    requires row { IsRow row.now }
+    requires parts { FitColumns row.now.columns.now (chain (map filter_tree parts.now)) }
+    ensures { result ≡ truth_of_any (chain (map filter_tree parts.now)) (row_values row.now) }
+{
+    let mut found = Truth::False;
+    for part in parts {
+        found = or(found, truth_on(part, row));
+        if found == Truth::True {
+            return Truth::True;
+        }
+    }
+    found
+}
+
+/// The truth of a condition on a row (SQL-92, 8.2 to 8.12). It takes no memory, and as much of the machine's stack as the
+/// condition is nested deep.
+pub fn truth(condition: &Condition, columns: &[ColumnType], row: &[i64], texts: &Texts) -> Truth
+    requires condition { FitsColumns columns.now (filter_tree condition.now) }
+    requires words { AreWordsOf texts.now columns.now row.now }
+    ensures { result ≡ truth_of (filter_tree condition.now) (values_of texts.now columns.now row.now) }
+{
+    let lent = Row {
+        columns,
+        words: row,
+        texts,
+    };
+    truth_on(condition, &lent)
+}
+
+/// Whether each conjunct of a filter is true on a row, up to the first that isn't.
+pub fn meets_filter(
+    filter: &[Condition],
+    columns: &[ColumnType],
+    row: &[i64],
+    texts: &Texts,
+) -> bool
+    requires conjuncts { All (FitsColumns columns.now) (map filter_tree filter.now) }
+    requires words { AreWordsOf texts.now columns.now row.now }
+    ensures { result ≡ meets_filter (map filter_tree filter.now) (values_of texts.now columns.now row.now) }
+{
+    let lent = Row {
+        columns,
+        words: row,
+        texts,
+    };
+    for conjunct in filter {
+        if truth_on(conjunct, &lent) != Truth::True {
+            return false;
+        }
+    }
+    true
+}

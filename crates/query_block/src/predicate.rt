@@ -1,0 +1,114 @@
+// The predicates on operands of a row. Nothing here takes memory or calls itself.
+ghost use Rattle.std.specs.Prelude.{◌≡◌, ◌<◌, All, length};
+ghost use Rattle.sql_values.specs.Words.{IsWord, value_of};
+ghost use Rattle.sql_values.specs.Truth.{comparison, truth_and, certain, is_null};
+ghost use Rattle.sql_values.specs.declared.op.Op.TheVariants.{Ge, Le};
+ghost use Rattle.query_block.specs.Blocks.{IsOperand, AreOperands, kind_at};
+ghost use Rattle.query_block.specs.Cells.{cell_value, row_values, IsCell, IsRow};
+ghost use Rattle.query_block.specs.Truth.{operand_value, one_of, value_at};
+
+use crate::cell::{Cell, compare_cells};
+use crate::condition::Operand;
+use crate::row::Row;
+use sql_values::{ColumnType, NULL_WORD, Op, Texts, Truth, Value, and, or};
+
+// The cell of a word.
+fn cell_of<'a>(kind: ColumnType, word: i64, texts: &Texts) -> Cell<'a>
+    requires { IsWord texts.now kind word }
+    ensures is { IsCell texts.now result }
+    ensures value { cell_value texts.now result ≡ value_of texts.now kind word }
+{
+    if word == NULL_WORD {
+        return Cell::Null;
+    }
+    match kind {
+        ColumnType::Integer => Cell::Int(word),
+        ColumnType::Varchar(_) => Cell::Code(word),
+    }
+}
+
+// The cell of a column.
+fn column_cell<'a>(column: u8, row: &Row<'_>) -> Cell<'a>
+    requires row { IsRow row.now }
+    requires column { column < length row.now.columns.now }
+    ensures is { IsCell row.now.texts.now result }
+    ensures value { cell_value row.now.texts.now result ≡ value_at (row_values row.now) column }
+{
+    let place = column as usize;
+    cell_of(row.columns[place], row.words[place], row.texts)
+}
+
+// The cell of an operand.
+fn operand_cell<'a>(operand: &'a Operand, row: &Row<'_>) -> Cell<'a>
+    requires row { IsRow row.now }
+    requires operand { IsOperand row.now.columns.now operand.now }
+    ensures is { IsCell row.now.texts.now result }
+    ensures value { cell_value row.now.texts.now result ≡ operand_value (row_values row.now) operand.now }
+{
+    match operand {
+        Operand::Column(column) => column_cell(*column, row),
+        Operand::Literal(literal) => match literal {
+            Value::Null => Cell::Null,
+            Value::Int(number) => Cell::Int(*number),
+            Value::Text(text) => Cell::Text(text.bytes()),
+        },
+    }
+}
+
+/// Compares two operands (SQL-92, 8.2).
+pub(crate) fn compare(op: Op, left: &Operand, right: &Operand, row: &Row<'_>) -> Truth
+    requires row { IsRow row.now }
+    requires operands { AreOperands row.now.columns.now left.now right.now }
+    ensures { result ≡ comparison op (operand_value (row_values row.now) left.now) (operand_value (row_values row.now) right.now) }
+{
+    compare_cells(
+        op,
+        operand_cell(left, row),
+        operand_cell(right, row),
+        row.texts,
+    )
+}
+
+/// Whether an operand lies between two others (SQL-92, 8.3). The upper one is left alone where the lower one decides.
+pub(crate) fn between(of: &Operand, low: &Operand, high: &Operand, row: &Row<'_>) -> Truth
+    requires row { IsRow row.now }
+    requires low { AreOperands row.now.columns.now of.now low.now }
+    requires high { AreOperands row.now.columns.now of.now high.now }
+    ensures { let value = operand_value (row_values row.now) in
+        result ≡ truth_and (comparison Ge (value of.now) (value low.now)) (comparison Le (value of.now) (value high.now)) }
+{
+    let above = compare(Op::Ge, of, low, row);
+    if above == Truth::False {
+        return Truth::False;
+    }
+    and(above, compare(Op::Le, of, high, row))
+}
+
+/// Whether an operand is one of others (SQL-92, 8.4), up to the first that is equal to it.
+pub(crate) fn one_of(of: &Operand, operands: &[Operand], row: &Row<'_>) -> Truth
+    requires row { IsRow row.now }
+    requires of { IsOperand row.now.columns.now of.now }
+    requires operands { All (AreOperands row.now.columns.now of.now) operands.now }
+    ensures { result ≡ one_of (row_values row.now) (operand_value (row_values row.now) of.now) operands.now }
+{
+    let mut found = Truth::False;
+    for operand in operands {
+        found = or(found, compare(Op::Eq, of, operand, row));
+        if found == Truth::True {
+            return Truth::True;
+        }
+    }
+    found
+}
+
+/// Whether a column is NULL (SQL-92, 8.6).
+pub(crate) fn is_null(column: u8, row: &Row<'_>) -> Truth
+    requires row { IsRow row.now }
+    requires column { column < length row.now.columns.now }
+    ensures { result ≡ certain (is_null (value_at (row_values row.now) column)) }
+{
+    match column_cell(column, row) {
+        Cell::Null => Truth::True,
+        _ => Truth::False,
+    }
+}
