@@ -2,3 +2,4 @@ pub mod Relations
 pub mod Words
 pub mod Equality
 pub mod Chains
+mod Tested
