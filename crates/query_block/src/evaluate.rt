@@ -69,7 +69,8 @@ fn truth_of_any(parts: &[Condition], row: &Row<'_>) -> Truth
 pub fn truth(condition: &Condition, columns: &[ColumnType], row: &[i64], texts: &Texts) -> Truth
     requires condition { FitsColumns columns.now (filter_tree condition.now) }
     requires words { AreWordsOf texts.now columns.now row.now }
-    ensures { result ≡ truth_of (filter_tree condition.now) (values_of texts.now columns.now row.now) }
+    ensures { result
+        ≡ truth_of (filter_tree condition.now) (values_of texts.now columns.now row.now) }
 {
     let lent = Row {
         columns,
@@ -88,7 +89,8 @@ pub fn meets_filter(
 ) -> bool
     requires conjuncts { All (FitsColumns columns.now) (map filter_tree filter.now) }
     requires words { AreWordsOf texts.now columns.now row.now }
-    ensures { result ≡ meets_filter (map filter_tree filter.now) (values_of texts.now columns.now row.now) }
+    ensures { result
+        ≡ meets_filter (map filter_tree filter.now) (values_of texts.now columns.now row.now) }
 {
     let lent = Row {
         columns,

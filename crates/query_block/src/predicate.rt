@@ -43,7 +43,8 @@ fn operand_cell<'a>(operand: &'a Operand, row: &Row<'_>) -> Cell<'a>
     requires row { IsRow row.now }
     requires operand { IsOperand row.now.columns.now operand.now }
     ensures is { IsCell row.now.texts.now result }
-    ensures value { cell_value row.now.texts.now result ≡ operand_value (row_values row.now) operand.now }
+    ensures value { cell_value row.now.texts.now result
+        ≡ operand_value (row_values row.now) operand.now }
 {
     match operand {
         Operand::Column(column) => column_cell(*column, row),
@@ -59,7 +60,8 @@ fn operand_cell<'a>(operand: &'a Operand, row: &Row<'_>) -> Cell<'a>
 pub(crate) fn compare(op: Op, left: &Operand, right: &Operand, row: &Row<'_>) -> Truth
     requires row { IsRow row.now }
     requires operands { AreOperands row.now.columns.now left.now right.now }
-    ensures { result ≡ comparison op (operand_value (row_values row.now) left.now) (operand_value (row_values row.now) right.now) }
+    ensures { let value = operand_value (row_values row.now) in
+        result ≡ comparison op (value left.now) (value right.now) }
 {
     compare_cells(
         op,
@@ -75,7 +77,8 @@ pub(crate) fn between(of: &Operand, low: &Operand, high: &Operand, row: &Row<'_>
     requires low { AreOperands row.now.columns.now of.now low.now }
     requires high { AreOperands row.now.columns.now of.now high.now }
     ensures { let value = operand_value (row_values row.now) in
-        result ≡ truth_and (comparison Ge (value of.now) (value low.now)) (comparison Le (value of.now) (value high.now)) }
+        result ≡ truth_and (comparison Ge (value of.now) (value low.now))
+        (comparison Le (value of.now) (value high.now)) }
 {
     let above = compare(Op::Ge, of, low, row);
     if above == Truth::False {
@@ -89,7 +92,8 @@ pub(crate) fn one_of(of: &Operand, operands: &[Operand], row: &Row<'_>) -> Truth
     requires row { IsRow row.now }
     requires of { IsOperand row.now.columns.now of.now }
     requires operands { All (AreOperands row.now.columns.now of.now) operands.now }
-    ensures { result ≡ one_of (row_values row.now) (operand_value (row_values row.now) of.now) operands.now }
+    ensures { let values = row_values row.now in
+        result ≡ one_of values (operand_value values of.now) operands.now }
 {
     let mut found = Truth::False;
     for operand in operands {
