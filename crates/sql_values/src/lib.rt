@@ -1,6 +1,6 @@
 //! The values of SQL as every layer above passes them: texts, values and their order, the columns of a table, the
-//! operators that compare values, and the dictionary in which a text is a place. The limits of the whole product stand
-//! here too, each figure once, under their names.
+//! operators that compare values, three-valued truth, and the dictionary in which a text is a place. The limits of the
+//! whole product stand here too, each figure once, under their names.
 //! It promises that a `Text` is exactly the bytes that it was made from, that `order` is total and finds only the same
 //! value equal, and that a dictionary is a list of different texts, which a refusal leaves as it was.
 //! It never looks at what the bytes of a text mean (they need not be UTF-8), never knows a table by name, and never tests
@@ -35,6 +35,7 @@ pub use value_order::{order, order_is_total};
 #[cfg(test)]
 mod tests {
     use super::*;
+    use std::cmp::Ordering;
     use std::test::Fail;
 
     #[test]
@@ -117,6 +118,64 @@ mod tests {
             for (j, y) in ascending.iter().enumerate() {
                 assert!(rt; order(x, y) == i.cmp(&j));
             }
+        }
+        Ok(())
+    }
+
+    const TRUTHS: [Truth; 3] = [Truth::True, Truth::False, Truth::Unknown];
+
+    // What AND and OR make of each two of these, in that order.
+    const BOTH: [[Truth; 3]; 3] = [
+        [Truth::True, Truth::False, Truth::Unknown],
+        [Truth::False, Truth::False, Truth::False],
+        [Truth::Unknown, Truth::False, Truth::Unknown],
+    ];
+
+    const EITHER: [[Truth; 3]; 3] = [
+        [Truth::True, Truth::True, Truth::True],
+        [Truth::True, Truth::False, Truth::Unknown],
+        [Truth::True, Truth::Unknown, Truth::Unknown],
+    ];
+
+    const NEITHER: [Truth; 3] = [Truth::False, Truth::True, Truth::Unknown];
+
+    #[test]
+    fn truth_has_three_values(rt: HostRuntime) {
+        for (i, a) in TRUTHS.iter().enumerate() {
+            assert!(rt; not(*a) == NEITHER[i]);
+            for (j, b) in TRUTHS.iter().enumerate() {
+                assert!(rt; and(*a, *b) == BOTH[i][j]);
+                assert!(rt; or(*a, *b) == EITHER[i][j]);
+            }
+        }
+        assert!(rt; certain(1 < 2) == Truth::True);
+        assert!(rt; certain(2 < 1) == Truth::False);
+    }
+
+    const OPS: [Op; 6] = [Op::Eq, Op::Ne, Op::Lt, Op::Le, Op::Gt, Op::Ge];
+
+    // Whether these hold of two values of which the first is less, the same, greater.
+    const HOLD: [[bool; 6]; 3] = [
+        [false, true, true, true, false, false],
+        [true, false, false, true, false, true],
+        [false, true, false, false, true, true],
+    ];
+
+    #[test]
+    fn operators_compare(rt: HostRuntime) -> Result<(), Fail> {
+        let small = Value::Text(Text::new(rt.alloc(), b"a")?);
+        let large = Value::Text(Text::new(rt.alloc(), b"a b")?);
+        let orders = [Ordering::Less, Ordering::Equal, Ordering::Greater];
+        for (i, op) in OPS.iter().enumerate() {
+            for (j, order) in orders.iter().enumerate() {
+                assert!(rt; holds(*op, *order) == HOLD[j][i]);
+            }
+            assert!(rt; compare(*op, &Value::Int(-9), &Value::Int(1)) == certain(HOLD[0][i]));
+            assert!(rt; compare(*op, &large, &large) == certain(HOLD[1][i]));
+            assert!(rt; compare(*op, &large, &small) == certain(HOLD[2][i]));
+            assert!(rt; compare(*op, &Value::Null, &Value::Null) == Truth::Unknown);
+            assert!(rt; compare(*op, &Value::Int(0), &Value::Null) == Truth::Unknown);
+            assert!(rt; compare(*op, &Value::Null, &small) == Truth::Unknown);
         }
         Ok(())
     }
