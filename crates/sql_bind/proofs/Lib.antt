@@ -1,0 +1,10 @@
+pub mod Found
+pub mod Faults
+pub mod Chains
+pub mod Joined
+pub mod Collected
+pub mod Columns
+pub mod Counts
+pub mod Relations
+pub mod Blocks
+pub mod Whole

@@ -1,0 +1,116 @@
+-- The parts of a query, put together, are its block, which fits the database.
+use Rattle.std.proofs.Common.{◌≡◌, ◌∙◌, ℕ, ◌+◌, ◌<◌, List, [], ◌∷◌, ◌++◌, Option, Some, None, All, length, map, replicate, refl, sym, ap, arith, subst}
+use Rattle.std.proofs.lemmas.List.{length-map, length-replicate}
+use Rattle.std.proofs.lemmas.List.Elements.{All-nil, All-cons, All-contains_itself}
+use Rattle.std.proofs.lemmas.List.Quantifiers.{position-Some}
+use Rattle.std.specs.Option.{option_or}
+use Rattle.std.specs.Prelude.{unwrap_or}
+use Rattle.std.specs.Str.{bytes_eq}
+use Rattle.sql_values.specs.Stored.{StoredTable}
+use Rattle.sql_values.specs.declared.limit.LimitName.TheVariants as limit
+use Rattle.sql_values.specs.Limits.{max_relations, max_axes}
+use Rattle.query_block.specs.declared.edge.Edge.{Edge}
+use Rattle.query_block.specs.declared.edge.ColumnAt.{ColumnAt}
+use Rattle.query_block.specs.Conditions.{FilterTree}
+use Rattle.query_block.specs.Blocks.{RelationTree, BlockTree}
+use Rattle.sql_parse.specs.declared.tree.Item.{Item}
+use Rattle.sql_parse.specs.Trees.{ConditionTree, QueryTree}
+use Rattle.db_catalog.specs.Database.{DatabaseState, table_number}
+use Rattle.db_catalog.specs.Fits.{FitsTable, Fits}
+use Rattle.sql_bind.specs.declared.conjuncts.Parts.{Parts}
+use Rattle.sql_bind.specs.declared.fault.BindFault.{BindFault}
+use Rattle.sql_bind.specs.Named.{NamedTable}
+use Rattle.sql_bind.specs.Binding.{named_table, named_tables, table_fault, alias_fault, from_fault, relation_with, relations_from, filter_of, block_of, conjuncts_in, projection_of, edges_of, past, projection_fault, condition_fault, bind_fault}
+use Rattle.sql_bind.specs.Collected.{HasParts, filter_trees, more_filters, with_filters}
+use Rattle.sql_bind.proofs.Collected.{trees-count}
+use Rattle.sql_bind.proofs.Relations.{relations-of_parts}
+
+-- checks of which none refuses
+pub none_of : (a b : Option BindFault) → a ≡ None → b ≡ None → option_or a b ≡ None
+none_of a b first second = ap (λ o. option_or o b) first ∙ second
+
+neither : (a b : Option BindFault) → option_or a b ≡ None → (a ≡ None) × (b ≡ None)
+neither None b none = (refl, none)
+neither (Some fault) b none = cc
+
+abbrev name_of : StoredTable → List ℕ
+name_of table = table.name
+
+-- a table that the database has is one of its tables
+table-there : (database : DatabaseState) (item : Item) → table_fault item (table_number database item.table) ≡ None → (named_table database item).number < length database.tables
+table-there database item none = by (table_number database item.table) refl none
+  where
+    by : (found : Option ℕ) → table_number database item.table ≡ found → table_fault item found ≡ None → unwrap_or found 0 < length database.tables
+    by None is none = cc
+    by (Some number) is none =
+        let names = map name_of database.tables in
+        omega (arith, (position-Some (bytes_eq item.table) names number [] is).0, length-map database.tables name_of)
+
+tables-fit : (database : DatabaseState) (tables : List NamedTable) (parts : List ConditionTree) (relation : ℕ) (before : List (List ℕ)) (items : List Item) → from_fault database before items ≡ None
+    → All (FitsTable database) (relations_from tables parts relation (named_tables database items))
+tables-fit database tables parts relation before [] none = All-nil (FitsTable database)
+tables-fit database tables parts relation before (item ∷ items) none =
+    let first = neither (table_fault item (table_number database item.table)) (option_or (alias_fault before item) (from_fault database (before ++ item.alias ∷ []) items)) none in
+    let rest = neither (alias_fault before item) (from_fault database (before ++ item.alias ∷ []) items) first.1 in
+    let table = named_table database item in
+    All-cons (FitsTable database) (relation_with table (filter_of tables parts relation)) (relations_from tables parts (relation + 1) (named_tables database items))
+    (record { there = table-there database item first.0; columns = refl; indexes = All-contains_itself table.indexed })
+    (tables-fit database tables parts (relation + 1) (before ++ item.alias ∷ []) items rest.1)
+
+pub block-fits : (database : DatabaseState) (query : QueryTree) → from_fault database [] query.from ≡ None → Fits database (block_of database query)
+block-fits database query none = tables-fit database (named_tables database query.from) (conjuncts_in query.condition) 0 [] query.from none
+
+filters-count : (tables : List NamedTable) (parts : List ConditionTree) (relation : ℕ) (filters : List (List FilterTree)) → length (more_filters tables parts relation filters) ≡ length filters
+filters-count tables parts relation [] = refl
+filters-count tables parts relation (filter ∷ filters) = omega (arith, filters-count tables parts (relation + 1) filters)
+
+-- there is a filter for each table
+pub one_filter_each : (tables : List NamedTable) (conjuncts : List ConditionTree) (parts : Parts) → HasParts tables conjuncts parts → length parts.filters.items ≡ length tables
+one_filter_each tables conjuncts parts has =
+    sym (trees-count parts.filters.items) ∙ ap length has.filters ∙ filters-count tables conjuncts 0 (replicate (length tables) []) ∙ length-replicate (length tables) []
+
+pub same_block : (relations other : List RelationTree) (edges edges' : List Edge) (projection projection' : List ColumnAt) → relations ≡ other → edges ≡ edges' → projection ≡ projection'
+    → (let block : BlockTree = record { relations = relations; edges = edges; projection = projection } in block) ≡ record { relations = other; edges = edges'; projection = projection' }
+same_block relations other edges edges' projection projection' same_relations same_edges same_projection =
+    ap (λ r. record { relations = r; edges = edges; projection = projection }) same_relations
+    ∙ ap (λ e. record { relations = other; edges = e; projection = projection }) same_edges
+    ∙ ap (λ p. record { relations = other; edges = edges'; projection = p }) same_projection
+
+-- the parts, put together
+pub assembled : (database : DatabaseState) (query : QueryTree) (tables : List NamedTable) (parts : Parts) (relations : List RelationTree) (projection : List ColumnAt)
+    → tables ≡ named_tables database query.from → HasParts tables (conjuncts_in query.condition) parts → relations ≡ with_filters tables (filter_trees parts.filters.items)
+    → projection ≡ projection_of tables query.columns
+    → (let block : BlockTree = record { relations = relations; edges = parts.edges.items; projection = projection } in block) ≡ block_of database query
+assembled database query tables parts relations projection is has made asked =
+    let conjuncts = conjuncts_in query.condition in
+    let blocks : List NamedTable → BlockTree = λ some. record { relations = relations_from some conjuncts 0 some; edges = edges_of some conjuncts; projection = projection_of some query.columns } in
+    same_block relations (relations_from tables conjuncts 0 tables) parts.edges.items (edges_of tables conjuncts) projection (projection_of tables query.columns)
+    (made ∙ ap (with_filters tables) has.filters ∙ relations-of_parts tables conjuncts 0 tables) has.edges asked
+    ∙ ap blocks is
+
+-- the same of tables that were lent
+pub assembled-lent : (database : DatabaseState) (query : QueryTree) (from : List Item) (tables one two three : List NamedTable) (parts : Parts) (relations : List RelationTree) (projection : List ColumnAt)
+    → from ≡ query.from → tables ≡ named_tables database from → one ≡ tables → two ≡ tables → three ≡ tables → HasParts two (conjuncts_in query.condition) parts
+    → relations ≡ with_filters three (filter_trees parts.filters.items) → projection ≡ projection_of one query.columns
+    → (let block : BlockTree = record { relations = relations; edges = parts.edges.items; projection = projection } in block) ≡ block_of database query
+assembled-lent database query from tables one two three parts relations projection items is first second third has made asked =
+    assembled database query tables parts relations projection (is ∙ ap (named_tables database) items)
+    (subst (λ some. HasParts some (conjuncts_in query.condition) parts) second has)
+    (made ∙ ap (λ some. with_filters some (filter_trees parts.filters.items)) third)
+    (asked ∙ ap (λ some. projection_of some query.columns) first)
+
+-- none of the checks refused
+pub unrefused : (database : DatabaseState) (query : QueryTree) (from : List Item) (tables one two : List NamedTable) (parts : Parts) (edges : ℕ)
+    → from ≡ query.from → tables ≡ named_tables database from → one ≡ tables → two ≡ tables → HasParts two (conjuncts_in query.condition) parts → edges ≡ length parts.edges.items
+    → past limit.Relations max_relations (length from) ≡ None → from_fault database [] from ≡ None → projection_fault one query.columns ≡ None → condition_fault two query.condition ≡ None
+    → past limit.Axes max_axes edges ≡ None → bind_fault database query ≡ None
+unrefused database query from tables one two parts edges items is first second has count few from_none projection_none condition_none axes_none =
+    let named = is ∙ ap (named_tables database) items in
+    let conjuncts = conjuncts_in query.condition in
+    let edges_are : edges ≡ length (edges_of (named_tables database query.from) conjuncts) =
+    count ∙ ap length has.edges ∙ ap (λ some. length (edges_of some conjuncts)) (second ∙ named) in
+    none_of _ _ (ap (λ some. past limit.Relations max_relations (length some)) (sym items) ∙ few)
+    (none_of _ _ (ap (from_fault database []) (sym items) ∙ from_none)
+    (none_of _ _ (ap (λ some. projection_fault some query.columns) (sym (first ∙ named)) ∙ projection_none)
+    (none_of _ _ (ap (λ some. condition_fault some query.condition) (sym (second ∙ named)) ∙ condition_none)
+    (ap (past limit.Axes max_axes) (sym edges_are) ∙ axes_none))))

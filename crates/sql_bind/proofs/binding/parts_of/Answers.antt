@@ -1,0 +1,8 @@
+use Rattle.std.proofs.Common.{arith}
+use Rattle.sql_parse.specs.Trees.{condition_tree}
+use Rattle.sql_bind.proofs.Counts.{conjuncts-few}
+use Rattle.sql_bind.proofs.binding.parts_of.Goals as goal
+
+pub add_conjuncts-requires-clause-counted : goal.add_conjuncts-requires-clause-counted
+add_conjuncts-requires-clause-counted c =
+    omega (arith, conjuncts-few (condition_tree c.args.condition.now) c.requires.well_formed, c.requires.counted)

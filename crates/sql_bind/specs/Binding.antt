@@ -1,0 +1,135 @@
+-- The block of a query, and what refuses it: the first check that fails, in this order.
+use Rattle.std.specs.Prelude.{ℕ, ◌+◌, Bool, nat_lt, List, [], ◌∷◌, ◌++◌, filter, length, map, Option, Some, None, if◌then◌else◌, unwrap_or}
+use Rattle.std.specs.List.{filter_map}
+use Rattle.std.specs.Option.{option_or}
+use Rattle.sql_values.specs.declared.limit.LimitName.{LimitName}
+use Rattle.sql_values.specs.declared.limit.LimitName.TheVariants as limit
+use Rattle.sql_values.specs.declared.column.ColumnDef.{ColumnDef}
+use Rattle.sql_values.specs.Dictionary.{has_text}
+use Rattle.sql_values.specs.Limits.{max_relations, max_projection, max_axes}
+use Rattle.query_block.specs.declared.edge.ColumnAt.{ColumnAt}
+use Rattle.query_block.specs.declared.edge.Edge.{Edge}
+use Rattle.query_block.specs.Conditions.{FilterTree}
+use Rattle.query_block.specs.Blocks.{RelationTree, BlockTree}
+use Rattle.sql_parse.specs.declared.tree.ColRef.{ColRef}
+use Rattle.sql_parse.specs.declared.tree.Item.{Item}
+use Rattle.sql_parse.specs.Trees.{ConditionTree, QueryTree}
+use Rattle.db_catalog.specs.Database.{DatabaseState, table_at, table_number}
+use Rattle.sql_bind.specs.declared.fault.BindFault.{BindFault}
+use Rattle.sql_bind.specs.declared.fault.BindFault.TheVariants.{UnknownTable, DuplicateAlias, Limit}
+use Rattle.sql_bind.specs.Named.{NamedTable}
+use Rattle.sql_bind.specs.Names.{place_of, columns_fault}
+use Rattle.sql_bind.specs.Predicates.{predicates_fault}
+use Rattle.sql_bind.specs.Conjuncts.{conjuncts, reach_of, filtered, is_relation, edge_of, conjuncts_fault, bound_condition}
+
+-- a table of FROM, where the database has it
+abbrev pub named_table : DatabaseState → Item → NamedTable
+named_table database item =
+    let number = unwrap_or (table_number database item.table) 0 in
+    let table = table_at database number in
+    record { alias = item.alias; number = number; columns = table.columns; indexed = table.indexed }
+
+abbrev pub named_tables : DatabaseState → List Item → List NamedTable
+named_tables database items = map (named_table database) items
+
+-- a number past its limit
+abbrev pub past : LimitName → ℕ → ℕ → Option BindFault
+past name most value = if nat_lt most value then Some (Limit name value) else None
+
+-- the database has the table
+abbrev pub table_fault : Item → Option ℕ → Option BindFault
+table_fault item None = Some (UnknownTable item.table)
+table_fault item (Some number) = None
+
+-- no table before has the alias
+abbrev pub alias_fault : List (List ℕ) → Item → Option BindFault
+alias_fault before item = if has_text before item.alias then Some (DuplicateAlias item.alias) else None
+
+-- the tables of FROM from left to right, behind those of these aliases
+abbrev pub from_fault : DatabaseState → List (List ℕ) → List Item → Option BindFault
+from_fault database before [] = None
+from_fault database before (item ∷ items) =
+    option_or (table_fault item (table_number database item.table))
+    (option_or (alias_fault before item) (from_fault database (before ++ item.alias ∷ []) items))
+
+-- the columns that SELECT names: how many, then each from left to right
+abbrev pub projection_fault : List NamedTable → Option (List ColRef) → Option BindFault
+projection_fault tables None = None
+projection_fault tables (Some columns) =
+    option_or (past limit.Projection max_projection (length columns)) (columns_fault tables columns)
+
+-- the conjuncts of WHERE; without WHERE there are none
+abbrev pub conjuncts_in : Option ConditionTree → List ConditionTree
+conjuncts_in None = []
+conjuncts_in (Some condition) = conjuncts condition
+
+-- the condition of WHERE: its predicates, then its conjuncts, each numbered from 1
+abbrev pub condition_fault : List NamedTable → Option ConditionTree → Option BindFault
+condition_fault tables None = None
+condition_fault tables (Some condition) =
+    option_or (predicates_fault tables 1 condition) (conjuncts_fault tables 1 condition)
+
+-- the edges among conjuncts, in written order
+abbrev pub edges_of : List NamedTable → List ConditionTree → List Edge
+edges_of tables parts = filter_map (edge_of tables) parts
+
+-- whether a conjunct is a filter of this relation
+abbrev pub is_filter_of : List NamedTable → ℕ → ConditionTree → Bool
+is_filter_of tables relation conjunct = is_relation relation (filtered (reach_of tables conjunct))
+
+-- the filter of a relation: its conjuncts, in written order
+abbrev pub filter_of : List NamedTable → List ConditionTree → ℕ → List FilterTree
+filter_of tables parts relation = map (bound_condition tables) (filter (is_filter_of tables relation) parts)
+
+-- every column of a relation, of which the first has this number
+abbrev pub columns_from : (relation number : ℕ) → List ColumnDef → List ColumnAt
+columns_from relation number [] = []
+columns_from relation number (column ∷ columns) =
+    record { relation = relation; column = number } ∷ columns_from relation (number + 1) columns
+
+-- every column of tables, of which the first is this relation
+abbrev pub every_column : (relation : ℕ) → List NamedTable → List ColumnAt
+every_column relation [] = []
+every_column relation (table ∷ tables) = columns_from relation 0 table.columns ++ every_column (relation + 1) tables
+
+-- the columns that SELECT asks for: those named, or every column in order
+abbrev pub projection_of : List NamedTable → Option (List ColRef) → List ColumnAt
+projection_of tables None = every_column 0 tables
+projection_of tables (Some columns) = map (place_of tables) columns
+
+-- a table of FROM with its filter
+abbrev pub relation_with : NamedTable → List FilterTree → RelationTree
+relation_with table filter = record {
+  table = table.number;
+  columns = map (λ column. column.kind) table.columns;
+  filter = filter;
+  indexes = table.indexed;
+}
+
+-- the relations of a block, of which the first is this one
+abbrev pub relations_from : List NamedTable → List ConditionTree → (relation : ℕ) → List NamedTable → List RelationTree
+relations_from tables parts relation [] = []
+relations_from tables parts relation (table ∷ rest) =
+    relation_with table (filter_of tables parts relation) ∷ relations_from tables parts (relation + 1) rest
+
+-- the block of a query that nothing refuses
+abbrev pub block_of : DatabaseState → QueryTree → BlockTree
+block_of database query =
+    let tables = named_tables database query.from in
+    let parts = conjuncts_in query.condition in
+    record {
+      relations = relations_from tables parts 0 tables;
+      edges = edges_of tables parts;
+      projection = projection_of tables query.columns;
+    }
+
+-- what refuses a query: how many tables FROM has, each of them, the columns that SELECT names, the condition of WHERE,
+-- and how many edges it has
+abbrev pub bind_fault : DatabaseState → QueryTree → Option BindFault
+bind_fault database query =
+    let tables = named_tables database query.from in
+    option_or (past limit.Relations max_relations (length query.from))
+    (option_or (from_fault database [] query.from)
+    (option_or (projection_fault tables query.columns)
+    (option_or (condition_fault tables query.condition)
+    (past limit.Axes max_axes (length (edges_of tables (conjuncts_in query.condition)))))))

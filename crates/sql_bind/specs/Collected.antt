@@ -1,0 +1,43 @@
+-- What the conjuncts so far come to: a filter for each relation, and the edges.
+use Rattle.std.specs.Prelude.{◌≡◌, ℕ, zero, suc, ◌+◌, List, [], ◌∷◌, ◌++◌, length, map, replicate}
+use Rattle.query_block.specs.declared.condition.Condition.{Condition}
+use Rattle.query_block.specs.Conditions.{FilterTree, filter_tree}
+use Rattle.std.specs.declared.alloc.Global.{Global}
+use Rattle.std.specs.declared.vec.Vec.{Vec}
+use Rattle.sql_parse.specs.Trees.{ConditionTree}
+use Rattle.sql_bind.specs.declared.conjuncts.Parts.{Parts}
+use Rattle.sql_bind.specs.Named.{NamedTable}
+use Rattle.query_block.specs.Blocks.{RelationTree}
+use Rattle.sql_bind.specs.Binding.{edges_of, filter_of, relation_with}
+
+-- the trees of a filter for each relation
+abbrev pub filter_trees : List (Vec Condition Global) → List (List FilterTree)
+filter_trees filters = map (λ filter. map filter_tree filter.items) filters
+
+-- the filters with those of more conjuncts behind, where the first is that of this relation
+abbrev pub more_filters : List NamedTable → List ConditionTree → (relation : ℕ) → List (List FilterTree) → List (List FilterTree)
+more_filters tables conjuncts relation [] = []
+more_filters tables conjuncts relation (filter ∷ filters) =
+    (filter ++ filter_of tables conjuncts relation) ∷ more_filters tables conjuncts (relation + 1) filters
+
+-- a condition behind the filter of a relation, if there is such a relation
+abbrev pub with_condition : ℕ → FilterTree → List (List FilterTree) → List (List FilterTree)
+with_condition relation condition [] = []
+with_condition zero condition (filter ∷ filters) = (filter ++ condition ∷ []) ∷ filters
+with_condition (suc relation) condition (filter ∷ filters) = filter ∷ with_condition relation condition filters
+
+-- the parts with those of more conjuncts behind
+pub record Adds (tables : List NamedTable) (conjuncts : List ConditionTree) (old new : Parts) : Type 0 where
+  pub edges : new.edges.items ≡ old.edges.items ++ edges_of tables conjuncts
+  pub filters : filter_trees new.filters.items ≡ more_filters tables conjuncts 0 (filter_trees old.filters.items)
+
+-- the relations of tables with these filters
+abbrev pub with_filters : List NamedTable → List (List FilterTree) → List RelationTree
+with_filters [] filters = []
+with_filters (table ∷ tables) [] = []
+with_filters (table ∷ tables) (filter ∷ filters) = relation_with table filter ∷ with_filters tables filters
+
+-- the parts of these conjuncts alone
+pub record HasParts (tables : List NamedTable) (conjuncts : List ConditionTree) (parts : Parts) : Type 0 where
+  pub edges : parts.edges.items ≡ edges_of tables conjuncts
+  pub filters : filter_trees parts.filters.items ≡ more_filters tables conjuncts 0 (replicate (length tables) [])

@@ -1,0 +1,7 @@
+pub mod Named
+pub mod Names
+pub mod Predicates
+pub mod Conjuncts
+pub mod Binding
+pub mod Refused
+pub mod Collected

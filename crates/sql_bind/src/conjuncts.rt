@@ -1,0 +1,177 @@
+// The conjuncts of WHERE: each becomes part of a filter, or an edge.
+ghost use Rattle.std.specs.Prelude.{◌≡◌, ◌≤◌, ◌<◌, ◌+◌, ◌^◌, [], ◌∷◌, ◌++◌, All, IfOk, OnOk, length, map, slice_index_or, slice_set};
+ghost use Rattle.sql_values.specs.Limits.{max_relations, max_columns};
+ghost use Rattle.query_block.specs.Conditions.{filter_tree};
+ghost use Rattle.sql_parse.specs.Trees.{condition_tree, operands};
+ghost use Rattle.sql_bind.specs.Names.{first_fault};
+ghost use Rattle.sql_bind.specs.Conjuncts.{conjuncts, conjuncts_of_all, conjunct_fault, conjuncts_fault, edge_between, equality_between, equality_of};
+ghost use Rattle.sql_bind.specs.Collected.{Adds, filter_trees, with_condition};
+ghost use Rattle.sql_bind.specs.Refused.{Refuses};
+
+use crate::bound::bound_condition;
+use crate::fault::BindFault;
+use crate::names::{NamedTable, place_of};
+use crate::reach::{Reach, reach_of};
+use query_block::{ColumnAt, Condition, Edge};
+use sql_parse::{Cond, Term};
+use sql_values::Op;
+use std::alloc::{AllocError, Global};
+
+/// What the conjuncts so far come to.
+#[derive(Drop)]
+pub(crate) struct Parts {
+    /// The filter of each relation, in FROM order.
+    pub(crate) filters: Vec<Vec<Condition>>,
+    /// The edges, in written order.
+    pub(crate) edges: Vec<Edge>,
+}
+
+// The edge between two columns.
+fn edge_between(a: ColumnAt, b: ColumnAt) -> Edge
+    ensures { result ≡ edge_between a b }
+{
+    let (left, right) = if a.relation < b.relation {
+        (a, b)
+    } else {
+        (b, a)
+    };
+    Edge {
+        left: left.relation,
+        left_column: left.column,
+        right: right.relation,
+        right_column: right.column,
+    }
+}
+
+// The edge that a conjunct is where it is an equality of two columns of different relations.
+fn equality_of(tables: &[NamedTable<'_>], conjunct: &Cond) -> Option<Edge>
+    requires few { length tables.now ≤ max_relations }
+    requires narrow { All (λ table. length table.columns ≤ max_columns) tables.now }
+    ensures { result ≡ equality_of tables.now (condition_tree conjunct.now) }
+{
+    match conjunct {
+        Cond::Compare(op, left, right) => equality_between(tables, *op, left, right),
+        _ => None,
+    }
+}
+
+// The same of a comparison.
+fn equality_between(tables: &[NamedTable<'_>], op: Op, left: &Term, right: &Term) -> Option<Edge>
+    requires few { length tables.now ≤ max_relations }
+    requires narrow { All (λ table. length table.columns ≤ max_columns) tables.now }
+    ensures { result ≡ equality_between tables.now op left.now right.now }
+{
+    match op {
+        Op::Eq => match left {
+            Term::Column(left) => match right {
+                Term::Column(right) => {
+                    Some(edge_between(place_of(tables, left), place_of(tables, right)))
+                }
+                Term::Literal(_) => None,
+            },
+            Term::Literal(_) => None,
+        },
+        _ => None,
+    }
+}
+
+// Puts a condition behind the filter of a relation, if there is such a relation.
+fn push_filter(
+    filters: &mut Vec<Vec<Condition>>,
+    relation: u8,
+    condition: Condition,
+) -> Result<(), AllocError>
+    ensures { OnOk result (filter_trees filters.new.items
+        ≡ with_condition relation (filter_tree condition) (filter_trees filters.old.items)) }
+{
+    let at = relation as usize;
+    if at < filters.len() {
+        filters[at].push(condition)?;
+    }
+    Ok(())
+}
+
+// Adds a conjunct of this number.
+fn add_conjunct(
+    alloc: Global,
+    tables: &[NamedTable<'_>],
+    conjunct: &Cond,
+    number: u32,
+    parts: &mut Parts,
+) -> Result<(), BindFault>
+    requires few { length tables.now ≤ max_relations }
+    requires narrow { All (λ table. length table.columns ≤ max_columns) tables.now }
+    ensures refuses { Refuses (conjunct_fault tables.now number (condition_tree conjunct.now)) result }
+    ensures added { OnOk result
+        (Adds tables.now (condition_tree conjunct.now ∷ []) parts.old parts.new) }
+{
+    match reach_of(tables, conjunct) {
+        Reach::Nothing => Err(BindFault::PredicateForm { conjunct: number }),
+        Reach::One(relation) => {
+            let condition = bound_condition(alloc, tables, conjunct)?;
+            push_filter(&mut parts.filters, relation, condition)?;
+            Ok(())
+        }
+        Reach::Several => match equality_of(tables, conjunct) {
+            Some(edge) => {
+                parts.edges.push(edge)?;
+                Ok(())
+            }
+            None => Err(BindFault::PredicateForm { conjunct: number }),
+        },
+    }
+}
+
+/// Adds the conjuncts of a condition, of which the first has this number. Returned is the number behind the last one.
+#[cycle(conjuncts)]
+pub(crate) fn add_conjuncts(
+    alloc: Global,
+    tables: &[NamedTable<'_>],
+    condition: &Cond,
+    number: u64,
+    parts: &mut Parts,
+) -> Result<u64, BindFault>
+    requires few { length tables.now ≤ max_relations }
+    requires narrow { All (λ table. length table.columns ≤ max_columns) tables.now }
+    requires counted { number + length (conjuncts (condition_tree condition.now)) ≤ 2 ^ 32 }
+    ensures refuses { Refuses (conjuncts_fault tables.now number (condition_tree condition.now)) result }
+    ensures added { OnOk result
+        (Adds tables.now (conjuncts (condition_tree condition.now)) parts.old parts.new) }
+    ensures next { IfOk result
+        (λ next. next ≡ number + length (conjuncts (condition_tree condition.now))) }
+{
+    match condition {
+        Cond::And(chain) => add_all(alloc, tables, chain.as_slice(), number, parts),
+        _ => {
+            add_conjunct(alloc, tables, condition, number as u32, parts)?;
+            Ok(number + 1)
+        }
+    }
+}
+
+// The same of the operands of a chain of AND.
+#[cycle(conjuncts)]
+fn add_all(
+    alloc: Global,
+    tables: &[NamedTable<'_>],
+    chain: &[Cond],
+    number: u64,
+    parts: &mut Parts,
+) -> Result<u64, BindFault>
+    requires few { length tables.now ≤ max_relations }
+    requires narrow { All (λ table. length table.columns ≤ max_columns) tables.now }
+    requires counted { number
+        + length (conjuncts_of_all (operands (map condition_tree chain.now))) ≤ 2 ^ 32 }
+    ensures refuses { Refuses (first_fault (conjunct_fault tables.now) number
+        (conjuncts_of_all (operands (map condition_tree chain.now)))) result }
+    ensures added { OnOk result (Adds tables.now
+        (conjuncts_of_all (operands (map condition_tree chain.now))) parts.old parts.new) }
+    ensures next { IfOk result (λ next. next
+        ≡ number + length (conjuncts_of_all (operands (map condition_tree chain.now)))) }
+{
+    let mut next = number;
+    for i in 0..chain.len() {
+        next = add_conjuncts(alloc, tables, &chain[i], next, parts)?;
+    }
+    Ok(next)
+}

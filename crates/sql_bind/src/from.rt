@@ -1,0 +1,103 @@
+// The tables of FROM, and the columns that SELECT names.
+ghost use Rattle.std.specs.Prelude.{◌≡◌, ◌≢◌, ◌≤◌, ◌<◌, ◌++◌, ◌∷◌, [], All, IfOk, length, map, drop};
+ghost use Rattle.sql_values.specs.Limits.{max_relations, max_columns};
+ghost use Rattle.sql_values.specs.Dictionary.{has_text};
+ghost use Rattle.db_catalog.specs.Database.{table_number};
+ghost use Rattle.sql_bind.specs.Names.{columns_fault, place_of};
+ghost use Rattle.sql_bind.specs.Binding.{named_table, named_tables, past, table_fault, alias_fault, from_fault};
+ghost use Rattle.sql_bind.specs.Binding.{projection_fault, projection_of, every_column};
+ghost use Rattle.sql_bind.specs.Refused.{Refuses, IsNamed};
+
+use crate::fault::BindFault;
+use crate::names::{NamedTable, check_column, place_of};
+use db_catalog::Database;
+use query_block::ColumnAt;
+use sql_parse::{ColRef, Item, Name};
+use sql_values::{LimitName, MAX_PROJECTION, Sequence};
+use std::alloc::{AllocError, Global};
+
+/// Refuses a number past its limit.
+pub(crate) fn check_limit(name: LimitName, most: usize, value: usize) -> Result<(), BindFault>
+    ensures { Refuses (past name most value) result }
+{
+    if value > most {
+        return Err(BindFault::Limit {
+            name,
+            value: value as u128,
+        });
+    }
+    Ok(())
+}
+
+// The refusal of a table that the database doesn't have.
+fn unknown_table(name: &Name) -> BindFault
+    ensures { result ≢ BindFault.NoMemory → result ≡ BindFault.UnknownTable name.now }
+{
+    match name.clone() {
+        Ok(name) => BindFault::UnknownTable { name },
+        Err(_) => BindFault::NoMemory,
+    }
+}
+
+// The refusal of an alias that stands before.
+fn duplicate_alias(name: &Name) -> BindFault
+    ensures { result ≢ BindFault.NoMemory → result ≡ BindFault.DuplicateAlias name.now }
+{
+    match name.clone() {
+        Ok(name) => BindFault::DuplicateAlias { name },
+        Err(_) => BindFault::NoMemory,
+    }
+}
+
+// Whether one of these items has the alias.
+fn has_alias(items: &[Item], alias: &Name) -> bool
+    ensures { result ≡ has_text (map (λ item. item.alias) items.now) alias.now }
+{
+    for i in 0..items.len() {
+        if alias.bytes() == items[i].alias.bytes() {
+            return true;
+        }
+    }
+    false
+}
+
+// The number of an item's table.
+fn number_of(database: &Database, item: &Item) -> Result<u32, BindFault>
+    ensures refuses { Refuses
+        (table_fault item.now (table_number database.now item.now.table)) result }
+    ensures number { IfOk result
+        (λ number. table_number database.now item.now.table ≡ Some number) }
+{
+    match database.table_of(item.table.bytes()) {
+        Some(number) => Ok(number),
+        None => Err(unknown_table(&item.table)),
+    }
+}
+
+// The tables of FROM, of which there are few.
+pub(crate) fn named_tables<'q>(
+    alloc: Global,
+    database: &'q Database,
+    items: &'q [Item],
+) -> Result<Vec<NamedTable<'q>>, BindFault>
+    ensures refuses { Refuses (from_fault database.now [] items.now) result }
+    ensures tables { IfOk result (λ tables. tables.items ≡ named_tables database.now items.now) }
+    ensures named { IfOk result (λ tables. All IsNamed tables.items) }
+    ensures narrow { IfOk result
+        (λ tables. All (λ table. length table.columns ≤ max_columns) tables.items) }
+{
+    let mut tables = Vec::with_capacity(alloc, items.len())?;
+    for i in 0..items.len() {
+        let number = number_of(database, &items[i])?;
+        if has_alias(&items[..i], &items[i].alias) {
+            return Err(duplicate_alias(&items[i].alias));
+        }
+        tables.push(NamedTable {
+            alias: items[i].alias.bytes(),
+            number,
+            columns: database.columns(number),
+            indexed: database.indexes(number),
+        })?;
+    }
+    Ok(tables)
+}

@@ -1,0 +1,18 @@
+//! From a query to its block: names become numbers, the conjuncts of WHERE become filters and edges.
+//! To the layer above it promises exactly the block of the definitions, which fits the database, or the first check that
+//! fails, in their order; out of memory is its only other refusal.
+//! It never reads a row, and changes neither the database nor the query.
+#![tactic(auto)]
+
+mod binding;
+mod bound;
+mod conjuncts;
+mod fault;
+mod from;
+mod names;
+mod predicates;
+mod projection;
+mod reach;
+
+pub use binding::bind;
+pub use fault::BindFault;

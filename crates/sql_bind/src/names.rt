@@ -1,0 +1,165 @@
+// Written columns, and the columns of the tables of FROM that they name.
+ghost use Rattle.std.specs.Prelude.{◌≡◌, ◌≢◌, ◌≤◌, ◌<◌, [], All, IfOk, length};
+ghost use Rattle.sql_values.specs.Limits.{max_relations, max_columns};
+ghost use Rattle.sql_bind.specs.Names.{places_among, places_of, place_of, column_fault, may_name, written_name};
+ghost use Rattle.sql_bind.specs.Refused.{Refuses, added, found_with};
+
+use crate::fault::BindFault;
+use query_block::ColumnAt;
+use sql_parse::ColRef;
+use sql_values::{ColumnDef, Text};
+use std::alloc::{AllocError, Global};
+use std::marker::Model;
+
+/// A table of FROM.
+#[derive(Drop)]
+pub(crate) struct NamedTable<'q> {
+    /// The name under which columns name it.
+    pub(crate) alias: &'q [u8],
+    /// Its number in the database, from 0.
+    pub(crate) number: u32,
+    pub(crate) columns: &'q [ColumnDef],
+    /// The numbers of its indexed columns, from 0.
+    pub(crate) indexed: &'q [u8],
+}
+
+impl<'q> Model for NamedTable<'q> {
+    ghost use Rattle.sql_bind.specs.Named.{NamedTable as Named};
+
+    ghost Value = { Named };
+
+    ghost view = { λ t. record {
+      alias = t.alias.now;
+      number = t.number;
+      columns = t.columns.now;
+      indexed = t.indexed.now;
+    } };
+}
+
+/// The columns that a written column was found to name.
+#[derive(Clone, Copy)]
+pub(crate) enum Found {
+    Nothing,
+    One(ColumnAt),
+    /// Two or more, of which this is the first.
+    Several(ColumnAt),
+}
+
+impl Found {
+    fn added(self, place: ColumnAt) -> Found
+        ensures { result ≡ added self place }
+    {
+        match self {
+            Found::Nothing => Found::One(place),
+            Found::One(first) => Found::Several(first),
+            Found::Several(first) => Found::Several(first),
+        }
+    }
+}
+
+// What is found with the columns of this name of one relation.
+fn found_among(found: Found, relation: u8, columns: &[ColumnDef], name: &[u8]) -> Found
+    requires { length columns.now ≤ max_columns }
+    ensures { result ≡ found_with found (places_among relation 0 columns.now name.now) }
+{
+    let mut found = found;
+    for number in 0..columns.len() {
+        if columns[number].name.bytes() == name {
+            let column = number as u8;
+            found = found.added(ColumnAt { relation, column });
+        }
+    }
+    found
+}
+
+// Whether a column written with this alias, or without one, may be one of the table.
+fn may_name(written: &ColRef, table: &NamedTable<'_>) -> bool
+    ensures { result ≡ may_name written.now.alias table.now }
+{
+    match &written.alias {
+        Some(alias) => alias.bytes() == table.alias,
+        None => true,
+    }
+}
+
+// The columns that a written column names.
+fn look_up(tables: &[NamedTable<'_>], written: &ColRef) -> Found
+    requires few { length tables.now ≤ max_relations }
+    requires narrow { All (λ table. length table.columns ≤ max_columns) tables.now }
+    ensures { result ≡ found_with Found.Nothing (places_of tables.now written.now) }
+{
+    let mut found = Found::Nothing;
+    for number in 0..tables.len() {
+        let table = &tables[number];
+        if may_name(written, table) {
+            found = found_among(found, number as u8, table.columns, written.column.bytes());
+        }
+    }
+    found
+}
+
+// A column as it is written.
+fn written_name(alloc: Global, written: &ColRef) -> Result<Text, AllocError>
+    ensures { IfOk result (λ name. name ≡ written_name written.now) }
+{
+    let mut name = Vec::new(alloc);
+    if let Some(alias) = &written.alias {
+        name.extend_from_slice(alias.bytes())?;
+        name.push(b'.')?;
+    }
+    name.extend_from_slice(written.column.bytes())?;
+    Ok(Text::from(name))
+}
+
+// The refusal of a column that no table has.
+fn unknown_column(alloc: Global, written: &ColRef) -> BindFault
+    ensures { result ≢ BindFault.NoMemory → result ≡ BindFault.UnknownColumn (written_name written.now) }
+{
+    match written_name(alloc, written) {
+        Ok(name) => BindFault::UnknownColumn { name },
+        Err(_) => BindFault::NoMemory,
+    }
+}
+
+// The refusal of a column that several tables have.
+fn ambiguous(written: &ColRef) -> BindFault
+    ensures { result ≢ BindFault.NoMemory → result ≡ BindFault.Ambiguous written.now.column }
+{
+    match written.column.clone() {
+        Ok(name) => BindFault::Ambiguous { name },
+        Err(_) => BindFault::NoMemory,
+    }
+}
+
+/// Refuses a written column that doesn't name exactly one.
+pub(crate) fn check_column(
+    alloc: Global,
+    tables: &[NamedTable<'_>],
+    written: &ColRef,
+) -> Result<(), BindFault>
+    requires few { length tables.now ≤ max_relations }
+    requires narrow { All (λ table. length table.columns ≤ max_columns) tables.now }
+    ensures { Refuses (column_fault tables.now written.now) result }
+{
+    match look_up(tables, written) {
+        Found::Nothing => Err(unknown_column(alloc, written)),
+        Found::One(_) => Ok(()),
+        Found::Several(_) => Err(ambiguous(written)),
+    }
+}
+
+/// The column that a written column names; where it names none, the first of all.
+pub(crate) fn place_of(tables: &[NamedTable<'_>], written: &ColRef) -> ColumnAt
+    requires few { length tables.now ≤ max_relations }
+    requires narrow { All (λ table. length table.columns ≤ max_columns) tables.now }
+    ensures { result ≡ place_of tables.now written.now }
+{
+    match look_up(tables, written) {
+        Found::One(place) => place,
+        Found::Several(place) => place,
+        Found::Nothing => ColumnAt {
+            relation: 0,
+            column: 0,
+        },
+    }
+}
