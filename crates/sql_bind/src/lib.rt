@@ -16,3 +16,6 @@ mod reach;
 
 pub use binding::bind;
 pub use fault::BindFault;
+
+#[cfg(test)]
+mod tests;
