@@ -156,7 +156,7 @@ static COLUMNS: [Case; 20] = [
     },
     Case {
         about: "the last of 32 columns",
-        query: b"select t, c31x.c30 from a, w c31x",
+        query: b"select t, v.c30 from a, w v",
         outcome: "0 IITI []; 3 IIIIIIIIIIIIIIIIIIIIIIIIIIIIIIIT []; ; 1.31 1.30",
     },
     Case {
@@ -273,7 +273,7 @@ static PREDICATES: [Case; 28] = [
         outcome: "kinds of predicate 1",
     },
     Case {
-        about: "literals of two kinds",
+        about: "literals of two kinds, before their form",
         query: b"select x from a where x = 1 and 1 = '1'",
         outcome: "kinds of predicate 2",
     },
@@ -539,7 +539,7 @@ static EDGES: [Case; 14] = [
         outcome: "limit axes 7",
     },
     Case {
-        about: "the form of an eighth conjunct before seven edges",
+        about: "the form of the eighth conjunct before seven edges",
         query: b"select a.x from a, b where a.x = b.y and a.x = b.k and a.k = b.y and a.k = b.k and a.id = b.y and a.id = b.k and a.s = b.s and a.x < b.y",
         outcome: "form of conjunct 8",
     },
@@ -577,7 +577,7 @@ static FORMS: [Case; 19] = [
         outcome: "form of conjunct 1",
     },
     Case {
-        about: "less between two tables",
+        about: "another comparison beside an edge",
         query: b"select x from a, b where x = y and x < y",
         outcome: "form of conjunct 2",
     },
@@ -612,7 +612,7 @@ static FORMS: [Case; 19] = [
         outcome: "form of conjunct 1",
     },
     Case {
-        about: "BETWEEN over two tables, of literals between",
+        about: "a literal BETWEEN columns of two tables",
         query: b"select x from a, b where 1 between x and y",
         outcome: "form of conjunct 1",
     },
@@ -637,12 +637,12 @@ static FORMS: [Case; 19] = [
         outcome: "form of conjunct 3",
     },
     Case {
-        about: "the first of two",
+        about: "the first of two forms",
         query: b"select x from a, b where x = 1 and x < y and 1 = 1",
         outcome: "form of conjunct 2",
     },
     Case {
-        about: "a form behind the checks of every predicate",
+        about: "an unknown column of the second predicate before the form of the first",
         query: b"select x from a, b where 1 = 1 and nix = 2",
         outcome: "unknown column NIX",
     },
