@@ -1,5 +1,5 @@
 // The block of a query: the checks in their order, and then its parts.
-ghost use Rattle.std.specs.Prelude.{◌≡◌, ◌≤◌, ◌<◌, ◌+◌, ◌^◌, [], All, IfOk, IfSome, length, map, option_map, replicate};
+ghost use Rattle.std.specs.Prelude.{◌≡◌, ◌≤◌, ◌<◌, ◌^◌, [], All, IfOk, IfSome, length, map, option_map, replicate};
 ghost use Rattle.sql_values.specs.Limits.{max_relations, max_columns};
 ghost use Rattle.query_block.specs.Conditions.{filter_tree};
 ghost use Rattle.query_block.specs.Blocks.{block_tree, relation_tree};

@@ -1,5 +1,5 @@
 // The conjuncts of WHERE: each becomes part of a filter, or an edge.
-ghost use Rattle.std.specs.Prelude.{◌≡◌, ◌≤◌, ◌<◌, ◌+◌, ◌^◌, [], ◌∷◌, ◌++◌, All, IfOk, OnOk, length, map, slice_index_or, slice_set};
+ghost use Rattle.std.specs.Prelude.{◌≡◌, ◌≤◌, ◌<◌, ◌+◌, ◌^◌, [], ◌∷◌, All, IfOk, OnOk, length, map};
 ghost use Rattle.sql_values.specs.Limits.{max_relations, max_columns};
 ghost use Rattle.query_block.specs.Conditions.{filter_tree};
 ghost use Rattle.sql_parse.specs.Trees.{condition_tree, operands};

@@ -1,20 +1,17 @@
-// The tables of FROM, and the columns that SELECT names.
-ghost use Rattle.std.specs.Prelude.{◌≡◌, ◌≢◌, ◌≤◌, ◌<◌, ◌++◌, ◌∷◌, [], All, IfOk, length, map, drop};
-ghost use Rattle.sql_values.specs.Limits.{max_relations, max_columns};
+// The tables of FROM.
+ghost use Rattle.std.specs.Prelude.{◌≡◌, ◌≢◌, ◌≤◌, ◌<◌, [], All, IfOk, length, map};
+ghost use Rattle.sql_values.specs.Limits.{max_columns};
 ghost use Rattle.sql_values.specs.Dictionary.{has_text};
 ghost use Rattle.db_catalog.specs.Database.{table_number};
-ghost use Rattle.sql_bind.specs.Names.{columns_fault, place_of};
-ghost use Rattle.sql_bind.specs.Binding.{named_table, named_tables, past, table_fault, alias_fault, from_fault};
-ghost use Rattle.sql_bind.specs.Binding.{projection_fault, projection_of, every_column};
+ghost use Rattle.sql_bind.specs.Binding.{named_tables, past, table_fault, from_fault};
 ghost use Rattle.sql_bind.specs.Refused.{Refuses, IsNamed};
 
 use crate::fault::BindFault;
-use crate::names::{NamedTable, check_column, place_of};
+use crate::names::NamedTable;
 use db_catalog::Database;
-use query_block::ColumnAt;
-use sql_parse::{ColRef, Item, Name};
-use sql_values::{LimitName, MAX_PROJECTION, Sequence};
-use std::alloc::{AllocError, Global};
+use sql_parse::{Item, Name};
+use sql_values::LimitName;
+use std::alloc::Global;
 
 /// Refuses a number past its limit.
 pub(crate) fn check_limit(name: LimitName, most: usize, value: usize) -> Result<(), BindFault>

@@ -1,5 +1,5 @@
 // Written columns, and the columns of the tables of FROM that they name.
-ghost use Rattle.std.specs.Prelude.{◌≡◌, ◌≢◌, ◌≤◌, ◌<◌, [], All, IfOk, length};
+ghost use Rattle.std.specs.Prelude.{◌≡◌, ◌≢◌, ◌≤◌, ◌<◌, All, IfOk, length};
 ghost use Rattle.sql_values.specs.Limits.{max_relations, max_columns};
 ghost use Rattle.sql_bind.specs.Names.{places_among, places_of, place_of, column_fault, may_name, written_name};
 ghost use Rattle.sql_bind.specs.Refused.{Refuses, added, found_with};
