@@ -9,3 +9,4 @@ pub mod Placing
 pub mod FirstBytes
 pub mod Ties
 pub mod Sorted
+pub mod Combined

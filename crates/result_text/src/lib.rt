@@ -1,12 +1,14 @@
 //! Prints a table as CSV: a header and the rows in ascending order of their values.
 //! To the layer above it promises exactly the text: which rows stand in it, how often, in which order, and how each
 //! value is written. Its only refusal is out of memory.
-//! It never copies a row that the order of its numbers decides, nor compares two texts where their places will do.
+//! To sort, it never copies a row that the order of its numbers decides, nor compares two texts where their places
+//! will do.
 #![tactic(auto)]
 
 mod placed;
 mod places;
 mod print;
+mod projection;
 mod ranked;
 mod row;
 mod short_text;
@@ -15,6 +17,7 @@ mod table;
 mod texts;
 mod ties;
 
+pub use projection::print_rows;
 pub use row::LentRow;
 pub use table::{rows_in_order, table_text};
 

@@ -1,10 +1,13 @@
 // What no clause says: that a table is printed where memory is ample, and the printed texts of worked tables.
-ghost use Rattle.std.specs.Prelude.{◌≡◌, All, IsTrue, length};
+ghost use Rattle.std.specs.Prelude.{◌≡◌, ◌≤◌, [], All, IfOk, IsTrue, flat_map, length};
 ghost use Rattle.sql_values.specs.Words.{IsWord};
 ghost use Rattle.sql_values.specs.Stored.{AreWordsOf};
+ghost use Rattle.query_block.specs.Blocks.{block_tree, width_of};
 
 use super::*;
-use sql_values::{ColumnType, NULL_WORD, Text, Texts};
+use query_block::{Block, ColumnAt, Relation};
+use row_stack::RowStack;
+use sql_values::{ColumnType, NULL_WORD, Sequence, Text, Texts};
 use std::alloc::{AllocError, Global};
 use std::test::Fail;
 
@@ -238,5 +241,84 @@ fn tables_print_as_worked(rt: HostRuntime) -> Result<(), Fail> {
         let text = table_text(rt.alloc(), &texts, case.kinds, &names, &rows)?;
         assert!(rt; text.as_slice() == case.printed, "{}", case.about);
     }
+    Ok(())
+}
+
+// A relation without a filter and without indexes.
+fn relation_of(alloc: Global, kinds: &[ColumnType]) -> Result<Relation, AllocError>
+    ensures columns { IfOk result (λ relation. relation.columns ≡ kinds.now) }
+    ensures filter { IfOk result (λ relation. relation.filter ≡ []) }
+    ensures indexes { IfOk result (λ relation. relation.indexes ≡ []) }
+{
+    let columns = Vec::from_slice(alloc, kinds)?;
+    Ok(Relation {
+        table: 0,
+        columns: Sequence::from(columns),
+        filter: Sequence::from(Vec::new(alloc)),
+        indexes: Sequence::from(Vec::new(alloc)),
+    })
+}
+
+// A block of one relation, which asks for its second column, its first, and its second once more.
+fn block_of_one(alloc: Global, kinds: &[ColumnType]) -> Result<Block, AllocError>
+    requires some { 2 ≤ length kinds.now }
+    requires few { length kinds.now ≤ 32 }
+    ensures projection { IfOk result (λ block. length block.projection ≡ 3) }
+    ensures width { IfOk result (λ block. width_of (block_tree block) ≡ length kinds.now) }
+    ensures columns { IfOk result (λ block.
+        flat_map (λ relation. relation.columns) (block_tree block).relations ≡ kinds.now) }
+{
+    let relations = vec![in alloc; relation_of(alloc, kinds)?]?;
+    let first = ColumnAt {
+        relation: 0,
+        column: 0,
+    };
+    let second = ColumnAt {
+        relation: 0,
+        column: 1,
+    };
+    let projection = vec![in alloc; second, first, second]?;
+    Ok(Block::new(relations, Vec::new(alloc), projection))
+}
+
+// The rows of these words, as far as they may stand in columns of these kinds.
+fn stack_of(
+    alloc: Global,
+    texts: &Texts,
+    kinds: &[ColumnType],
+    words: &[i64],
+) -> Result<RowStack, AllocError>
+    requires some { 1 ≤ length kinds.now }
+    requires few { length kinds.now ≤ 32 }
+    ensures width { IfOk result (λ stack. stack.width ≡ length kinds.now) }
+    ensures words { IfOk result (λ stack. All (AreWordsOf texts.now kinds.now) stack.rows) }
+{
+    let mut stack = RowStack::new(alloc, kinds.len());
+    for row in words.chunks(kinds.len()) {
+        if row.len() == kinds.len() && are_words(texts, kinds, row) {
+            let _ = stack.push(row)?;
+        }
+    }
+    Ok(stack)
+}
+
+// The columns are exchanged, and the second stands twice. Rows tie in it, and two are equal.
+#[test]
+fn a_projection_prints_as_worked(rt: HostRuntime) -> Result<(), Fail> {
+    let mut texts = Texts::new(rt.alloc());
+    let _ = texts.add(b"z")?;
+    let _ = texts.add(b"a")?;
+    let _ = texts.add(b"m,n")?;
+    let s = Text::new(rt.alloc(), b"S")?;
+    let k = Text::new(rt.alloc(), b"K")?;
+    let t = Text::new(rt.alloc(), b"T")?;
+    let names = vec![in rt.alloc(); s, k, t]?;
+    let kinds = [INTEGER, TEXT];
+    let block = block_of_one(rt.alloc(), &kinds)?;
+    let words = [2, 0, 1, 0, 2, 1, 2, 0, NULL, 2, 5, NULL];
+    let rows = stack_of(rt.alloc(), &texts, &kinds, &words)?;
+    let text = print_rows(rt.alloc(), &texts, &block, &names, &rows)?;
+    let printed: &[u8] = b"S,K,T\n,5,\na,2,a\n\"m,n\",,\"m,n\"\nz,1,z\nz,2,z\nz,2,z\n";
+    assert!(rt; text.as_slice() == printed);
     Ok(())
 }
