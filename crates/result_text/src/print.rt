@@ -18,6 +18,14 @@ use std::alloc::{AllocError, Global};
 // How many rows are gathered before they are written.
 const BATCH_ROWS: usize = 64;
 
+// What a number and a text mostly take at the most, in bytes, with what ends the field.
+const LIKELY_NUMBER: usize = 12;
+
+const LIKELY_TEXT: usize = 22;
+
+// The most bytes that are taken before they are needed.
+const MOST_RESERVED: usize = 67108864;
+
 type TextWriter = Writer<Vec<u8>>;
 
 fn write_field(writer: &mut TextWriter, field: &[u8]) -> Result<(), AllocError>
@@ -140,6 +148,30 @@ fn write_rows<L: TextList>(
     Ok(())
 }
 
+// How many bytes a field of a column mostly takes at the most, with what ends it.
+fn likely_field(kind: ColumnType) -> usize {
+    match kind {
+        ColumnType::Integer => LIKELY_NUMBER,
+        ColumnType::Varchar(most) => {
+            if most < LIKELY_TEXT as u64 {
+                most as usize
+            } else {
+                LIKELY_TEXT
+            }
+        }
+    }
+}
+
+// How many bytes so many rows mostly take. Memory that is taken before it is needed grows less often, and what isn't written
+// to is never touched.
+fn likely_bytes(kinds: &[ColumnType], rows: usize) -> usize {
+    let mut fields = 0usize;
+    for kind in kinds {
+        fields = fields.saturating_add(likely_field(*kind));
+    }
+    rows.saturating_mul(fields).min(MOST_RESERVED)
+}
+
 /// The text of a header and of these rows as they stand.
 pub(crate) fn text_in_turn<L: TextList>(
     alloc: Global,
@@ -152,7 +184,8 @@ pub(crate) fn text_in_turn<L: TextList>(
     ensures { IfOk result (λ text. text.items
         ≡ row_text default_writer names.now ++ records_of (L.texts texts.now) kinds.now rows.now) }
 {
-    let mut writer = Writer::from_writer(Vec::new(alloc));
+    let likely = likely_bytes(kinds, rows.len());
+    let mut writer = Writer::from_writer(Vec::with_capacity(alloc, likely)?);
     write_header(&mut writer, names)?;
     write_rows(alloc, &mut writer, texts, kinds, rows)?;
     match writer.into_inner() {
