@@ -1,0 +1,13 @@
+use Rattle.std.proofs.Common.{◌<◌, ap, length, subst, sym}
+use Rattle.query_block.specs.Blocks.{block_tree, relation_at}
+use Rattle.plan_tree.specs.Enumerated.{IsIndexed}
+use Rattle.plan_tree.proofs.Indexes.{indexed-exists}
+use Rattle.plan_tree.proofs.rules.has_usable_on.Goals as goal
+
+pub has_usable-requires : goal.has_usable-requires
+has_usable-requires c =
+    let relations = c.args.block.now.relations in
+    let found = c.index-relations-relation.result in
+    let is = rw c.relations.ensures.relations at c.index-relations-relation.is in
+    subst (λ columns. c.args.column < length columns) (sym c.as_slice.ensures)
+    (indexed-exists relations c.args.relation c.args.column found c.requires.relation is c.relations.ensures.block.relations c.requires.column)

@@ -1,0 +1,5 @@
+pub mod Plans
+pub mod Usable
+pub mod Enumerated
+pub mod Text
+pub mod Work

@@ -1,0 +1,58 @@
+// The relations that a plan joins. Each function calls itself for the sides of a join, so the stack that it takes is
+// bounded by how deep the plan is.
+ghost use Rattle.std.specs.Prelude.{◌≡◌, ◌<◌, ◌^◌};
+ghost use Rattle.std.specs.List.{list_any};
+ghost use Rattle.plan_tree.specs.Plans.{plan_tree, leaves_of, has_leaf, covers_of, FitsSet};
+
+use crate::plan::Plan;
+
+/// Whether a plan joins a relation.
+#[cycle(has_leaf)]
+pub(crate) fn has_leaf(p: &Plan, relation: u8) -> bool
+    ensures { result ≡ has_leaf (plan_tree p.now) relation }
+{
+    match p {
+        Plan::Scan(leaf) | Plan::IndexScan(leaf, _) => relation == *leaf,
+        Plan::Nest(left, right) | Plan::Hash(_, left, right) | Plan::Merge(_, left, right) => {
+            has_leaf(left, relation) || has_leaf(right, relation)
+        }
+        Plan::IndexLoop(_, left, leaf) => has_leaf(left, relation) || relation == *leaf,
+    }
+}
+
+/// Whether some relation is joined by both plans.
+#[cycle(share_leaf)]
+pub(crate) fn share_leaf(p: &Plan, other: &Plan) -> bool
+    ensures { result ≡ list_any (has_leaf (plan_tree other.now)) (leaves_of (plan_tree p.now)) }
+{
+    match p {
+        Plan::Scan(leaf) | Plan::IndexScan(leaf, _) => has_leaf(other, *leaf),
+        Plan::Nest(left, right) | Plan::Hash(_, left, right) | Plan::Merge(_, left, right) => {
+            share_leaf(left, other) || share_leaf(right, other)
+        }
+        Plan::IndexLoop(_, left, leaf) => share_leaf(left, other) || has_leaf(other, *leaf),
+    }
+}
+
+// The set of one relation.
+fn set_of_one(relation: u8) -> u8
+    requires { relation < 8 }
+    ensures { result ≡ 2 ^ relation }
+{
+    1 << relation
+}
+
+/// The relations that a plan joins, as a set: bit r for relation r. It takes no memory.
+#[cycle(covers)]
+pub fn covers(p: &Plan) -> u8
+    requires { FitsSet (plan_tree p.now) }
+    ensures { result ≡ covers_of (plan_tree p.now) }
+{
+    match p {
+        Plan::Scan(leaf) | Plan::IndexScan(leaf, _) => set_of_one(*leaf),
+        Plan::Nest(left, right) | Plan::Hash(_, left, right) | Plan::Merge(_, left, right) => {
+            covers(left) | covers(right)
+        }
+        Plan::IndexLoop(_, left, leaf) => covers(left) | set_of_one(*leaf),
+    }
+}
