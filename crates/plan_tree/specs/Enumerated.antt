@@ -51,11 +51,11 @@ pub record IsLookUp (block : BlockTree) (edge : ℕ) (left : PlanTree) (relation
 abbrev pub IsSubPlan : BlockTree → PlanTree → Type 0
 IsSubPlan block (Scan relation) = relation < length block.relations
 IsSubPlan block (IndexScan relation column) = IsScannable block relation column
-IsSubPlan block (Nest left right) = IsSubPlan block left × (IsSubPlan block right × AreApart left right)
+IsSubPlan block (Nest left right) = IsSubPlan block left × IsSubPlan block right × AreApart left right
 IsSubPlan block (Hash edge left right) =
-    IsSubPlan block left × (IsSubPlan block right × (AreApart left right × Crosses block.edges edge left right))
+    IsSubPlan block left × IsSubPlan block right × AreApart left right × Crosses block.edges edge left right
 IsSubPlan block (Merge edge left right) =
-    IsSubPlan block left × (IsSubPlan block right × (AreApart left right × Crosses block.edges edge left right))
+    IsSubPlan block left × IsSubPlan block right × AreApart left right × Crosses block.edges edge left right
 IsSubPlan block (IndexLoop edge left relation) = IsSubPlan block left × IsLookUp block edge left relation
 
 -- a plan of the block: it joins all of its relations

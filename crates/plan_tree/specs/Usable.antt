@@ -40,7 +40,7 @@ abbrev pub is_usable : List ColumnType → (column : ℕ) → (conjunct : Filter
 is_usable columns column (Compare op left right) =
     is_range (kind_at columns column) op && ((is_column column left && is_literal right) || (is_literal left && is_column column right))
 is_usable columns column (Between of low high) =
-    not (holds_texts (kind_at columns column)) && (is_column column of && (is_literal low && is_literal high))
+    not (holds_texts (kind_at columns column)) && is_column column of && is_literal low && is_literal high
 is_usable columns column (OneOf of operands) = false
 is_usable columns column (IsNull of) = false
 is_usable columns column (Not inner) = false

@@ -48,8 +48,8 @@ fn is_range(kind: ColumnType, op: Op) -> bool
     }
 }
 
-// Whether an index on a column can use a conjunct.
-fn is_usable(columns: &[ColumnType], column: u8, conjunct: &Condition) -> bool
+/// Whether an index on a column can use a conjunct.
+pub(crate) fn is_usable(columns: &[ColumnType], column: u8, conjunct: &Condition) -> bool
     requires { column < length columns.now }
     ensures { result ≡ is_usable columns.now column (filter_tree conjunct.now) }
 {
