@@ -1,6 +1,4 @@
-use Rattle.std.proofs.Common.{◌<◌, ap, length, subst, sym}
-use Rattle.query_block.specs.Blocks.{block_tree, relation_at}
-use Rattle.plan_tree.specs.Enumerated.{IsIndexed}
+use Rattle.std.proofs.Common.{◌<◌, length, subst, sym}
 use Rattle.plan_tree.proofs.Indexes.{indexed-exists}
 use Rattle.plan_tree.proofs.rules.has_usable_on.Goals as goal
 
