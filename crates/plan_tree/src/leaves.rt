@@ -2,7 +2,7 @@
 // bounded by how deep the plan is.
 ghost use Rattle.std.specs.Prelude.{◌≡◌, ◌<◌, ◌^◌};
 ghost use Rattle.std.specs.List.{list_any};
-ghost use Rattle.plan_tree.specs.Plans.{plan_tree, leaves_of, has_leaf, covers_of, FitsSet};
+ghost use Rattle.plan_tree.specs.Plans.{plan_tree, leaves_of, has_leaf, covers_of, FitsSet, BitsAreLeaves};
 
 use crate::plan::Plan;
 
@@ -56,3 +56,8 @@ pub fn covers(p: &Plan) -> u8
         Plan::IndexLoop(_, left, leaf) => covers(left) | set_of_one(*leaf),
     }
 }
+
+/// The law of sets as numbers: bit r is 1 exactly where the plan joins relation r.
+pub fn bits_are_leaves()
+    ensures { BitsAreLeaves }
+{}

@@ -11,7 +11,7 @@ mod rules;
 mod text;
 mod usable;
 
-pub use leaves::covers;
+pub use leaves::{bits_are_leaves, covers};
 pub use plan::Plan;
 pub use rules::is_plan;
 pub use text::plan_text;
