@@ -1,0 +1,3 @@
+mod Least
+mod Ranges
+pub mod OfCursors

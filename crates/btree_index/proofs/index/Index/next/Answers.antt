@@ -1,0 +1,29 @@
+use Rattle.std.proofs.Common.{◌≡◌, ◌∷◌, ◌+◌, ◌-◌, rules, arith, ap, sym, subst, refl, take, drop, ◌∙◌}
+use Rattle.std.specs.Prelude.{pos, slice_index_or}
+use Rattle.btree_index.proofs.Ranges.{left_step}
+use Rattle.btree_index.proofs.index.Index.next.Goals as goal
+
+pub returns-in_err-pay-2-clause-pays : goal.returns-in_err-pay-2-clause-pays
+returns-in_err-pay-2-clause-pays c =
+    let cursor = c.args.cursor.now in
+    rw (left_step c.args.self.now cursor.next cursor.end (pos 0, 0) (omega (arith, c.if-cursor.false)) c.requires.end) (search rules)
+
+-- the entry that is read comes first of those that are left
+left : (c : goal.After-cursor-1)
+    → take (c.args.cursor.now.end - c.args.cursor.now.next) (drop c.args.cursor.now.next c.args.self.now)
+    ≡ c.index.result.now ∷ take (c.args.cursor.now.end - (c.args.cursor.now.next + 1)) (drop (c.args.cursor.now.next + 1) c.args.self.now)
+left c =
+    let cursor = c.args.cursor.now in
+    let entry = c.index.result.now in
+    let read = subst (λ xs. entry ≡ slice_index_or xs cursor.next entry) c.self.view_is c.index.ensures in
+    left_step c.args.self.now cursor.next cursor.end entry (omega (arith, c.if-cursor.false)) c.requires.end
+    ∙ ap (λ e. e ∷ take (cursor.end - (cursor.next + 1)) (drop (cursor.next + 1) c.args.self.now)) (sym read)
+
+pub returns-clause-row : goal.returns-clause-row
+returns-clause-row c = rw (left c) refl
+
+pub returns-clause-left : goal.returns-clause-left
+returns-clause-left c = rw (left c) refl
+
+pub returns-clause-pays : goal.returns-clause-pays
+returns-clause-pays c = rw (left c) (search rules)

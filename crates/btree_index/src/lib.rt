@@ -1,0 +1,13 @@
+//! The index of a column: its entries, each a word and the number of the row that has it, in order by word, then row.
+//! To the layers above an index is exactly that sorted list; a cursor gives the rows of a range of words, each once and
+//! in order, for the stated charges.
+//! It never reads a table, and an index is never changed: more entries make a new one.
+#![tactic(auto)]
+
+pub mod charge;
+mod index;
+
+pub use index::{Cursor, Index};
+
+#[cfg(test)]
+mod tests;
