@@ -1,10 +1,11 @@
 -- The work of a plan on stored tables, as one sum. Each node adds its own work to that of its sides.
-use Rattle.std.specs.Prelude.{ℕ, zero, suc, ◌+◌, ◌*◌, ◌^◌, ◌&&◌, not, Bool, List, length, map, count_by, sum_by, filter, nat_lt, nat_le, if◌then◌else◌}
+use Rattle.std.specs.Prelude.{ℕ, ◌+◌, ◌*◌, ◌^◌, ◌&&◌, not, List, length, map, count_by, sum_by, filter, nat_lt, if◌then◌else◌}
 use Rattle.sql_values.specs.declared.op.Op.TheVariants.{Eq}
 use Rattle.sql_values.specs.declared.value.Value.{Value}
 use Rattle.sql_values.specs.Stored.{StoredTable, ValueRow}
 use Rattle.sql_values.specs.Truth.{comparison, is_null}
 use Rattle.heap_pages.specs.Rows.{pages_of}
+use Rattle.btree_index.specs.Height.{least_from, height_of}
 use Rattle.query_block.specs.declared.edge.Edge.{Edge}
 use Rattle.query_block.specs.declared.edge.ColumnAt.{ColumnAt}
 use Rattle.query_block.specs.Truth.{value_at}
@@ -14,18 +15,9 @@ use Rattle.plan_tree.specs.Plans.{PlanTree, Scan, IndexScan, Nest, Hash, Merge, 
 use Rattle.plan_tree.specs.Usable.{is_usable}
 use Rattle.plan_tree.specs.Enumerated.{edge_at, column_on}
 
--- the first number from `at` on that passes a test, which one of the next `more` does
-abbrev pub least_from : (more at : ℕ) → (ℕ → Bool) → ℕ
-least_from zero at test = at
-least_from (suc more) at test = if test at then at else least_from more (at + 1) test
-
 -- how many binary digits a number has: none for 0
 abbrev pub bits : ℕ → ℕ
 bits n = least_from n 0 (λ digits. nat_lt n (2 ^ digits))
-
--- how many levels an index of so many entries has: the least h of at least 1 with 64^h entries or more
-abbrev pub height_of : (entries : ℕ) → ℕ
-height_of entries = least_from entries 1 (λ levels. nat_le entries (64 ^ levels))
 
 -- the rows of a relation's table
 abbrev pub table_rows : List StoredTable → RelationTree → List ValueRow
