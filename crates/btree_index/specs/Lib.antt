@@ -1,3 +1,2 @@
-pub mod Charges
 pub mod Height
 pub mod Entries

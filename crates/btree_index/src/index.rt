@@ -3,14 +3,13 @@
 ghost use Rattle.std.specs.Prelude.{◌≡◌, ◌*◌, ◌++◌, drop, filter, length, IfOk, OnOk, OnErr};
 ghost use Rattle.std.specs.List.Sorted.{IsPermutation};
 ghost use Rattle.work_ledger.specs.Account.{Pays};
-ghost use Rattle.btree_index.specs.Charges.{node_charge, next_charge};
+ghost use Rattle.work_ledger.specs.Charges.{node_charge};
 ghost use Rattle.btree_index.specs.Height.{height_of};
-ghost use Rattle.btree_index.specs.Entries.{IsInOrder, IsOn, entries_left, first_row, is_within};
+ghost use Rattle.btree_index.specs.Entries.{IsInOrder, IsOn, entries_left, first_row, is_within, next_charge};
 
-use crate::charge;
 use std::alloc::{AllocError, Global};
 use std::marker::Model;
-use work_ledger::{Exhausted, Ledger};
+use work_ledger::{Exhausted, Ledger, charge};
 
 /// How many entries a node has at most.
 const NODE_ENTRIES: u128 = 64;

@@ -4,7 +4,6 @@
 //! It never reads a table, and an index is never changed: more entries make a new one.
 #![tactic(auto)]
 
-pub mod charge;
 mod index;
 
 pub use index::{Cursor, Index};

@@ -2,4 +2,5 @@ pub mod Relations
 pub mod Words
 pub mod Equality
 pub mod Chains
+pub mod Combined
 mod Tested

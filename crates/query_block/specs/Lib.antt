@@ -4,3 +4,4 @@ pub mod Shape
 pub mod Blocks
 pub mod Meaning
 pub mod Cells
+pub mod Combined

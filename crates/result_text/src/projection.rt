@@ -2,8 +2,9 @@
 // all rows, and the rows are lent from there.
 ghost use Rattle.std.specs.Prelude.{◌≡◌, ◌<◌, ◌++◌, All, IfOk, OnOk, length, map};
 ghost use Rattle.query_block.specs.Blocks.{relation_tree, block_tree, IsBlock, IsPlace, kind_of, width_of};
+ghost use Rattle.query_block.specs.Combined.{AreCombinedWords, word_place};
 ghost use Rattle.result_text.specs.Rows.{words_of};
-ghost use Rattle.result_text.specs.Combined.{AreCombinedWords, printed_rows, word_place, words_at};
+ghost use Rattle.result_text.specs.Combined.{printed_rows, words_at};
 ghost use Rattle.result_text.specs.Printed.{table_text};
 
 use crate::row::LentRow;

@@ -3,7 +3,8 @@ use Rattle.sql_values.specs.Stored.{ValueRow, values_of}
 use Rattle.query_block.specs.Blocks.{block_tree}
 use Rattle.result_text.specs.Combined.{printed_rows}
 use Rattle.result_text.specs.Printed.{table_text}
-use Rattle.result_text.proofs.Combined.{places-inside, rows-allowed, rows-mean}
+use Rattle.query_block.proofs.Combined.{places-inside}
+use Rattle.result_text.proofs.Combined.{rows-allowed, rows-mean}
 use Rattle.result_text.proofs.projection.print_rows.Goals as goal
 
 pub projected_words-requires : goal.projected_words-requires

@@ -1,7 +1,7 @@
 use Rattle.std.proofs.Common.{◌<◌, ap, arith, length, slice_index_or}
 use Rattle.query_block.specs.declared.edge.ColumnAt.{ColumnAt}
 use Rattle.query_block.specs.Blocks.{block_tree, IsPlace}
-use Rattle.result_text.proofs.Combined.{place-inside, width-few}
+use Rattle.query_block.proofs.Combined.{place-inside, width-few}
 use Rattle.result_text.proofs.projection.projected_places.Goals as goal
 
 pub overflow_add-offset : goal.overflow_add-offset

@@ -1,6 +1,6 @@
 use Rattle.std.proofs.Common.{◌≡◌, ◌++◌, drop, map}
 use Rattle.query_block.specs.Blocks.{block_tree}
-use Rattle.result_text.specs.Combined.{word_place}
+use Rattle.query_block.specs.Combined.{word_place}
 use Rattle.result_text.proofs.projection.projected_places.Given as goal
 
 abbrev pub invariant-loop-at : goal.invariant-loop-at
