@@ -3,3 +3,4 @@ pub mod Usable
 pub mod Enumerated
 pub mod Text
 pub mod Work
+pub mod Left
