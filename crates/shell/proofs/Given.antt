@@ -12,7 +12,7 @@ use Rattle.db_catalog.specs.Database.{table_number}
 use Rattle.shell.specs.Serve.{IsGivenFor, statements_of_steps}
 use Rattle.shell.specs.Stop.{StopsAt}
 use Rattle.shell.specs.Due.{ReadsFile, ReturnsFree, LoadsFile}
-use Rattle.shell.specs.Script.{Step, SessionState, Outcome, Refuses, load_file, at_table, with_loaded}
+use Rattle.shell.specs.Script.{Step, SessionState, Outcome, Refuses, load_file, with_loaded}
 use Rattle.csv_load.specs.Load.{load_due}
 use Rattle.shell.specs.declared.stop.Stop.{Stop}
 use Rattle.shell.specs.declared.stop.Stop.TheVariants as stop

@@ -1,11 +1,13 @@
-pub mod Answered
 pub mod Beginning
 pub mod Carrying
 pub mod Ends
+pub mod Filtered
 pub mod Given
 pub mod LoadLine
+pub mod OneRelation
+pub mod Queries
 pub mod Reading
 pub mod Runs
 pub mod ScanFits
 pub mod Scripts
-pub mod Slots
+pub mod TokensFew

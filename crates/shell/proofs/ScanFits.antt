@@ -1,12 +1,12 @@
 -- A scan costs less than a query may.
-use Rattle.std.proofs.Common.{ℕ, ◌+◌, ◌-◌, ◌≤◌, length, arith}
+use Rattle.std.proofs.Common.{◌+◌, ◌-◌, ◌≤◌, length, arith}
 use Rattle.std.proofs.Math.Nat.{div-le_self}
 use Rattle.sql_values.specs.Limits.{max_rows}
 use Rattle.sql_values.specs.Stored.{StoredTable}
 use Rattle.heap_pages.specs.Rows.{pages_of, rows_per_page}
-use Rattle.shell.specs.Printed.{scan_work}
+use Rattle.shell.specs.Scan.{table_cost}
 
-pub scan_fits : (table : StoredTable) → length table.rows ≤ max_rows → scan_work table ≤ 4611686018427387904
+pub scan_fits : (table : StoredTable) → length table.rows ≤ max_rows → table_cost table ≤ 4611686018427387904
 scan_fits table few =
     let columns = length table.columns in
     let rows = length table.rows in

@@ -1,5 +1,6 @@
 pub mod Due
 pub mod Limits
+pub mod PlainPlan
 pub mod Printed
 pub mod Refusal
 pub mod Scan

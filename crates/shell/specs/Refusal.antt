@@ -9,6 +9,8 @@ use Rattle.db_catalog.specs.declared.fault.DbFault.{DbFault}
 use Rattle.db_catalog.specs.declared.fault.DbFault.TheVariants as change
 use Rattle.csv_load.specs.declared.fault.LoadFault.{LoadFault}
 use Rattle.csv_load.specs.declared.fault.LoadFault.TheVariants as load
+use Rattle.sql_bind.specs.declared.fault.BindFault.{BindFault}
+use Rattle.sql_bind.specs.declared.fault.BindFault.TheVariants as bind
 use Rattle.shell.specs.declared.refusal.Later.{Later}
 use Rattle.shell.specs.declared.refusal.Later.TheVariants as later
 use Rattle.shell.specs.declared.refusal.Refusal.{Refusal}
@@ -37,9 +39,17 @@ no_token_line fault = error_line (codes "E01 " ++ (token_fault_word fault.kind +
 abbrev pub limit_line : LimitName → ℕ → List ℕ
 limit_line limit value = error_line (codes "E12 limit " ++ (limit_word limit ++ spaced value))
 
+-- there is no such table
+abbrev pub no_table_line : List ℕ → List ℕ
+no_table_line name = error_line (codes "E03 table " ++ name)
+
+-- the name stands already
+abbrev pub duplicate_line : List ℕ → List ℕ
+duplicate_line name = error_line (codes "E06 duplicate " ++ name)
+
 -- a refusal of the database; out of memory refuses nothing
 abbrev pub not_made_line : DbFault → List ℕ
-not_made_line (change.Duplicate name) = error_line (codes "E06 duplicate " ++ name)
+not_made_line (change.Duplicate name) = duplicate_line name
 not_made_line (change.Limit limit value) = limit_line limit value
 not_made_line change.NoMemory = error_line []
 
@@ -61,6 +71,17 @@ not_loaded_line (load.TooLong entry field) = field_line (codes "long") entry fie
 not_loaded_line (load.Limit limit value) = limit_line limit value
 not_loaded_line load.NoMemory = error_line []
 
+-- a query that can't be bound; out of memory refuses nothing
+abbrev pub not_bound_line : BindFault → List ℕ
+not_bound_line (bind.UnknownTable name) = no_table_line name
+not_bound_line (bind.UnknownColumn name) = error_line (codes "E04 column " ++ name)
+not_bound_line (bind.Ambiguous name) = error_line (codes "E05 ambiguous " ++ name)
+not_bound_line (bind.DuplicateAlias name) = duplicate_line name
+not_bound_line (bind.TypeMismatch predicate) = error_line (codes "E07 " ++ (codes "type" ++ spaced predicate))
+not_bound_line (bind.PredicateForm conjunct) = error_line (codes "E08 " ++ (codes "predicate" ++ spaced conjunct))
+not_bound_line (bind.Limit limit value) = limit_line limit value
+not_bound_line bind.NoMemory = error_line []
+
 -- what isn't built yet
 abbrev pub later_word : Later → List ℕ
 later_word later.Select = codes "select"
@@ -70,8 +91,9 @@ later_word later.Statement = codes "statement"
 abbrev pub line_of : Refusal → List ℕ
 line_of (refusal.NoToken fault) = no_token_line fault
 line_of (refusal.NoStatement place) = error_line (codes "E02 " ++ (codes "syntax" ++ spaced place))
-line_of (refusal.NoTable name) = error_line (codes "E03 table " ++ name)
+line_of (refusal.NoTable name) = no_table_line name
 line_of (refusal.NotMade fault) = not_made_line fault
+line_of (refusal.NotBound fault) = not_bound_line fault
 line_of (refusal.AbsentFile name) = error_line (codes "E09 absent " ++ name)
 line_of (refusal.NotLoaded fault) = not_loaded_line fault
 line_of (refusal.PastLimit limit value) = limit_line limit value

@@ -1,20 +1,21 @@
 -- The answer to a script: its statements one after another, up to and with the first that is refused.
-use Rattle.std.specs.Prelude.{ℕ, ◌+◌, nat_le, Bool, true, false, List, [], ◌∷◌, ◌++◌, map, length, Option, Some, None, Result, Ok, Err, if◌then◌else◌, bytes_eq}
+use Rattle.std.specs.Prelude.{ℕ, ◌+◌, nat_le, Bool, true, false, List, [], ◌∷◌, ◌++◌, length, Option, Some, None, Result, Ok, Err, if◌then◌else◌}
 use Rattle.sql_values.specs.Limits.{max_file_bytes}
 use Rattle.sql_values.specs.declared.limit.LimitName.TheVariants as limit
-use Rattle.sql_values.specs.declared.column.ColumnDef.{ColumnDef}
-use Rattle.sql_values.specs.Stored.{StoredTable, ValueRow}
-use Rattle.sql_parse.specs.declared.tree.ColRef.{ColRef}
-use Rattle.sql_parse.specs.declared.tree.Item.{Item}
+use Rattle.sql_values.specs.Stored.{ValueRow}
+use Rattle.query_block.specs.Blocks.{BlockTree}
+use Rattle.plan_tree.specs.Work.{work_of}
 use Rattle.sql_parse.specs.declared.tree.TableDef.{TableDef}
-use Rattle.sql_parse.specs.declared.tree.LoadDef.{LoadDef}
-use Rattle.sql_parse.specs.Trees.{ConditionTree, QueryTree, StatementTree, CreateTable, CreateIndex, Load, Select, Compile, Run, Explain, SaveFile, OpenFile, Audit}
+use Rattle.sql_parse.specs.Trees.{QueryTree, StatementTree, CreateTable, CreateIndex, Load, Select, Compile, Run, Explain, SaveFile, OpenFile, Audit}
 use Rattle.db_catalog.specs.declared.fault.DbFault.{DbFault}
-use Rattle.db_catalog.specs.Database.{DatabaseState, new_table, table_at, table_number, with_table, with_rows}
+use Rattle.db_catalog.specs.Database.{DatabaseState, new_table, table_number, with_table, with_rows}
 use Rattle.db_catalog.specs.Refused.{creation_fault}
 use Rattle.csv_load.specs.declared.fault.LoadFault.{LoadFault}
 use Rattle.csv_load.specs.Load.{load_due}
-use Rattle.shell.specs.Printed.{answer_text, load_line, scan_work}
+use Rattle.sql_bind.specs.declared.fault.BindFault.{BindFault}
+use Rattle.sql_bind.specs.Binding.{bind_fault, block_of}
+use Rattle.shell.specs.PlainPlan.{plain_plan, plain_contour}
+use Rattle.shell.specs.Printed.{answer_text, load_line}
 use Rattle.shell.specs.Refusal.{line_of}
 use Rattle.shell.specs.declared.refusal.Later.TheVariants as later
 use Rattle.shell.specs.declared.refusal.Refusal.{Refusal}
@@ -57,28 +58,32 @@ load_file state number name (Some bytes) =
     if nat_le (length bytes) max_file_bytes then with_loaded state number (load_due state number bytes)
     else Refuses (refusal.PastLimit limit.File (length bytes))
 
--- the table of a query for all columns of one table, under its own name and without a condition
-abbrev pub whole_table : Option (List ColRef) → List Item → Option ConditionTree → Option (List ℕ)
-whole_table None (item ∷ []) None = if bytes_eq item.alias item.table then Some item.table else None
-whole_table columns items condition = None
+-- the answer to a block by the plain plan: the work that it prints is the work that it costs
+abbrev pub answer_block : SessionState → BlockTree → Outcome
+answer_block state block =
+    let relations = length block.relations in
+    let work = work_of state.tables block (plain_plan relations) in
+    Prints (answer_text state block work (plain_contour relations) (plain_plan relations)) work state
 
--- a query of a whole table: the work that it prints is the work that it costs
-abbrev pub select_all : SessionState → ℕ → Outcome
-select_all state number =
-    let table = table_at state number in
-    let work = scan_work table in
-    Prints (answer_text table work) work state
+-- what comes of a block: one relation is answered, several are to come
+abbrev pub answer_built : SessionState → BlockTree → Outcome
+answer_built state block =
+    if nat_le (length block.relations) 1 then answer_block state block else Refuses (refusal.Later later.Select)
+
+-- what comes of a query that can be bound; else it is refused
+abbrev pub unless_refused : Option BindFault → Outcome → Outcome
+unless_refused (Some fault) due = Refuses (refusal.NotBound fault)
+unless_refused None due = due
 
 -- a query
-abbrev pub select_from : SessionState → Option (List ℕ) → Outcome
-select_from state None = Refuses (refusal.Later later.Select)
-select_from state (Some name) = at_table state name (select_all state)
+abbrev pub answer_query : SessionState → QueryTree → Outcome
+answer_query state query = unless_refused (bind_fault state query) (answer_built state (block_of state query))
 
 -- what comes of a statement, with the file that the folder gives under the name that it loads
 abbrev pub outcome : SessionState → StatementTree → Option (List ℕ) → Outcome
 outcome state (CreateTable table) file = make_table state table
 outcome state (Load load) file = at_table state load.table (λ number. load_file state number load.file file)
-outcome state (Select query) file = select_from state (whole_table query.columns query.from query.condition)
+outcome state (Select query) file = answer_query state query
 outcome state (CreateIndex index) file = Refuses (refusal.Later later.Statement)
 outcome state (Compile name levels threshold query) file = Refuses (refusal.Later later.Statement)
 outcome state (Run name) file = Refuses (refusal.Later later.Statement)

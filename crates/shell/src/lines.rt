@@ -1,8 +1,11 @@
 // The printed lines that are neither rows nor refusals.
-ghost use Rattle.std.specs.Prelude.{◌≡◌, ◌+◌, ◌^◌, ◌<◌, ◌≤◌, [], ◌++◌, length, IfOk, OnOk, decimal, vec_len, vec_capacity};
+ghost use Rattle.std.specs.Prelude.{◌≡◌, ◌+◌, ◌^◌, ◌<◌, ◌≤◌, [], ◌++◌, length, IfOk, OnOk, codes, decimal, vec_len, vec_capacity};
+ghost use Rattle.plan_tree.specs.Plans.{plan_tree};
+ghost use Rattle.plan_tree.specs.Text.{plan_text_of};
 ghost use Rattle.shell.specs.Printed.{report_line, load_line};
 
 use itoa::Buffer;
+use plan_tree::{Plan, plan_text};
 use std::alloc::{AllocError, Global};
 
 /// What is printed where the arguments of the command line aren't well-formed.
@@ -43,19 +46,41 @@ fn write(text: &mut Vec<u8>, bytes: &[u8])
     };
 }
 
-/// Appends the line below the rows of an answer.
-pub(crate) fn push_report(text: &mut Vec<u8>, rows: u64, work: u128) -> Result<(), AllocError>
-    ensures { OnOk result (text.new.items ≡ text.old.items ++ report_line rows work) }
+// Appends a label and a number.
+fn push_labelled(text: &mut Vec<u8>, label: &str, number: u128) -> Result<(), AllocError>
+    ensures { OnOk result (text.new.items ≡ text.old.items ++ (label.now ++ decimal number)) }
 {
-    text.extend_from_slice(b"-- rows=")?;
-    push_number(text, u128::from(rows))?;
-    text.extend_from_slice(b" work=")?;
-    push_number(text, work)?;
-    text.extend_from_slice(b" runs=1 contour=1 plan=S0\n")
+    text.extend_from_slice(label.as_bytes())?;
+    text.extend_from_slice(Buffer::new().format(number).as_bytes())
 }
 
-fn push_number(text: &mut Vec<u8>, number: u128) -> Result<(), AllocError>
-    ensures { OnOk result (text.new.items ≡ text.old.items ++ decimal number) }
+// Appends a plan and the end of the line.
+fn push_plan(alloc: Global, text: &mut Vec<u8>, plan: &Plan) -> Result<(), AllocError>
+    ensures { OnOk result (text.new.items ≡ text.old.items
+        ++ (codes " plan=" ++ (plan_text_of (plan_tree plan.now) ++ codes "\n"))) }
 {
-    text.extend_from_slice(Buffer::new().format(number).as_bytes())
+    let plan = plan_text(alloc, plan)?;
+    text.extend_from_slice(b" plan=")?;
+    text.extend_from_slice(&plan)?;
+    text.push(b'\n')?;
+    Ok(())
+}
+
+/// Appends the line below the rows of an answer.
+pub(crate) fn push_report(
+    alloc: Global,
+    text: &mut Vec<u8>,
+    rows: u128,
+    work: u128,
+    contour: u128,
+    plan: &Plan,
+) -> Result<(), AllocError>
+    ensures { OnOk result
+        (text.new.items ≡ text.old.items ++ report_line rows work contour (plan_tree plan.now)) }
+{
+    push_labelled(text, "-- rows=", rows)?;
+    push_labelled(text, " work=", work)?;
+    push_labelled(text, " runs=1 contour=", contour)?;
+    push_plan(alloc, text, plan)?;
+    Ok(())
 }

@@ -7,6 +7,7 @@ ghost use Rattle.outside_io.specs.Files.{FolderState, OnlyReads};
 ghost use Rattle.sql_values.specs.Limits.{max_script_bytes};
 ghost use Rattle.sql_parse.specs.Trees.{statement_tree};
 ghost use Rattle.sql_parse.specs.WellFormed.{IsWellFormed};
+ghost use Rattle.sql_parse.specs.Counts.{predicates_of};
 ghost use Rattle.shell.specs.Printed.{usage_line};
 ghost use Rattle.shell.specs.Refusal.{line_of};
 ghost use Rattle.shell.specs.declared.refusal.Refusal.{Refusal};
@@ -76,6 +77,8 @@ fn carry_out_all<F: Folder, K: Sink>(
     book: &mut Book,
 ) -> Status
     requires well_formed { All (λ statement. IsWellFormed (statement_tree statement)) statements.now }
+    requires predicates { All (λ statement.
+        predicates_of (statement_tree statement) ≤ max_script_bytes) statements.now }
     requires unpaid { book.old ≡ 0 }
     ensures carries { CarriesAll (map statement_tree statements.now) (F.state folder.old) (F.state folder.new) result
         (K.got sink.old) (K.got sink.new) book.old book.new }

@@ -1,10 +1,11 @@
 // Why a script or a statement is refused: each refusal is a value, and becomes its line here alone.
 ghost use Rattle.std.specs.Prelude.{◌≡◌, ◌++◌, IfOk, OnOk, codes, decimal};
-ghost use Rattle.shell.specs.Refusal.{line_of, error_line, limit_line, not_made_line, field_line, fields_line, not_loaded_line, no_token_line, token_fault_word, later_word};
+ghost use Rattle.shell.specs.Refusal.{line_of, error_line, limit_line, no_table_line, duplicate_line, not_made_line, not_bound_line, field_line, fields_line, not_loaded_line, no_token_line, token_fault_word, later_word};
 
 use csv_load::LoadFault;
 use db_catalog::DbFault;
 use itoa::Buffer;
+use sql_bind::BindFault;
 use sql_lex::{LexFault, LexKind};
 use sql_parse::Name;
 use sql_values::{LimitName, Text};
@@ -13,7 +14,7 @@ use std::alloc::{AllocError, Global};
 /// What isn't built yet.
 #[derive(Clone, Copy, Debug, PartialEq, Eq)]
 pub(crate) enum Later {
-    /// A query of anything but all columns of one table.
+    /// A query of several tables.
     Select,
     /// Another statement.
     Statement,
@@ -30,6 +31,8 @@ pub(crate) enum Refusal {
     NoTable(Name),
     /// The database refuses a table.
     NotMade(DbFault),
+    /// The query can't be bound.
+    NotBound(BindFault),
     /// The folder has no file of this name.
     AbsentFile(Text),
     /// The file gives no rows to its table.
@@ -102,14 +105,48 @@ fn later_word(what: Later) -> &'static str
     }
 }
 
+// There is no table of this name.
+fn no_table_line(alloc: Global, name: &[u8]) -> Result<Vec<u8>, AllocError>
+    ensures { IfOk result (λ line. line.items ≡ no_table_line name.now) }
+{
+    error_line(alloc, "E03 table ", name)
+}
+
+// This name stands already.
+fn duplicate_line(alloc: Global, name: &[u8]) -> Result<Vec<u8>, AllocError>
+    ensures { IfOk result (λ line. line.items ≡ duplicate_line name.now) }
+{
+    error_line(alloc, "E06 duplicate ", name)
+}
+
 // The line of a database's refusal. Out of memory refuses nothing.
 fn not_made_line(alloc: Global, fault: &DbFault) -> Result<Vec<u8>, AllocError>
     ensures { IfOk result (λ line. line.items ≡ not_made_line fault.now) }
 {
     match fault {
-        DbFault::Duplicate { name } => error_line(alloc, "E06 duplicate ", name.bytes()),
+        DbFault::Duplicate { name } => duplicate_line(alloc, name.bytes()),
         DbFault::Limit { name, value } => limit_line(alloc, *name, *value),
         DbFault::NoMemory => error_line(alloc, "", b""),
+    }
+}
+
+// The line of a query that can't be bound. Out of memory refuses nothing.
+fn not_bound_line(alloc: Global, fault: &BindFault) -> Result<Vec<u8>, AllocError>
+    ensures { IfOk result (λ line. line.items ≡ not_bound_line fault.now) }
+{
+    match fault {
+        BindFault::UnknownTable { name } => no_table_line(alloc, name.bytes()),
+        BindFault::UnknownColumn { name } => error_line(alloc, "E04 column ", name.bytes()),
+        BindFault::Ambiguous { name } => error_line(alloc, "E05 ambiguous ", name.bytes()),
+        BindFault::DuplicateAlias { name } => duplicate_line(alloc, name.bytes()),
+        BindFault::TypeMismatch { predicate } => {
+            number_line(alloc, "E07 ", "type", u128::from(*predicate))
+        }
+        BindFault::PredicateForm { conjunct } => {
+            number_line(alloc, "E08 ", "predicate", u128::from(*conjunct))
+        }
+        BindFault::Limit { name, value } => limit_line(alloc, *name, *value),
+        BindFault::NoMemory => error_line(alloc, "", b""),
     }
 }
 
@@ -177,8 +214,9 @@ pub(crate) fn refusal_line(alloc: Global, refusal: &Refusal) -> Result<Vec<u8>, 
     match refusal {
         Refusal::NoToken(fault) => no_token_line(alloc, fault),
         Refusal::NoStatement(place) => number_line(alloc, "E02 ", "syntax", *place as u128),
-        Refusal::NoTable(name) => error_line(alloc, "E03 table ", name.bytes()),
+        Refusal::NoTable(name) => no_table_line(alloc, name.bytes()),
         Refusal::NotMade(fault) => not_made_line(alloc, fault),
+        Refusal::NotBound(fault) => not_bound_line(alloc, fault),
         Refusal::AbsentFile(name) => error_line(alloc, "E09 absent ", name.bytes()),
         Refusal::NotLoaded(fault) => not_loaded_line(alloc, fault),
         Refusal::PastLimit(limit, value) => limit_line(alloc, *limit, *value),

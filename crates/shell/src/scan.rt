@@ -1,63 +1,102 @@
-// A scan of a whole table: the words of its rows, in the table's order. It pays for the opening, each page, each row looked
-// at and each row given, and never reads a row unpaid.
-ghost use Rattle.std.specs.Prelude.{◌≡◌, ◌+◌, ◌^◌, ◌<◌, ◌≤◌, length, IfOk, OnOk};
-ghost use Rattle.work_ledger.specs.Charges.{page_charge, row_charge, emit_charge};
+// A scan of a block of one relation: the words of the rows that its filter keeps, in the table's order. It pays for the
+// opening, each page, each row looked at and each row given, and never reads a row unpaid. A row is lent until it's given.
+ghost use Rattle.std.specs.Prelude.{◌≡◌, ◌+◌, ◌*◌, ◌^◌, ◌<◌, ◌≤◌, [], length, IfOk, OnOk};
+ghost use Rattle.work_ledger.specs.Charges.{open_charge, page_charge, row_charge, emit_charge};
 ghost use Rattle.heap_pages.specs.Rows.{rows_on_page};
-ghost use Rattle.sql_values.specs.Limits.{max_columns};
+ghost use Rattle.query_block.specs.Blocks.{block_tree, relation_tree, width_of, IsRelation};
+ghost use Rattle.plan_tree.specs.Plans.{Scan};
+ghost use Rattle.plan_tree.specs.Work.{work_of};
 ghost use Rattle.db_catalog.specs.Database.{table_at};
+ghost use Rattle.db_catalog.specs.Fits.{Fits, FitsTable};
 ghost use Rattle.db_catalog.specs.Meter.{table_pages};
-ghost use Rattle.shell.specs.Printed.{scan_work};
-ghost use Rattle.shell.specs.Scan.{AreRows, AreRowsBefore, SpendsWithin, page_work};
+ghost use Rattle.shell.specs.Limits.{max_work};
+ghost use Rattle.shell.specs.Scan.{AreFiltered, AreFilteredBefore, AreRowsOf, LooksAt, SpendsWithin, page_cost, table_cost};
 
 use db_catalog::Metered;
 use heap_pages::PageView;
-use result_text::LentRow;
+use query_block::{Block, Relation, meets_filter};
+use row_stack::{RowStack, Space};
 use std::alloc::{AllocError, Global};
 use work_ledger::charge;
 
-/// The words of every row of the table, in the table's order. What was granted has to be enough.
-pub(crate) fn scan<'d>(
+/// The words of the rows of a block of one relation, in the table's order. The budget of a query has to be granted, which
+/// is more than any scan costs.
+pub(crate) fn scan(
     alloc: Global,
-    meter: &mut Metered<'d>,
-    table: u32,
-) -> Result<Vec<LentRow<'d>>, AllocError>
-    requires there { table < length meter.old.database.tables }
-    requires some { 1 ≤ length (table_at meter.old.database table).columns }
-    requires few { length (table_at meter.old.database table).columns ≤ max_columns }
-    requires granted { meter.old.account.spent + scan_work (table_at meter.old.database table)
-        ≤ meter.old.account.limit }
-    ensures rows { IfOk result (λ rows. AreRows meter.old.database table
-        (length (table_at meter.old.database table).rows) rows.items) }
-    ensures spends { OnOk result (SpendsWithin (scan_work (table_at meter.old.database table))
-        meter.old meter.new) }
+    meter: &mut Metered<'_>,
+    block: &Block,
+) -> Result<Space, AllocError>
+    requires one { length block.now.relations ≡ 1 }
+    requires fits { Fits meter.old.database (block_tree block.now) }
+    requires granted { meter.old.account.spent + max_work ≤ meter.old.account.limit }
+    ensures rows { IfOk result (λ space.
+        AreRowsOf meter.old.database (block_tree block.now) space.result.rows) }
+    ensures width { IfOk result (λ space. space.result.width ≡ width_of (block_tree block.now)) }
+    ensures spends { OnOk result (SpendsWithin
+        (work_of meter.old.database.tables (block_tree block.now) (Scan 0)) meter.old meter.new) }
 {
-    let mut rows = Vec::with_capacity(alloc, meter.rows(table) as usize)?;
-    pay(meter, charge::OPEN);
-    for no in 0..meter.pages(table) {
-        scan_page(meter, table, no, &mut rows)?;
-    }
-    Ok(rows)
+    let relation = &block.relations()[0];
+    let mut space = Space::new(alloc, block.width());
+    scan_relation(meter, relation, &mut space.result)?;
+    Ok(space)
 }
 
-// Puts the rows of page `no` after those of the pages before it.
-fn scan_page<'d>(
-    meter: &mut Metered<'d>,
-    table: u32,
-    no: u64,
-    rows: &mut Vec<LentRow<'d>>,
+// Puts the words of the rows of a relation that its filter keeps on an empty stack.
+#[tactic(auto, using(crate::proofs::ScanFits::scan_fits))]
+fn scan_relation(
+    meter: &mut Metered<'_>,
+    relation: &Relation,
+    rows: &mut RowStack,
 ) -> Result<(), AllocError>
-    requires there { table < length meter.old.database.tables }
-    requires page { no < table_pages meter.old.database table }
-    requires granted { meter.old.account.spent
-        + page_work (table_at meter.old.database table) no ≤ meter.old.account.limit }
-    requires before { AreRowsBefore meter.old.database table no 0 rows.old.items }
-    ensures after { OnOk result (AreRowsBefore meter.old.database table (no + 1) 0 rows.new.items) }
-    ensures spends { OnOk result (SpendsWithin
-        (page_work (table_at meter.old.database table) no) meter.old meter.new) }
+    requires is { IsRelation (relation_tree relation.now) }
+    requires there { FitsTable meter.old.database (relation_tree relation.now) }
+    requires granted { meter.old.account.spent + max_work ≤ meter.old.account.limit }
+    requires empty { rows.old.rows ≡ [] }
+    requires wide { rows.old.width ≡ length relation.now.columns }
+    ensures rows { OnOk result (AreFiltered meter.old.database (relation_tree relation.now)
+        (length (table_at meter.old.database relation.now.table).rows) rows.new.rows) }
+    ensures wide { OnOk result (rows.new.width ≡ rows.old.width) }
+    ensures spends { let table = table_at meter.old.database relation.now.table in
+        OnOk result (LooksAt
+        (open_charge + page_charge * table_pages meter.old.database relation.now.table
+        + row_charge * length table.rows)
+        (length table.rows) 0 (length rows.new.rows) meter.old meter.new) }
 {
-    let view = open_page(meter, table, no);
-    for slot in 0..meter.rows_on_page(table, no) {
-        scan_row(meter, table, &view, slot, rows)?;
+    let _few = meter.rows(relation.table);
+    pay(meter, charge::OPEN);
+    for no in 0..meter.pages(relation.table) {
+        scan_page(meter, relation, no, rows)?;
+    }
+    Ok(())
+}
+
+// Puts the rows of page `no` that the filter keeps after those of the pages before it.
+fn scan_page(
+    meter: &mut Metered<'_>,
+    relation: &Relation,
+    no: u64,
+    rows: &mut RowStack,
+) -> Result<(), AllocError>
+    requires is { IsRelation (relation_tree relation.now) }
+    requires there { FitsTable meter.old.database (relation_tree relation.now) }
+    requires page { no < table_pages meter.old.database relation.now.table }
+    requires granted { meter.old.account.spent
+        + page_cost (table_at meter.old.database relation.now.table) no
+        ≤ meter.old.account.limit }
+    requires wide { rows.old.width ≡ length relation.now.columns }
+    requires before { AreFilteredBefore meter.old.database (relation_tree relation.now) no 0
+        rows.old.rows }
+    ensures after { OnOk result (AreFilteredBefore meter.old.database (relation_tree relation.now)
+        (no + 1) 0 rows.new.rows) }
+    ensures wide { OnOk result (rows.new.width ≡ rows.old.width) }
+    ensures spends { let table = table_at meter.old.database relation.now.table in
+        let looked = rows_on_page (length table.columns) (length table.rows) no in
+        OnOk result (LooksAt (page_charge + row_charge * looked) looked
+        (length rows.old.rows) (length rows.new.rows) meter.old meter.new) }
+{
+    let view = open_page(meter, relation.table, no);
+    for slot in 0..meter.rows_on_page(relation.table, no) {
+        scan_row(meter, relation, &view, slot, rows)?;
     }
     Ok(())
 }
@@ -76,29 +115,38 @@ fn open_page(meter: &mut Metered<'_>, table: u32, no: u64) -> PageView
     view
 }
 
-// Puts the row in this slot after those before it, where its charges fit.
-fn scan_row<'d>(
-    meter: &mut Metered<'d>,
-    table: u32,
+// Looks at the row in this slot, and puts it after those before it if the filter keeps it, where the charges of both fit.
+fn scan_row(
+    meter: &mut Metered<'_>,
+    relation: &Relation,
     view: &PageView,
     slot: usize,
-    rows: &mut Vec<LentRow<'d>>,
+    rows: &mut RowStack,
 ) -> Result<(), AllocError>
-    requires there { table < length meter.old.database.tables }
-    requires slot { slot < rows_on_page (length (table_at meter.old.database table).columns)
-        (length (table_at meter.old.database table).rows) view.now.number }
+    requires is { IsRelation (relation_tree relation.now) }
+    requires there { FitsTable meter.old.database (relation_tree relation.now) }
+    requires slot { let table = table_at meter.old.database relation.now.table in
+        slot < rows_on_page (length table.columns) (length table.rows) view.now.number }
     requires granted { meter.old.account.spent + (row_charge + emit_charge)
         ≤ meter.old.account.limit }
-    requires before { AreRowsBefore meter.old.database table view.now.number slot rows.old.items }
-    ensures after { OnOk result
-        (AreRowsBefore meter.old.database table view.now.number (slot + 1) rows.new.items) }
-    ensures spends { SpendsWithin (row_charge + emit_charge) meter.old meter.new }
+    requires wide { rows.old.width ≡ length relation.now.columns }
+    requires before { AreFilteredBefore meter.old.database (relation_tree relation.now)
+        view.now.number slot rows.old.rows }
+    ensures after { OnOk result (AreFilteredBefore meter.old.database (relation_tree relation.now)
+        view.now.number (slot + 1) rows.new.rows) }
+    ensures wide { OnOk result (rows.new.width ≡ rows.old.width) }
+    ensures spends { OnOk result (LooksAt row_charge 1
+        (length rows.old.rows) (length rows.new.rows) meter.old meter.new) }
 {
-    let Ok(row) = meter.row(table, view, slot) else {
+    let Ok(row) = meter.row(relation.table, view, slot) else {
         unreachable!()
     };
+    let columns = relation.columns.as_slice();
+    if !meets_filter(relation.filter.as_slice(), columns, row, meter.texts()) {
+        return Ok(());
+    }
     pay(meter, charge::EMIT);
-    rows.push(LentRow::new(row))?;
+    let _place = rows.push(row)?;
     Ok(())
 }
 

@@ -1,12 +1,14 @@
 // What the statements so far have made, and what one statement more does. A statement that stops changes nothing.
-ghost use Rattle.std.specs.Prelude.{◌≡◌, ◌+◌, ◌^◌, ◌<◌, ◌≤◌, length, OnOk, IfErr, OnErr, IsErrOf, option_map};
+ghost use Rattle.std.specs.Prelude.{◌≡◌, ◌+◌, ◌^◌, ◌<◌, ◌≤◌, length, OnOk, IfErr, OnErr, IsErrOf};
 ghost use Rattle.std.specs.Str.{IsUtf8};
 ghost use Rattle.outside_io.specs.Files.{OnlyReads};
 ghost use Rattle.sql_parse.specs.Trees.{statement_tree, query_tree};
-ghost use Rattle.sql_parse.specs.WellFormed.{IsWellFormed};
+ghost use Rattle.sql_parse.specs.WellFormed.{IsWellFormed, IsWellFormedQuery};
+ghost use Rattle.sql_parse.specs.Counts.{of_condition, predicates_in, predicates_of};
+ghost use Rattle.sql_values.specs.Limits.{max_script_bytes};
 ghost use Rattle.shell.specs.Limits.{max_work};
 ghost use Rattle.csv_load.specs.Load.{load_due};
-ghost use Rattle.shell.specs.Script.{Refuses, nothing_made, at_table, make_table, select_all, select_from, whole_table, with_loaded};
+ghost use Rattle.shell.specs.Script.{Refuses, nothing_made, answer_query, at_table, make_table, with_loaded};
 ghost use Rattle.shell.specs.Stop.{StopsAt};
 ghost use Rattle.shell.specs.Due.{ReadsFile, ReturnsDue, ReturnsFree, LoadsFile, IsCarriedOut};
 
@@ -17,6 +19,7 @@ use crate::refusal::{Later, Refusal};
 use crate::stop::Stop;
 use db_catalog::{Database, Metered};
 use outside_io::{FileFault, Folder};
+use sql_bind::bind;
 use sql_parse::{LoadDef, Name, Query, Statement, TableDef};
 use sql_values::{LimitName, Text};
 use std::alloc::Global;
@@ -99,24 +102,6 @@ fn read_file<F: Folder>(alloc: Global, name: &Text, folder: &mut F) -> Result<Ve
     }
 }
 
-// The table of a query for all columns of one table, under its own name and without a condition.
-fn whole_table(query: &Query) -> Option<&Name>
-    ensures { option_map (λ name. name.now) result
-        ≡ whole_table query.now.columns query.now.from (query_tree query.now).condition }
-{
-    let [item] = query.from.as_slice() else {
-        return None;
-    };
-    if query.columns.is_some() || query.condition.is_some() {
-        return None;
-    }
-    if item.alias.bytes() == item.table.bytes() {
-        Some(&item.table)
-    } else {
-        None
-    }
-}
-
 impl Session {
     /// Before the first statement.
     pub(crate) fn new(alloc: Global) -> Session
@@ -177,36 +162,25 @@ impl Session {
         self.load_bytes(alloc, table, &bytes)
     }
 
-    // Answers a query of all columns of the table of this name.
-    fn select_table(&self, alloc: Global, name: &Name, book: &mut Book) -> Result<Vec<u8>, Stop>
-        requires room { book.old + max_work ≤ 2 ^ 126 }
-        ensures due { ReturnsDue (at_table self.now name.now (select_all self.now))
-            result self.now book.old book.new }
-        ensures within { book.new ≤ book.old + max_work }
-        ensures no_fault { IsErrOf result Stop.ReadFault → ⊥ }
-    {
-        let Some(table) = self.database.table_of(name.bytes()) else {
-            return Err(no_table(name));
-        };
-        let mut meter = Metered::new(&self.database);
-        let text = answer(alloc, &self.database, &mut meter, table)?;
-        book.enter(&meter);
-        Ok(text)
-    }
-
     // Answers a query.
     fn select(&self, alloc: Global, query: &Query, book: &mut Book) -> Result<Vec<u8>, Stop>
+        requires well_formed { IsWellFormedQuery (query_tree query.now) }
+        requires predicates { of_condition predicates_in (query_tree query.now).condition
+            ≤ max_script_bytes }
         requires room { book.old + max_work ≤ 2 ^ 126 }
-        ensures due { ReturnsDue (select_from self.now (whole_table query.now.columns
-            query.now.from (query_tree query.now).condition))
+        ensures due { ReturnsDue (answer_query self.now (query_tree query.now))
             result self.now book.old book.new }
         ensures within { book.new ≤ book.old + max_work }
         ensures no_fault { IsErrOf result Stop.ReadFault → ⊥ }
     {
-        match whole_table(query) {
-            Some(name) => self.select_table(alloc, name, book),
-            None => Err(later(Later::Select)),
+        let block = bind(alloc, &self.database, query)?;
+        if block.relations().len() > 1 {
+            return Err(later(Later::Select));
         }
+        let mut meter = Metered::new(&self.database);
+        let text = answer(alloc, &self.database, &mut meter, &block)?;
+        book.enter(&meter);
+        Ok(text)
     }
 
     /// Carries a statement out and returns what it prints. One that stops changes nothing.
@@ -218,6 +192,7 @@ impl Session {
         book: &mut Book,
     ) -> Result<Vec<u8>, Stop>
         requires well_formed { IsWellFormed (statement_tree statement.now) }
+        requires predicates { predicates_of (statement_tree statement.now) ≤ max_script_bytes }
         requires room { book.old + max_work ≤ 2 ^ 126 }
         ensures due { IsCarriedOut (statement_tree statement.now)
             (F.state folder.old) (F.state folder.new) self.old self.new book.old book.new result }

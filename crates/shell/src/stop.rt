@@ -2,6 +2,7 @@
 use crate::refusal::Refusal;
 use csv_load::LoadFault;
 use db_catalog::DbFault;
+use sql_bind::BindFault;
 use std::alloc::AllocError;
 
 /// Why a statement isn't carried out.
@@ -50,6 +51,20 @@ impl From<LoadFault> for Stop {
         match fault {
             LoadFault::NoMemory => Stop::NoMemory,
             fault => Stop::Refused(Refusal::NotLoaded(fault)),
+        }
+    }
+}
+
+impl From<BindFault> for Stop {
+    ghost use Rattle.std.specs.Prelude.{◌≡◌};
+    ghost use Rattle.shell.specs.Stop.{stop_of_binding};
+
+    ghost from_gives = { λ fault stop. stop ≡ stop_of_binding fault };
+
+    fn from(fault: BindFault) -> Stop {
+        match fault {
+            BindFault::NoMemory => Stop::NoMemory,
+            fault => Stop::Refused(Refusal::NotBound(fault)),
         }
     }
 }

@@ -99,7 +99,7 @@ struct Case<'a> {
     text: &'a [u8],
 }
 
-static CASES: [Case<'static>; 42] = [
+static CASES: [Case<'static>; 50] = [
     Case {
         name: "nothing",
         script: b"",
@@ -311,18 +311,11 @@ static CASES: [Case<'static>; 42] = [
         text: b"error E09 absent it's\n",
     },
     Case {
-        name: "a named column",
-        script: b"SELECT A FROM T",
+        name: "a column by its table's alias, whose name has none",
+        script: b"CREATE TABLE T (A INTEGER, B INTEGER); SELECT P.B FROM T AS P",
         file: ROWS,
-        status: Status::Refused,
-        text: LATER_SELECT,
-    },
-    Case {
-        name: "an alias",
-        script: b"SELECT * FROM T P",
-        file: ROWS,
-        status: Status::Refused,
-        text: LATER_SELECT,
+        status: Status::Done,
+        text: b"B\n-- rows=0 work=1 runs=1 contour=1 plan=S0\n",
     },
     Case {
         name: "the table's name as alias",
@@ -332,18 +325,81 @@ static CASES: [Case<'static>; 42] = [
         text: b"A\n-- rows=0 work=1 runs=1 contour=1 plan=S0\n",
     },
     Case {
-        name: "a condition",
-        script: b"SELECT * FROM T WHERE A = 1",
+        name: "a condition that two rows of three meet",
+        script: b"CREATE TABLE A (K INTEGER, X INTEGER); LOAD 't.csv' INTO A; SELECT K FROM A WHERE X = 7 AND K <> 2",
+        file: b"K,X\n1,7\n2,7\n3,7\n",
+        status: Status::Done,
+        text: b"-- load rows=3\nK\n1\n3\n-- rows=2 work=14 runs=1 contour=1 plan=S0\n",
+    },
+    Case {
+        name: "a condition that is unknown on a row",
+        script: b"CREATE TABLE T (A INTEGER, B INTEGER); LOAD 't.csv' INTO T; SELECT A FROM T WHERE NOT B > 3",
+        file: ROWS,
+        status: Status::Done,
+        text: b"-- load rows=3\nA\n1\n-- rows=1 work=13 runs=1 contour=1 plan=S0\n",
+    },
+    Case {
+        name: "a column twice and out of order, of texts",
+        script: b"CREATE TABLE T (S VARCHAR(9), N INTEGER); LOAD 't.csv' INTO T; SELECT N, S, N FROM T WHERE S IN ('b', 'c') OR N IS NULL",
+        file: b"S,N\nb,2\na,1\nc,1\na,\n",
+        status: Status::Done,
+        text: b"-- load rows=4\nN,S,N\n,a,\n1,c,1\n2,b,2\n-- rows=3 work=16 runs=1 contour=1 plan=S0\n",
+    },
+    Case {
+        name: "two tables",
+        script: b"CREATE TABLE A (K INTEGER, X INTEGER); CREATE TABLE B (K INTEGER, Y INTEGER); SELECT * FROM A, B",
         file: ROWS,
         status: Status::Refused,
         text: LATER_SELECT,
     },
     Case {
-        name: "two tables",
-        script: b"SELECT * FROM T, U",
+        name: "no column of this name",
+        script: b"CREATE TABLE A (K INTEGER); SELECT a.n FROM A",
         file: ROWS,
         status: Status::Refused,
-        text: LATER_SELECT,
+        text: b"error E04 column A.N\n",
+    },
+    Case {
+        name: "a column of two tables",
+        script: b"CREATE TABLE A (K INTEGER); SELECT K FROM A P, A Q",
+        file: ROWS,
+        status: Status::Refused,
+        text: b"error E05 ambiguous K\n",
+    },
+    Case {
+        name: "a table twice under one alias",
+        script: b"CREATE TABLE T (A INTEGER); SELECT * FROM T, T",
+        file: ROWS,
+        status: Status::Refused,
+        text: b"error E06 duplicate T\n",
+    },
+    Case {
+        name: "a number compared with a text",
+        script: b"CREATE TABLE A (X INTEGER); SELECT * FROM A WHERE X = 'a'",
+        file: ROWS,
+        status: Status::Refused,
+        text: b"error E07 type 1\n",
+    },
+    Case {
+        name: "a conjunct that is no edge",
+        script: b"CREATE TABLE A (K INTEGER, X INTEGER); CREATE TABLE B (K INTEGER, Y INTEGER); SELECT * FROM A, B WHERE A.X < B.Y",
+        file: ROWS,
+        status: Status::Refused,
+        text: b"error E08 predicate 1\n",
+    },
+    Case {
+        name: "seven tables in FROM",
+        script: b"SELECT * FROM T, T, T, T, T, T, T",
+        file: ROWS,
+        status: Status::Refused,
+        text: b"error E12 limit relations 7\n",
+    },
+    Case {
+        name: "seven edges",
+        script: b"CREATE TABLE A (K INTEGER, X INTEGER); CREATE TABLE B (K INTEGER, Y INTEGER); SELECT * FROM A, B WHERE A.X = B.Y AND A.X = B.Y AND A.X = B.Y AND A.X = B.Y AND A.X = B.Y AND A.X = B.Y AND A.X = B.Y",
+        file: ROWS,
+        status: Status::Refused,
+        text: b"error E12 limit axes 7\n",
     },
     Case {
         name: "an index",
@@ -448,6 +504,7 @@ struct Limits {
     too_deep: Vec<u8>,
     tables: Vec<u8>,
     columns: Vec<u8>,
+    projection: Vec<u8>,
 }
 
 fn make_limits(alloc: Global) -> Result<Limits, AllocError> {
@@ -456,6 +513,13 @@ fn make_limits(alloc: Global) -> Result<Limits, AllocError> {
         too_deep: nested(alloc, 33)?,
         tables: many_tables(alloc, 65)?,
         columns: repeated(alloc, b"CREATE TABLE T (C INT", b", C INT", 32, b")")?,
+        projection: repeated(
+            alloc,
+            b"CREATE TABLE T (A INT); SELECT A",
+            b", A",
+            256,
+            b" FROM T",
+        )?,
     })
 }
 
@@ -494,11 +558,18 @@ fn scripts_at_a_limit_print_their_texts(rt: HostRuntime) -> Result<(), Fail> {
             text: b"error E12 limit tables 65\n",
         },
         Case {
-            name: "parentheses as deep as may be",
+            name: "257 columns in SELECT",
+            script: &limits.projection,
+            file: ROWS,
+            status: Status::Refused,
+            text: b"error E12 limit projection 257\n",
+        },
+        Case {
+            name: "parentheses as deep as may be, round a condition on a table that isn't there",
             script: &limits.deepest,
             file: ROWS,
             status: Status::Refused,
-            text: LATER_SELECT,
+            text: b"error E03 table T\n",
         },
         Case {
             name: "parentheses that are too deep",
