@@ -1,3 +1,4 @@
 pub mod Indexes
+pub mod PlanOrder
 pub mod Sets
 mod Tested

@@ -1,17 +1,21 @@
 //! Plans: in which order and by which joins the relations of a block come together, and which trees are plans of it.
 //! To the layers above it promises that `is_plan` finds exactly the plans of a block, whatever tree it is given, that
-//! `covers` is a plan's set of relations, and that `plan_text` is its text. The definition of a plan's work on stored
-//! tables, as one sum, stands here too.
-//! It never reads a table, never looks at a cost, and takes memory for texts alone.
+//! `covers` is a plan's set of relations, that `plan_order` is a total order of plans, and that `plan_text` is a plan's
+//! text. The definition of a plan's work on stored tables, as one sum, stands here too.
+//! It never reads a table, never looks at a cost, and takes memory for texts and copies alone.
 #![tactic(auto)]
 
+mod copies;
 mod leaves;
+mod order;
 mod plan;
 mod rules;
 mod text;
 mod usable;
 
+pub use copies::copy;
 pub use leaves::{bits_are_leaves, covers};
+pub use order::{plan_order, plan_order_is_total};
 pub use plan::Plan;
 pub use rules::is_plan;
 pub use text::plan_text;
