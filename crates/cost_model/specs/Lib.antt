@@ -1,0 +1,8 @@
+pub mod Fits
+pub mod Counts
+pub mod Costing
+pub mod Cards
+pub mod Costs
+pub mod Best
+pub mod Optimal
+pub mod Parts

@@ -1,0 +1,56 @@
+-- The optimal cost at a point: the least of all plans of a block.
+use Rattle.std.specs.Prelude.{ℕ, zero, suc, ◌++◌, ◌&&◌, not, min, Bool, List, [], ◌∷◌, filter, map, length, nat_lt, nat_eq}
+use Rattle.std.specs.List.{flat_map, list_all, list_any, range_with_len}
+use Rattle.query_block.specs.Blocks.{RelationTree, BlockTree, relation_at}
+use Rattle.plan_tree.specs.Plans.{PlanTree, Scan, IndexScan, Nest, Hash, Merge, IndexLoop, leaves_of, has_leaf}
+use Rattle.plan_tree.specs.Usable.{is_usable}
+use Rattle.plan_tree.specs.Enumerated.{edge_at, column_on, crosses}
+use Rattle.cost_model.specs.Costing.{CostingTree}
+use Rattle.cost_model.specs.Costs.{cost_of}
+
+-- the ways to read one relation: a scan, and a scan of each index on a column that has a usable conjunct
+abbrev pub readings : BlockTree → (relation : ℕ) → List PlanTree
+readings block relation =
+    let tree = relation_at block.relations relation in
+    Scan relation ∷ map (IndexScan relation) (filter (λ column. list_any (is_usable tree.columns column) tree.filter) tree.indexes)
+
+-- the joins of two plans that share no relation, by no edge or by one that crosses them
+abbrev pub joins : BlockTree → (left right : PlanTree) → List PlanTree
+joins block left right =
+    let edges = filter (λ edge. crosses (edge_at block.edges edge) left right) (range_with_len 0 (length block.edges)) in
+    filter (λ _. not (list_any (has_leaf right) (leaves_of left)))
+    (Nest left right ∷ flat_map (λ edge. Hash edge left right ∷ Merge edge left right ∷ []) edges)
+
+-- the look-ups of a relation that a plan hasn't, by an index on its column of an edge between both
+abbrev pub look_ups : BlockTree → (left : PlanTree) → (relation : ℕ) → List PlanTree
+look_ups block left relation =
+    let indexes = (relation_at block.relations relation).indexes in
+    map (λ edge. IndexLoop edge left relation)
+    (filter
+    (λ edge. not (has_leaf left relation) && crosses (edge_at block.edges edge) left (Scan relation)
+    && list_any (λ other. nat_eq other (column_on (edge_at block.edges edge) relation)) indexes)
+    (range_with_len 0 (length block.edges)))
+
+-- all plans of some of the block's relations that are at most so many nodes deep
+unfoldable pub sub_plans : BlockTree → (depth : ℕ) → List PlanTree
+sub_plans block zero = []
+sub_plans block (suc depth) =
+    let relations = range_with_len 0 (length block.relations) in
+    let sides = sub_plans block depth in
+    flat_map (readings block) relations
+    ++ flat_map (λ left. flat_map (joins block left) sides ++ flat_map (look_ups block left) relations) sides
+
+-- all plans of a block: no plan is deeper than it has relations
+abbrev pub plans_of : BlockTree → List PlanTree
+plans_of block =
+    filter (λ p. list_all (has_leaf p) (range_with_len 0 (length block.relations))) (sub_plans block (length block.relations))
+
+-- the least of some numbers
+abbrev pub least_of : List ℕ → ℕ
+least_of [] = 0
+least_of (n ∷ []) = n
+least_of (n ∷ m ∷ more) = min n (least_of (m ∷ more))
+
+-- the least cost of a plan of the block at a point
+abbrev pub optimal_cost : CostingTree → (point : List ℕ) → ℕ
+optimal_cost costing point = least_of (map (λ p. cost_of costing p point) (plans_of costing.block))

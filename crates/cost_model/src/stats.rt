@@ -1,0 +1,57 @@
+// The counts of a block's tables, as plain data. Nothing here counts.
+use sql_values::Sequence;
+
+/// What is counted of the tables of a block.
+#[derive(Debug, Drop)]
+pub struct Stats {
+    /// One for each relation of the block, in FROM order.
+    pub relations: Sequence<RelationStats>,
+}
+
+/// What is counted of a relation's table.
+#[derive(Debug, Drop)]
+pub struct RelationStats {
+    /// The rows of the table.
+    pub rows: u64,
+    /// The pages on which they stand.
+    pub pages: u64,
+    /// The rows on which each conjunct of the relation's filter is true.
+    pub kept: u64,
+    /// One for each indexed column of the relation, in the block's order.
+    pub columns: Sequence<IndexStats>,
+}
+
+/// What is counted of an indexed column.
+#[derive(Clone, Copy, Debug, PartialEq, Eq)]
+pub struct IndexStats {
+    /// The column's number in its table, from 0.
+    pub column: u8,
+    /// The levels of its index, 1 to 4.
+    pub height: u32,
+    /// The rows in which the column isn't NULL and meets every usable conjunct on it; none where no conjunct is usable.
+    pub matches: Option<u64>,
+}
+
+/// A count of a relation that isn't what it was.
+#[derive(Clone, Copy, Debug, PartialEq, Eq)]
+pub struct Stale {
+    /// The relation, from 0 in FROM order.
+    pub relation: u32,
+    /// Which of its counts.
+    pub count: CountName,
+    /// What it was.
+    pub kept: u64,
+    /// What it is.
+    pub present: u64,
+}
+
+/// A count of a relation, as a refusal names it.
+#[derive(Clone, Copy, Debug, PartialEq, Eq)]
+pub enum CountName {
+    /// The rows of its table.
+    Rows,
+    /// The rows that its filter keeps.
+    Kept,
+    /// How many of its table's columns are indexed.
+    Indexes,
+}
