@@ -1,8 +1,10 @@
 -- What `cost` knows of each part of a plan.
-use Rattle.std.specs.Prelude.{◌≡◌, ℕ, ◌+◌, ◌*◌, ◌^◌, ◌<◌, ◌≤◌, List, bit_or}
-use Rattle.sql_values.specs.Limits.{max_product}
+use Rattle.std.specs.Prelude.{◌≡◌, ℕ, ◌+◌, ◌*◌, ◌^◌, ◌<◌, ◌≤◌, All, List, bit_or, unwrap_or}
+use Rattle.sql_values.specs.Limits.{max_rows, max_product}
 use Rattle.plan_tree.specs.Plans.{PlanTree, covers_of}
 use Rattle.cost_model.specs.declared.part.Part.{Part}
+use Rattle.cost_model.specs.declared.stats.RelationStats.{RelationStats}
+use Rattle.cost_model.specs.declared.stats.IndexStats.{IndexStats}
 use Rattle.cost_model.specs.Costing.{CostingTree}
 use Rattle.cost_model.specs.Cards.{set_of, card_of}
 use Rattle.cost_model.specs.Costs.{relation_stats, out_card, cost_of}
@@ -34,3 +36,13 @@ pub record IsJoined (costing : CostingTree) (point : List ℕ) (left right : Par
   pub set : part.set ≡ bit_or left.set right.set
   pub card : part.card ≡ card_of costing (set_of part.set) point
   pub cost : part.cost ≡ left.cost + right.cost + own
+
+-- bounds of the counts of an indexed column, and of those of a relation
+pub record IsFewIndex (index : IndexStats) : Type 0 where
+  pub height : index.height ≤ 4
+  pub matches : unwrap_or index.matches 0 ≤ max_rows
+
+pub record AreFew (stats : RelationStats) : Type 0 where
+  pub rows : stats.rows ≤ max_rows
+  pub pages : stats.pages ≤ max_rows
+  pub columns : All IsFewIndex stats.columns

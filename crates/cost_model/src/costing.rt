@@ -1,6 +1,6 @@
 // The cards and costs of plans. Each is worked out anew from the counts; whoever asks for many keeps what it asked for.
-ghost use Rattle.std.specs.Prelude.{◌≡◌, ◌*◌, ◌^◌, ◌<◌, ◌≤◌, All, length, unwrap_or};
-ghost use Rattle.sql_values.specs.Limits.{max_rows, max_product};
+ghost use Rattle.std.specs.Prelude.{◌≡◌, ◌*◌, ◌^◌, ◌<◌, ◌≤◌, length};
+ghost use Rattle.sql_values.specs.Limits.{max_product};
 ghost use Rattle.ess_grid.specs.Points.{IsPoint};
 ghost use Rattle.query_block.specs.Blocks.{block_tree};
 ghost use Rattle.plan_tree.specs.Plans.{plan_tree, Scan, IndexScan};
@@ -10,7 +10,7 @@ ghost use Rattle.cost_model.specs.Fits.{FitsBlock};
 ghost use Rattle.cost_model.specs.Costing.{costing_tree, IsCosting};
 ghost use Rattle.cost_model.specs.Cards.{set_of, kept_product, card_of};
 ghost use Rattle.cost_model.specs.Costs.{relation_stats, index_on, index_stats, candidate_card, cost_of};
-ghost use Rattle.cost_model.specs.Parts.{AreSides, IsPart, IsJoined, table_part};
+ghost use Rattle.cost_model.specs.Parts.{AreSides, AreFew, IsFewIndex, IsJoined, IsPart, table_part};
 
 use crate::part::{Part, hash_cost, index_loop_cost, merge_cost, nest_cost, scaled};
 use crate::set::{has, is_inside, set_of_one};
@@ -121,12 +121,14 @@ impl<'c> Costing<'c> {
         ensures cost { result ≡ cost_of (costing_tree self.now) (plan_tree p.now) q.now }
         ensures bound { result < 2 ^ 113 }
     {
+        prove!(q.levels().len() == self.block.edges().len());
         self.part(p, q).cost
     }
 
     // A part of a plan.
     #[cycle(part)]
     fn part(&self, p: &Plan, q: &Point) -> Part
+        requires costing { IsCosting (costing_tree self.now) }
         requires plan { IsSubPlan (block_tree self.now.block) (plan_tree p.now) }
         requires point { IsPoint self.now.grid q.now }
         ensures { IsPart (costing_tree self.now) q.now (plan_tree p.now) result }
@@ -188,7 +190,7 @@ impl<'c> Costing<'c> {
         requires point { IsPoint self.now.grid q.now }
         ensures { IsPart (costing_tree self.now) q.now (Scan relation) result }
     {
-        let set = set_of_one(relation);
+        let set = self.set_of(relation);
         let card = self.card(set, q);
         let stats = self.relation(relation);
         let cost = 1 + 8 * u128::from(stats.pages) + u128::from(stats.rows) + card;
@@ -201,7 +203,7 @@ impl<'c> Costing<'c> {
         requires point { IsPoint self.now.grid q.now }
         ensures { IsPart (costing_tree self.now) q.now (IndexScan relation column) result }
     {
-        let set = set_of_one(relation);
+        let set = self.set_of(relation);
         let card = self.card(set, q);
         let index = self.index(relation, column);
         let matches = u128::from(index.matches.unwrap_or(0));
@@ -270,7 +272,7 @@ impl<'c> Costing<'c> {
             (index_loop_work height left.now.card candidates result.card) result }
     {
         let right = Part {
-            set: set_of_one(relation),
+            set: self.set_of(relation),
             card: u128::from(self.relation(relation).rows),
             cost: 0,
         };
@@ -284,14 +286,20 @@ impl<'c> Costing<'c> {
         part
     }
 
+    // The set of one relation.
+    fn set_of(&self, relation: u8) -> u8
+        requires { relation < length self.now.block.relations }
+        ensures { result ≡ 2 ^ relation }
+    {
+        prove!((relation as usize) < self.block.relations().len());
+        set_of_one(relation)
+    }
+
     // The counts of a relation.
     fn relation(&self, relation: u8) -> &'c RelationStats
         requires { relation < length self.now.block.relations }
         ensures stats { result.now ≡ relation_stats self.now.stats relation }
-        ensures rows { result.now.rows ≤ max_rows }
-        ensures pages { result.now.pages ≤ max_rows }
-        ensures columns { All (λ index. index.height ≤ 4) result.now.columns }
-        ensures matches { All (λ index. unwrap_or index.matches 0 ≤ max_rows) result.now.columns }
+        ensures few { AreFew result.now }
     {
         &self.stats.relations.as_slice()[relation as usize]
     }
@@ -300,8 +308,7 @@ impl<'c> Costing<'c> {
     fn index(&self, relation: u8, column: u8) -> IndexStats
         requires { relation < length self.now.block.relations }
         ensures stats { result ≡ index_stats self.now.stats relation column }
-        ensures low { result.height ≤ 4 }
-        ensures matches { unwrap_or result.matches 0 ≤ max_rows }
+        ensures few { IsFewIndex result }
     {
         index_on(self.relation(relation).columns.as_slice(), column)
     }

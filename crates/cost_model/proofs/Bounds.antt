@@ -1,0 +1,315 @@
+-- Bounds on cards and costs: no pairs pass the limit of combinations, and a cost grows with the number of leaves alone.
+use Rattle.std.proofs.Common.{◌≡◌, ℕ, zero, suc, ◌+◌, ◌-◌, ◌*◌, ◌^◌, ◌<◌, ◌≤◌, cond, max, List, [], ◌∷◌, ◌++◌, All, length, map, get_or, unwrap_or, None, Some, Option, nat_eq, refl, ap, drop, sym, subst, ◌∙◌, inl, inr, le_refl, arith}
+use Rattle.std.specs.Prelude.{Bool, true, false, ◌&&◌, ◌||◌, IsTrue, IsFalse, IfSome, slice_index}
+use Rattle.std.specs.List.{AllZip, list_any}
+use Rattle.std.proofs.Math.Nat.{mul-le-mul_left, mul-le-mul_right, mul_comm, mul_assoc, le-max_left, le-max_right}
+use Rattle.std.proofs.lemmas.Nat.{mul-le}
+use Rattle.std.proofs.lemmas.Bool.{cases_eq, cases_Bool}
+use Rattle.std.proofs.lemmas.Bool.Decides.{nat_tests}
+use Rattle.std.proofs.lemmas.List.{at_drop_more}
+use Rattle.std.proofs.lemmas.List.Elements.{All-nil, All-cons, All-head, All-tail, All-get_or}
+use Rattle.std.proofs.lemmas.List.Folds.{list_any-append}
+use Rattle.sql_values.specs.Limits.{max_rows, max_product}
+use Rattle.query_block.specs.Blocks.{RelationTree, BlockTree, relation_at}
+use Rattle.query_block.specs.Meaning.{RelationSet}
+use Rattle.plan_tree.specs.Plans.{PlanTree, Scan, IndexScan, Nest, Hash, Merge, IndexLoop, leaves_of, has_leaf}
+use Rattle.plan_tree.specs.Enumerated.{AreApart, IsSubPlan, column_on, edge_at}
+use Rattle.plan_tree.specs.Work.{bits, nest_work, hash_work, merge_work, index_loop_work}
+use Rattle.cost_model.specs.declared.stats.RelationStats.{RelationStats}
+use Rattle.cost_model.specs.declared.stats.IndexStats.{IndexStats}
+use Rattle.cost_model.specs.Fits.{FitsIndex, FitsRelation, FitsBlock, row_product}
+use Rattle.cost_model.specs.Costing.{CostingTree, IsCosting}
+use Rattle.cost_model.specs.Cards.{kept_product, card_of}
+use Rattle.cost_model.specs.Costs.{relation_stats, index_on, index_stats, out_card, candidate_card, scan_cost, index_scan_cost, cost_of}
+use Rattle.cost_model.specs.Parts.{IsFewIndex, AreFew}
+use Rattle.cost_model.proofs.Bits.{bits-few}
+use Rattle.cost_model.proofs.Sets.{leaf-of-both, apart-sets, size_of, size-few, size-of-both, size-some}
+use Rattle.cost_model.proofs.Cards.{card-few, candidates-few}
+
+-- ---- products of counts
+
+abbrev pub HasFewKept : RelationStats → Type 0
+HasFewKept stats = stats.kept ≤ stats.rows
+
+pub few-kept : (relations : List RelationTree) (stats : List RelationStats) → AllZip FitsRelation relations stats → All HasFewKept stats
+few-kept [] [] fits = All-nil HasFewKept
+few-kept [] (one ∷ more) fits = absurd fits
+few-kept (relation ∷ relations) [] fits = absurd fits
+few-kept (relation ∷ relations) (one ∷ more) fits = All-cons HasFewKept one more fits.0.kept (few-kept relations more fits.1)
+
+factor-few : (b : Bool) (kept rows : ℕ) → kept ≤ rows → cond b kept 1 ≤ max 1 rows
+factor-few true kept rows few = omega (arith, few, le-max_right 1 rows)
+factor-few false kept rows few = le-max_left 1 rows
+
+pub kept-few : (set : RelationSet) (number : ℕ) (stats : List RelationStats) → All HasFewKept stats → kept_product set number stats ≤ row_product stats
+kept-few set number [] few = omega arith
+kept-few set number (one ∷ more) few =
+    mul-le _ _ _ _ (factor-few (set number) one.kept one.rows (All-head HasFewKept one more few)) (kept-few set (number + 1) more (All-tail HasFewKept one more few))
+
+-- at most one of two sets without a common relation has it
+factors-few : (a b : Bool) (kept rows : ℕ) → (a && b) ≡ false → kept ≤ rows → cond a kept 1 * cond b kept 1 ≤ max 1 rows
+factors-few true true kept rows apart few = absurd (grind (arith, apart))
+factors-few true false kept rows apart few = omega (arith, few, le-max_right 1 rows)
+factors-few false true kept rows apart few = omega (arith, few, le-max_right 1 rows)
+factors-few false false kept rows apart few = omega (arith, le-max_left 1 rows)
+
+exchange : (a b c d : ℕ) → a * b * (c * d) ≡ a * c * (b * d)
+exchange a b c d = mul_assoc a b (c * d) ∙ ap (λ n. a * n) (sym (mul_assoc b c d) ∙ ap (λ n. n * d) (mul_comm b c) ∙ mul_assoc c b d) ∙ sym (mul_assoc a c (b * d))
+
+abbrev pub Apart : RelationSet → RelationSet → Type 0
+Apart set other = (relation : ℕ) → IsFalse (set relation && other relation)
+
+pub pairs-few : (set other : RelationSet) (number : ℕ) (stats : List RelationStats) → Apart set other → All HasFewKept stats
+    → kept_product set number stats * kept_product other number stats ≤ row_product stats
+pairs-few set other number [] apart few = omega arith
+pairs-few set other number (one ∷ more) apart few =
+    let first = factors-few (set number) (other number) one.kept one.rows (apart number) (All-head HasFewKept one more few) in
+    let rest = pairs-few set other (number + 1) more apart (All-tail HasFewKept one more few) in
+    let same = exchange (cond (set number) one.kept 1) (kept_product set (number + 1) more) (cond (other number) one.kept 1) (kept_product other (number + 1) more) in
+    subst (λ n. n ≤ row_product (one ∷ more)) (sym same) (mul-le _ _ _ _ first rest)
+
+-- nor do the rows of a table that isn't in the set make too many pairs with it
+pub rows-few : (set : RelationSet) (number place : ℕ) (stats : List RelationStats) (none : RelationStats) → set (number + place) ≡ false → place < length stats → All HasFewKept stats
+    → kept_product set number stats * (get_or stats place none).rows ≤ row_product stats
+rows-few set number place [] none out below few = absurd (omega (arith, below))
+rows-few set number zero (one ∷ more) none out below few =
+    let here : set number ≡ false = ap set (omega arith) ∙ out in
+    let rest = kept-few set (number + 1) more (All-tail HasFewKept one more few) in
+    let product : kept_product set number (one ∷ more) ≡ kept_product set (number + 1) more = rw here (omega arith) in
+    let same : kept_product set number (one ∷ more) * one.rows ≡ one.rows * kept_product set (number + 1) more = ap (λ n. n * one.rows) product ∙ mul_comm _ one.rows in
+    subst (λ n. n ≤ row_product (one ∷ more)) (sym same) (mul-le _ _ _ _ (le-max_right 1 one.rows) rest)
+rows-few set number (suc place) (one ∷ more) none out below few =
+    let rest = rows-few set (number + 1) place more none (ap set (omega arith) ∙ out) (omega (arith, below)) (All-tail HasFewKept one more few) in
+    let first = factor-few (set number) one.kept one.rows (All-head HasFewKept one more few) in
+    subst (λ n. n ≤ row_product (one ∷ more)) (sym (mul_assoc (cond (set number) one.kept 1) (kept_product set (number + 1) more) (get_or more place none).rows))
+    (mul-le _ _ _ _ first rest)
+
+-- ---- cards
+
+pub fits-kept : (costing : CostingTree) → IsCosting costing → All HasFewKept costing.stats.relations
+fits-kept costing is = few-kept costing.block.relations costing.stats.relations is.stats.relations
+
+pub card-below : (costing : CostingTree) (set : RelationSet) (point : List ℕ) → IsCosting costing → card_of costing set point ≤ max_product
+card-below costing set point is =
+    omega (arith, card-few costing set point, kept-few set 0 costing.stats.relations (fits-kept costing is), is.stats.product)
+
+pub pairs-below : (costing : CostingTree) (set other : RelationSet) (point : List ℕ) → IsCosting costing → Apart set other
+    → card_of costing set point * card_of costing other point ≤ max_product
+pairs-below costing set other point is apart =
+    let cards = mul-le _ _ _ _ (card-few costing set point) (card-few costing other point) in
+    omega (arith, cards, pairs-few set other 0 costing.stats.relations apart (fits-kept costing is), is.stats.product)
+
+length-fits : (relations : List RelationTree) (stats : List RelationStats) → AllZip FitsRelation relations stats → length stats ≡ length relations
+length-fits [] [] fits = refl
+length-fits [] (one ∷ more) fits = absurd fits
+length-fits (relation ∷ relations) [] fits = absurd fits
+length-fits (relation ∷ relations) (one ∷ more) fits = ap suc (length-fits relations more fits.1)
+
+pub stats-long : (costing : CostingTree) → IsCosting costing → length costing.stats.relations ≡ length costing.block.relations
+stats-long costing is = length-fits costing.block.relations costing.stats.relations is.stats.relations
+
+pub loop-pairs-below : (costing : CostingTree) (set : RelationSet) (relation : ℕ) (point : List ℕ) → IsCosting costing → set relation ≡ false → relation < length costing.block.relations
+    → card_of costing set point * (relation_stats costing.stats relation).rows ≤ max_product
+loop-pairs-below costing set relation point is out below =
+    let stats = costing.stats.relations in
+    let none : RelationStats = record { rows = 0; pages = 0; kept = 0; columns = [] } in
+    let rows = (relation_stats costing.stats relation).rows in
+    let there : relation < length stats = omega (arith, below, stats-long costing is) in
+    let product : kept_product set 0 stats * rows ≤ row_product stats =
+    rows-few set 0 relation stats none (ap set (omega arith) ∙ out) there (fits-kept costing is) in
+    let cards : card_of costing set point * rows ≤ kept_product set 0 stats * rows = mul-le-mul_right rows (card-few costing set point) in
+    omega (arith, cards, product, is.stats.product)
+
+-- ---- the steps of the product
+
+pub one-times : (n : ℕ) → 1 * n ≡ n
+one-times n = omega arith
+
+times-one : (n : ℕ) → n * 1 ≡ n
+times-one n = omega arith
+
+pub product-some : (stats : List RelationStats) → 1 ≤ row_product stats
+product-some [] = omega arith
+product-some (one ∷ more) = mul-le 1 1 (max 1 one.rows) (row_product more) (le-max_left 1 one.rows) (product-some more)
+
+pub next-kept : (set : RelationSet) (number : ℕ) (stats : List RelationStats) (item : RelationStats) → number < length stats → item ≡ get_or stats number item
+    → kept_product set number (drop number stats) ≡ cond (set number) item.kept 1 * kept_product set (number + 1) (drop (number + 1) stats)
+next-kept set number stats item below is =
+    at_drop_more (kept_product set number) stats number item below
+    ∙ ap (λ one. cond (set number) one.kept 1 * kept_product set (number + 1) (drop (number + 1) stats)) (sym is)
+
+-- after each factor the rest of the product still fits
+pub record FitsNext (product kept rest : ℕ) : Type 0 where
+  pub taken : product * kept ≤ max_product
+  pub with : product * kept * rest ≤ max_product
+  pub without : product * rest ≤ max_product
+
+pub next-product : (number : ℕ) (stats : List RelationStats) (item : RelationStats) (product : ℕ) → number < length stats → item ≡ get_or stats number item → All HasFewKept stats
+    → product * row_product (drop number stats) ≤ max_product → FitsNext product item.kept (row_product (drop (number + 1) stats))
+next-product number stats item product below is few fits =
+    let rest = row_product (drop (number + 1) stats) in
+    let most = max 1 item.rows in
+    let opened : row_product (drop number stats) ≡ most * rest =
+    at_drop_more row_product stats number item below ∙ ap (λ one. max 1 one.rows * rest) (sym is) in
+    let whole : product * (most * rest) ≤ max_product = subst (λ n. product * n ≤ max_product) opened fits in
+    let here : HasFewKept item = subst HasFewKept (sym is) (All-get_or HasFewKept stats number item below few) in
+    let factor : item.kept ≤ most = omega (arith, here, le-max_right 1 item.rows) in
+    let with : product * item.kept * rest ≤ max_product =
+    omega (arith, mul_assoc product item.kept rest, mul-le-mul_left product (mul-le-mul_right rest factor), whole) in
+    let single : 1 * rest ≤ most * rest = mul-le-mul_right rest (le-max_left 1 item.rows) in
+    let without : product * rest ≤ max_product = omega (arith, mul-le-mul_left product single, whole, ap (λ n. product * n) (one-times rest)) in
+    let taken : product * item.kept ≤ max_product =
+    omega (arith, mul-le-mul_left (product * item.kept) (product-some (drop (number + 1) stats)), with, times-one (product * item.kept)) in
+    record { taken = taken; with = with; without = without }
+
+pub few-stats : (costing : CostingTree) → IsCosting costing → length costing.stats.relations ≤ 6
+few-stats costing is = omega (arith, stats-long costing is, is.block.few)
+
+-- ---- the nodes of a plan, each of which costs at most 2^108 by itself
+
+nest-few : (l r out : ℕ) → r ≤ max_product → l * r ≤ max_product → out ≤ max_product → nest_work l r out ≤ 2 ^ 108
+nest-few l r out right pairs few = omega (arith, right, pairs, few)
+
+hash-few : (l r cand out : ℕ) → l ≤ max_product → r ≤ max_product → cand ≤ max_product → out ≤ max_product → hash_work l r cand out ≤ 2 ^ 108
+hash-few l r cand out left right pairs few = omega (arith, left, right, pairs, few)
+
+merge-few : (l r cand out : ℕ) → l ≤ max_product → r ≤ max_product → cand ≤ max_product → out ≤ max_product → merge_work l r cand out ≤ 2 ^ 108
+merge-few l r cand out left right pairs few =
+    omega (arith, left, right, pairs, few, mul-le-mul_left l (bits-few l left), mul-le-mul_left r (bits-few r right))
+
+loop-few : (height l cand out : ℕ) → height ≤ 4 → l ≤ max_product → cand ≤ max_product → out ≤ max_product → index_loop_work height l cand out ≤ 2 ^ 108
+loop-few height l cand out low left pairs few =
+    omega (arith, left, pairs, few, mul-le (2 * height) l 8 max_product (omega (arith, low)) left)
+
+-- ---- the counts of one relation
+
+few-matches : (matches : Option ℕ) (rows : ℕ) → IfSome matches (λ n. n ≤ rows) → rows ≤ max_rows → unwrap_or matches 0 ≤ max_rows
+few-matches None rows few all = omega arith
+few-matches (Some n) rows few all = omega (arith, few, all)
+
+few-indexes : (relation : RelationTree) (rows : ℕ) (columns : List IndexStats) → All (FitsIndex relation rows) columns → rows ≤ max_rows → All IsFewIndex columns
+few-indexes relation rows [] fits all = All-nil IsFewIndex
+few-indexes relation rows (index ∷ more) fits all =
+    let first = All-head (FitsIndex relation rows) index more fits in
+    All-cons IsFewIndex index more (record { height = first.low; matches = few-matches index.matches rows first.matches all })
+    (few-indexes relation rows more (All-tail (FitsIndex relation rows) index more fits) all)
+
+pub index-on-few : (columns : List IndexStats) (column : ℕ) → All IsFewIndex columns → IsFewIndex (index_on columns column)
+index-on-few [] column few = record { height = omega arith; matches = omega arith }
+index-on-few (index ∷ more) column few =
+    elim (cases_Bool (nat_eq index.column column)) [
+      | inl here ↦ rw here (All-head IsFewIndex index more few)
+      | inr other ↦ rw other (index-on-few more column (All-tail IsFewIndex index more few))
+    ]
+
+-- the counts of a relation of the block, or of none
+stats-few : (relations : List RelationTree) (stats : List RelationStats) (number : ℕ) (none : RelationStats) → AllZip FitsRelation relations stats → AreFew none → AreFew (get_or stats number none)
+stats-few [] [] number none fits empty = empty
+stats-few [] (one ∷ more) number none fits empty = absurd fits
+stats-few (relation ∷ relations) [] number none fits empty = absurd fits
+stats-few (relation ∷ relations) (one ∷ more) zero none fits empty = record {
+  rows = fits.0.rows;
+  pages = omega (arith, fits.0.rows, fits.0.pages);
+  columns = few-indexes relation one.rows one.columns fits.0.columns fits.0.rows;
+}
+stats-few (relation ∷ relations) (one ∷ more) (suc number) none fits empty = stats-few relations more number none fits.1 empty
+
+pub relation-few : (costing : CostingTree) (relation : ℕ) → IsCosting costing → AreFew (relation_stats costing.stats relation)
+relation-few costing relation is =
+    stats-few costing.block.relations costing.stats.relations relation (record { rows = 0; pages = 0; kept = 0; columns = [] }) is.stats.relations
+    (record { rows = omega arith; pages = omega arith; columns = All-nil IsFewIndex })
+
+pub index-few : (costing : CostingTree) (relation column : ℕ) → IsCosting costing → IsFewIndex (index_stats costing.stats relation column)
+index-few costing relation column is =
+    index-on-few (relation_stats costing.stats relation).columns column (relation-few costing relation is).columns
+
+-- ---- costs
+
+-- a plan of n leaves has n - 1 joins
+abbrev IsBounded : CostingTree → List ℕ → PlanTree → Type 0
+IsBounded costing point p =
+    cost_of costing p point + 2 ^ 108 ≤ 2 * 2 ^ 108 * size_of (has_leaf p) 0 (length costing.block.relations)
+
+leaf-size : (costing : CostingTree) (relation : ℕ) → relation < length costing.block.relations → 1 ≤ size_of (has_leaf (Scan relation)) 0 (length costing.block.relations)
+leaf-size costing relation below =
+    size-some (has_leaf (Scan relation)) 0 relation (length costing.block.relations) (grind (arith, nat_tests)) below
+
+both-sizes : (costing : CostingTree) (left right : List ℕ) → Apart (λ relation. list_any (nat_eq relation) left) (λ relation. list_any (nat_eq relation) right)
+    → size_of (λ relation. list_any (nat_eq relation) (left ++ right)) 0 (length costing.block.relations)
+    ≡ size_of (λ relation. list_any (nat_eq relation) left) 0 (length costing.block.relations)
+    + size_of (λ relation. list_any (nat_eq relation) right) 0 (length costing.block.relations)
+both-sizes costing left right apart =
+    size-of-both (λ relation. list_any (nat_eq relation) left) (λ relation. list_any (nat_eq relation) right) (λ relation. list_any (nat_eq relation) (left ++ right))
+    0 (length costing.block.relations) apart (leaf-of-both left right)
+
+alone : (left : PlanTree) (relation : ℕ) → IsFalse (has_leaf left relation) → Apart (has_leaf left) (has_leaf (Scan relation))
+alone left relation out other =
+    elim (cases_eq other relation) [ inl same ↦ rw same (grind (arith, out)) | inr apart ↦ grind (arith, nat_tests, apart) ]
+
+bounded : (costing : CostingTree) (point : List ℕ) → IsCosting costing → (p : PlanTree) → IsSubPlan costing.block p → IsBounded costing point p
+bounded costing point is (Scan relation) plan =
+    let few = relation-few costing relation is in
+    let card = card-below costing (has_leaf (Scan relation)) point is in
+    omega (arith, few.rows, few.pages, card, leaf-size costing relation plan)
+bounded costing point is (IndexScan relation column) plan =
+    let few = index-few costing relation column is in
+    let card = card-below costing (has_leaf (IndexScan relation column)) point is in
+    omega (arith, few.height, few.matches, card, leaf-size costing relation plan.exists)
+bounded costing point is (Nest left right) plan =
+    let own = nest-few (out_card costing left point) (out_card costing right point) (out_card costing (Nest left right) point)
+    (card-below costing (has_leaf right) point is) (pairs-below costing (has_leaf left) (has_leaf right) point is (apart-sets left right plan.2))
+    (card-below costing (has_leaf (Nest left right)) point is) in
+    omega (
+      arith,
+      own,
+      bounded costing point is left plan.0,
+      bounded costing point is right plan.1,
+      both-sizes costing (leaves_of left) (leaves_of right) (apart-sets left right plan.2),
+    )
+bounded costing point is (Hash edge left right) plan =
+    let l = out_card costing left point in
+    let r = out_card costing right point in
+    let pairs = pairs-below costing (has_leaf left) (has_leaf right) point is (apart-sets left right plan.2) in
+    let own = hash-few l r (candidate_card costing edge point (l * r)) (out_card costing (Hash edge left right) point)
+    (card-below costing (has_leaf left) point is) (card-below costing (has_leaf right) point is)
+    (omega (arith, candidates-few costing.grid point edge (l * r), pairs)) (card-below costing (has_leaf (Hash edge left right)) point is) in
+    omega (
+      arith,
+      own,
+      bounded costing point is left plan.0,
+      bounded costing point is right plan.1,
+      both-sizes costing (leaves_of left) (leaves_of right) (apart-sets left right plan.2),
+    )
+bounded costing point is (Merge edge left right) plan =
+    let l = out_card costing left point in
+    let r = out_card costing right point in
+    let pairs = pairs-below costing (has_leaf left) (has_leaf right) point is (apart-sets left right plan.2) in
+    let own = merge-few l r (candidate_card costing edge point (l * r)) (out_card costing (Merge edge left right) point)
+    (card-below costing (has_leaf left) point is) (card-below costing (has_leaf right) point is)
+    (omega (arith, candidates-few costing.grid point edge (l * r), pairs)) (card-below costing (has_leaf (Merge edge left right)) point is) in
+    omega (
+      arith,
+      own,
+      bounded costing point is left plan.0,
+      bounded costing point is right plan.1,
+      both-sizes costing (leaves_of left) (leaves_of right) (apart-sets left right plan.2),
+    )
+bounded costing point is (IndexLoop edge left relation) plan =
+    let l = out_card costing left point in
+    let rows = (relation_stats costing.stats relation).rows in
+    let index = index_stats costing.stats relation (column_on (edge_at costing.block.edges edge) relation) in
+    let pairs = loop-pairs-below costing (has_leaf left) relation point is plan.1.apart plan.1.exists in
+    let own = loop-few index.height l (candidate_card costing edge point (l * rows)) (out_card costing (IndexLoop edge left relation) point)
+    (index-few costing relation (column_on (edge_at costing.block.edges edge) relation) is).height (card-below costing (has_leaf left) point is)
+    (omega (arith, candidates-few costing.grid point edge (l * rows), pairs)) (card-below costing (has_leaf (IndexLoop edge left relation)) point is) in
+    omega (
+      arith,
+      own,
+      bounded costing point is left plan.0,
+      leaf-size costing relation plan.1.exists,
+      both-sizes costing (leaves_of left) (relation ∷ []) (alone left relation plan.1.apart),
+    )
+
+pub cost-below : (costing : CostingTree) (p : PlanTree) (point : List ℕ) → IsCosting costing → IsSubPlan costing.block p → cost_of costing p point < 2 ^ 113
+cost-below costing p point is plan =
+    omega (arith, bounded costing point is p plan, size-few (has_leaf p) 0 (length costing.block.relations), is.block.few)

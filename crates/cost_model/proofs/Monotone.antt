@@ -1,0 +1,84 @@
+-- Costs grow with selectivity.
+use Rattle.std.proofs.Common.{◌≡◌, ℕ, ◌+◌, ◌*◌, ◌<◌, ◌≤◌, min, List, [], ◌∷◌, map, ap, sym, ◌∙◌, arith}
+use Rattle.std.proofs.Math.Nat.{mul-le-mul_left}
+use Rattle.std.proofs.lemmas.Nat.{mul-le}
+use Rattle.ess_grid.specs.Order.{PointBelow}
+use Rattle.plan_tree.specs.Plans.{PlanTree, Scan, IndexScan, Nest, Hash, Merge, IndexLoop, leaves_of, has_leaf}
+use Rattle.plan_tree.specs.Enumerated.{column_on, edge_at}
+use Rattle.plan_tree.specs.Work.{bits, nest_work, hash_work, merge_work, index_loop_work}
+use Rattle.cost_model.specs.Costing.{CostingTree}
+use Rattle.cost_model.specs.Costs.{relation_stats, index_stats, out_card, candidate_card, cost_of}
+use Rattle.cost_model.specs.Optimal.{plans_of, least_of, optimal_cost}
+use Rattle.cost_model.proofs.Bits.{bits-le}
+use Rattle.cost_model.proofs.Cards.{card-le, candidates-le}
+
+sort-le : (n m : ℕ) → n ≤ m → n * bits n ≤ m * bits m
+sort-le n m le = mul-le n (bits n) m (bits m) le (bits-le n m le)
+
+pub out-le : (costing : CostingTree) (p : PlanTree) (point other : List ℕ) → PointBelow point other → out_card costing p point ≤ out_card costing p other
+out-le costing p point other below = card-le costing (has_leaf p) point other below
+
+pairs-le : (costing : CostingTree) (left right : PlanTree) (point other : List ℕ) → PointBelow point other
+    → out_card costing left point * out_card costing right point ≤ out_card costing left other * out_card costing right other
+pairs-le costing left right point other below = mul-le _ _ _ _ (out-le costing left point other below) (out-le costing right point other below)
+
+pub cost-le : (costing : CostingTree) (p : PlanTree) (point other : List ℕ) → PointBelow point other → cost_of costing p point ≤ cost_of costing p other
+cost-le costing (Scan relation) point other below = omega (arith, out-le costing (Scan relation) point other below)
+cost-le costing (IndexScan relation column) point other below = omega (arith, out-le costing (IndexScan relation column) point other below)
+cost-le costing (Nest left right) point other below =
+    omega (
+      arith,
+      cost-le costing left point other below,
+      cost-le costing right point other below,
+      out-le costing right point other below,
+      pairs-le costing left right point other below,
+      out-le costing (Nest left right) point other below,
+    )
+cost-le costing (Hash edge left right) point other below =
+    let pairs = pairs-le costing left right point other below in
+    omega (
+      arith,
+      cost-le costing left point other below,
+      cost-le costing right point other below,
+      out-le costing left point other below,
+      out-le costing right point other below,
+      candidates-le costing.grid point other edge _ _ below pairs,
+      out-le costing (Hash edge left right) point other below,
+    )
+cost-le costing (Merge edge left right) point other below =
+    let pairs = pairs-le costing left right point other below in
+    let l = out-le costing left point other below in
+    let r = out-le costing right point other below in
+    omega (
+      arith,
+      cost-le costing left point other below,
+      cost-le costing right point other below,
+      l,
+      r,
+      sort-le _ _ l,
+      sort-le _ _ r,
+      candidates-le costing.grid point other edge _ _ below pairs,
+      out-le costing (Merge edge left right) point other below,
+    )
+cost-le costing (IndexLoop edge left relation) point other below =
+    let l = out-le costing left point other below in
+    let rows = (relation_stats costing.stats relation).rows in
+    let height = (index_stats costing.stats relation (column_on (edge_at costing.block.edges edge) relation)).height in
+    let pairs : out_card costing left point * rows ≤ out_card costing left other * rows = mul-le _ _ _ _ l (omega arith) in
+    omega (
+      arith,
+      cost-le costing left point other below,
+      mul-le-mul_left (2 * height) l,
+      candidates-le costing.grid point other edge _ _ below pairs,
+      out-le costing (IndexLoop edge left relation) point other below,
+    )
+
+-- the least of numbers of which each is at most another one
+least-le : (plans : List PlanTree) (f g : PlanTree → ℕ) → ((p : PlanTree) → f p ≤ g p) → least_of (map f plans) ≤ least_of (map g plans)
+least-le [] f g le = omega arith
+least-le (p ∷ []) f g le = le p
+least-le (p ∷ q ∷ more) f g le = omega (arith, le p, least-le (q ∷ more) f g le)
+
+pub optimal-le : (costing : CostingTree) (point other : List ℕ) → PointBelow point other → optimal_cost costing point ≤ optimal_cost costing other
+optimal-le costing point other below =
+    least-le (plans_of costing.block) (λ p. cost_of costing p point) (λ p. cost_of costing p other) (λ p. cost-le costing p point other below)

@@ -1,0 +1,19 @@
+use Rattle.std.proofs.Common.{◌≡◌, ◌∙◌, List, ap, sym}
+use Rattle.std.proofs.lemmas.List.{drop_all}
+use Rattle.query_block.specs.declared.edge.Edge.{Edge}
+use Rattle.cost_model.specs.Costing.{CostingShape}
+use Rattle.cost_model.specs.Cards.{set_of, kept_product, scaled_by_edges, card_of}
+use Rattle.cost_model.proofs.costing.Costing.card.Goals as goal
+
+pub returns-clause-card : goal.returns-clause-card
+unfolding card_of
+returns-clause-card c =
+    let shape = c.args.self.now in
+    let set = set_of c.args.set in
+    let kept = kept_product set 0 shape.stats.relations in
+    let edges = c.edges-edge-items.result.now in
+    let number = c.loop-number.number in
+    let edges_of : CostingShape → List Edge = λ one. one.block.edges in
+    sym (c.loop-number.invariant.0
+    ∙ ap (λ rest. scaled_by_edges shape.grid c.args.q.now set number rest c.loop-number.card) (drop_all number edges c.loop-number-test.false))
+    ∙ ap (λ all. scaled_by_edges shape.grid c.args.q.now set 0 all kept) (c.edges-edge-items.ensures.edges ∙ ap edges_of c.self.view_is)

@@ -1,0 +1,11 @@
+use Rattle.std.proofs.Common.{◌∙◌, All, ap, sym, subst}
+use Rattle.cost_model.specs.Costs.{index_on}
+use Rattle.cost_model.specs.Parts.{IsFewIndex}
+use Rattle.cost_model.proofs.Bounds.{index-on-few}
+use Rattle.cost_model.proofs.costing.Costing.index.Goals as goal
+
+pub returns-clause-few : goal.returns-clause-few
+returns-clause-few c =
+    let column = c.args.column in
+    subst IsFewIndex (sym (c.index_on.ensures ∙ ap (λ all. index_on all column) c.as_slice.ensures))
+    (index-on-few _ column c.relation.ensures.few.columns)
