@@ -1,16 +1,16 @@
 -- The number of binary digits.
-use Rattle.std.proofs.Common.{◌≡◌, ℕ, zero, suc, ◌+◌, ◌-◌, ◌*◌, ◌^◌, ◌<◌, ◌≤◌, ltb, refl, ap, sym, ◌∙◌, inl, inr, arith}
+use Rattle.std.proofs.Common.{◌≡◌, ℕ, zero, suc, ◌+◌, ◌*◌, ◌^◌, ◌<◌, ◌≤◌, ltb, ap, ◌∙◌, inl, inr, arith}
 use Rattle.std.specs.Prelude.{Bool, true, false}
 use Rattle.std.proofs.lemmas.Bool.{cases_order}
 use Rattle.std.proofs.lemmas.Bool.Decides.{nat_tests}
-use Rattle.std.proofs.lemmas.Nat.{leading_length, pow_pos}
+use Rattle.std.proofs.lemmas.Nat.{leading_length}
 use Rattle.std.proofs.lemmas.Grind.{pow_more}
-use Rattle.std.proofs.Math.Nat.{pow-le-pow_right, lt_of_not-le, mul-le-mul_right}
+use Rattle.std.proofs.Math.Nat.{pow-le-pow_right, lt_of_not-le}
 use Rattle.btree_index.specs.Height.{least_from}
 use Rattle.plan_tree.specs.Work.{bits}
 
 -- the least number that passes, where all before it fail
-least-is : (more at k : ℕ) (test : ℕ → Bool) → at ≤ k → k ≤ at + more → ((j : ℕ) → j < k → test j ≡ false) → test k ≡ true
+pub least-is : (more at k : ℕ) (test : ℕ → Bool) → at ≤ k → k ≤ at + more → ((j : ℕ) → at ≤ j → j < k → test j ≡ false) → test k ≡ true
     → least_from more at test ≡ k
 least-is zero at k test from to before met = omega (arith, from, to)
 least-is (suc more) at k test from to before met =
@@ -18,7 +18,7 @@ least-is (suc more) at k test from to before met =
       | inl same ↦ rw (ap test same ∙ met) same
       | inr order ↦ elim order [
         | inl less ↦
-            rw (before at less) (least-is more (at + 1) k test (omega (arith, less)) (omega (arith, to)) before met)
+            rw (before at (omega arith) less) (least-is more (at + 1) k test (omega (arith, less)) (omega (arith, to)) (λ j past. before j (omega (arith, past))) met)
         | inr past ↦ absurd (omega (arith, past, from))
       ]
     ]
@@ -43,7 +43,7 @@ bits-is n digits has =
     let past : 2 ^ j ≤ n = omega (arith, next, has.above, pow_more 2 j) in
     grind (arith, nat_tests, past) in
     let met : ltb n (2 ^ digits) ≡ true = grind (arith, nat_tests, has.below) in
-    least-is n 0 digits (λ d. ltb n (2 ^ d)) (omega arith) (omega (arith, few-digits n digits has)) before met
+    least-is n 0 digits (λ d. ltb n (2 ^ d)) (omega arith) (omega (arith, few-digits n digits has)) (λ j _. before j) met
 
 -- fewer digits for a smaller number
 pub digits-le : (n m digits more : ℕ) → n ≤ m → HasDigits n digits → HasDigits m more → digits ≤ more

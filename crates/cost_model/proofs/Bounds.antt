@@ -1,29 +1,27 @@
 -- Bounds on cards and costs: no pairs pass the limit of combinations, and a cost grows with the number of leaves alone.
-use Rattle.std.proofs.Common.{◌≡◌, ℕ, zero, suc, ◌+◌, ◌-◌, ◌*◌, ◌^◌, ◌<◌, ◌≤◌, cond, max, List, [], ◌∷◌, ◌++◌, All, length, map, get_or, unwrap_or, None, Some, Option, nat_eq, refl, ap, drop, sym, subst, ◌∙◌, inl, inr, le_refl, arith}
-use Rattle.std.specs.Prelude.{Bool, true, false, ◌&&◌, ◌||◌, IsTrue, IsFalse, IfSome, slice_index}
-use Rattle.std.specs.List.{AllZip, list_any}
+use Rattle.std.proofs.Common.{◌≡◌, ℕ, zero, suc, ◌+◌, ◌*◌, ◌^◌, ◌<◌, ◌≤◌, cond, max, List, [], ◌∷◌, All, length, get_or, unwrap_or, None, Some, Option, nat_eq, refl, ap, drop, sym, subst, ◌∙◌, inl, inr, arith}
+use Rattle.std.specs.Prelude.{Bool, true, false, ◌&&◌, IsFalse, IfSome}
+use Rattle.std.specs.List.{AllZip}
 use Rattle.std.proofs.Math.Nat.{mul-le-mul_left, mul-le-mul_right, mul_comm, mul_assoc, le-max_left, le-max_right}
 use Rattle.std.proofs.lemmas.Nat.{mul-le}
-use Rattle.std.proofs.lemmas.Bool.{cases_eq, cases_Bool}
-use Rattle.std.proofs.lemmas.Bool.Decides.{nat_tests}
+use Rattle.std.proofs.lemmas.Bool.{cases_Bool}
 use Rattle.std.proofs.lemmas.List.{at_drop_more}
 use Rattle.std.proofs.lemmas.List.Elements.{All-nil, All-cons, All-head, All-tail, All-get_or}
-use Rattle.std.proofs.lemmas.List.Folds.{list_any-append}
 use Rattle.sql_values.specs.Limits.{max_rows, max_product}
-use Rattle.query_block.specs.Blocks.{RelationTree, BlockTree, relation_at}
+use Rattle.query_block.specs.Blocks.{RelationTree}
 use Rattle.query_block.specs.Meaning.{RelationSet}
 use Rattle.plan_tree.specs.Plans.{PlanTree, Scan, IndexScan, Nest, Hash, Merge, IndexLoop, leaves_of, has_leaf}
-use Rattle.plan_tree.specs.Enumerated.{AreApart, IsSubPlan, column_on, edge_at}
-use Rattle.plan_tree.specs.Work.{bits, nest_work, hash_work, merge_work, index_loop_work}
+use Rattle.plan_tree.specs.Enumerated.{IsSubPlan, column_on, edge_at}
+use Rattle.plan_tree.specs.Work.{nest_work, hash_work, merge_work, index_loop_work}
 use Rattle.cost_model.specs.declared.stats.RelationStats.{RelationStats}
 use Rattle.cost_model.specs.declared.stats.IndexStats.{IndexStats}
-use Rattle.cost_model.specs.Fits.{FitsIndex, FitsRelation, FitsBlock, row_product}
+use Rattle.cost_model.specs.Fits.{FitsIndex, FitsRelation, row_product}
 use Rattle.cost_model.specs.Costing.{CostingTree, IsCosting}
 use Rattle.cost_model.specs.Cards.{kept_product, card_of}
-use Rattle.cost_model.specs.Costs.{relation_stats, index_on, index_stats, out_card, candidate_card, scan_cost, index_scan_cost, cost_of}
+use Rattle.cost_model.specs.Costs.{relation_stats, index_on, index_stats, out_card, candidate_card, cost_of}
 use Rattle.cost_model.specs.Parts.{IsFewIndex, AreFew}
 use Rattle.cost_model.proofs.Bits.{bits-few}
-use Rattle.cost_model.proofs.Sets.{leaf-of-both, apart-sets, size_of, size-few, size-of-both, size-some}
+use Rattle.cost_model.proofs.Sets.{apart-sets, alone, size_of, size-few, leaf-size, both-sizes}
 use Rattle.cost_model.proofs.Cards.{card-few, candidates-few}
 
 -- ---- products of counts
@@ -230,31 +228,15 @@ abbrev IsBounded : CostingTree → List ℕ → PlanTree → Type 0
 IsBounded costing point p =
     cost_of costing p point + 2 ^ 108 ≤ 2 * 2 ^ 108 * size_of (has_leaf p) 0 (length costing.block.relations)
 
-leaf-size : (costing : CostingTree) (relation : ℕ) → relation < length costing.block.relations → 1 ≤ size_of (has_leaf (Scan relation)) 0 (length costing.block.relations)
-leaf-size costing relation below =
-    size-some (has_leaf (Scan relation)) 0 relation (length costing.block.relations) (grind (arith, nat_tests)) below
-
-both-sizes : (costing : CostingTree) (left right : List ℕ) → Apart (λ relation. list_any (nat_eq relation) left) (λ relation. list_any (nat_eq relation) right)
-    → size_of (λ relation. list_any (nat_eq relation) (left ++ right)) 0 (length costing.block.relations)
-    ≡ size_of (λ relation. list_any (nat_eq relation) left) 0 (length costing.block.relations)
-    + size_of (λ relation. list_any (nat_eq relation) right) 0 (length costing.block.relations)
-both-sizes costing left right apart =
-    size-of-both (λ relation. list_any (nat_eq relation) left) (λ relation. list_any (nat_eq relation) right) (λ relation. list_any (nat_eq relation) (left ++ right))
-    0 (length costing.block.relations) apart (leaf-of-both left right)
-
-alone : (left : PlanTree) (relation : ℕ) → IsFalse (has_leaf left relation) → Apart (has_leaf left) (has_leaf (Scan relation))
-alone left relation out other =
-    elim (cases_eq other relation) [ inl same ↦ rw same (grind (arith, out)) | inr apart ↦ grind (arith, nat_tests, apart) ]
-
 bounded : (costing : CostingTree) (point : List ℕ) → IsCosting costing → (p : PlanTree) → IsSubPlan costing.block p → IsBounded costing point p
 bounded costing point is (Scan relation) plan =
     let few = relation-few costing relation is in
     let card = card-below costing (has_leaf (Scan relation)) point is in
-    omega (arith, few.rows, few.pages, card, leaf-size costing relation plan)
+    omega (arith, few.rows, few.pages, card, leaf-size (length costing.block.relations) relation plan)
 bounded costing point is (IndexScan relation column) plan =
     let few = index-few costing relation column is in
     let card = card-below costing (has_leaf (IndexScan relation column)) point is in
-    omega (arith, few.height, few.matches, card, leaf-size costing relation plan.exists)
+    omega (arith, few.height, few.matches, card, leaf-size (length costing.block.relations) relation plan.exists)
 bounded costing point is (Nest left right) plan =
     let own = nest-few (out_card costing left point) (out_card costing right point) (out_card costing (Nest left right) point)
     (card-below costing (has_leaf right) point is) (pairs-below costing (has_leaf left) (has_leaf right) point is (apart-sets left right plan.2))
@@ -264,7 +246,7 @@ bounded costing point is (Nest left right) plan =
       own,
       bounded costing point is left plan.0,
       bounded costing point is right plan.1,
-      both-sizes costing (leaves_of left) (leaves_of right) (apart-sets left right plan.2),
+      both-sizes (length costing.block.relations) (leaves_of left) (leaves_of right) (apart-sets left right plan.2),
     )
 bounded costing point is (Hash edge left right) plan =
     let l = out_card costing left point in
@@ -278,7 +260,7 @@ bounded costing point is (Hash edge left right) plan =
       own,
       bounded costing point is left plan.0,
       bounded costing point is right plan.1,
-      both-sizes costing (leaves_of left) (leaves_of right) (apart-sets left right plan.2),
+      both-sizes (length costing.block.relations) (leaves_of left) (leaves_of right) (apart-sets left right plan.2),
     )
 bounded costing point is (Merge edge left right) plan =
     let l = out_card costing left point in
@@ -292,7 +274,7 @@ bounded costing point is (Merge edge left right) plan =
       own,
       bounded costing point is left plan.0,
       bounded costing point is right plan.1,
-      both-sizes costing (leaves_of left) (leaves_of right) (apart-sets left right plan.2),
+      both-sizes (length costing.block.relations) (leaves_of left) (leaves_of right) (apart-sets left right plan.2),
     )
 bounded costing point is (IndexLoop edge left relation) plan =
     let l = out_card costing left point in
@@ -306,8 +288,8 @@ bounded costing point is (IndexLoop edge left relation) plan =
       arith,
       own,
       bounded costing point is left plan.0,
-      leaf-size costing relation plan.1.exists,
-      both-sizes costing (leaves_of left) (relation ∷ []) (alone left relation plan.1.apart),
+      leaf-size (length costing.block.relations) relation plan.1.exists,
+      both-sizes (length costing.block.relations) (leaves_of left) (relation ∷ []) (alone left relation plan.1.apart),
     )
 
 pub cost-below : (costing : CostingTree) (p : PlanTree) (point : List ℕ) → IsCosting costing → IsSubPlan costing.block p → cost_of costing p point < 2 ^ 113

@@ -1,11 +1,11 @@
 -- Cards: rounded once, grown with selectivity, and never more than there are rows.
-use Rattle.std.proofs.Common.{◌≡◌, ℕ, ◌+◌, ◌-◌, ◌*◌, ◌^◌, ◌<◌, ◌≤◌, cond, List, [], ◌∷◌, get_or, refl, ap, ap₂, sym, subst, ◌∙◌, le_refl, arith}
+use Rattle.std.proofs.Common.{◌≡◌, ℕ, ◌+◌, ◌-◌, ◌*◌, ◌^◌, ◌≤◌, cond, List, [], ◌∷◌, ap, sym, subst, ◌∙◌, le_refl, arith}
 use Rattle.std.specs.Prelude.{Bool, true, false, slice_index}
 use Rattle.std.specs.Int.{div_ceil}
 use Rattle.std.proofs.Math.Path.{fun_ext}
 use Rattle.std.proofs.Math.Nat.{pow-le-pow_right, mul-le-mul_left}
 use Rattle.std.proofs.lemmas.Nat.{pow-add, pow_pos}
-use Rattle.ess_grid.specs.Levels.{full_selectivity, selectivity_bits, step_of, halvings_of, selectivity_of}
+use Rattle.ess_grid.specs.Levels.{selectivity_bits, step_of, halvings_of, selectivity_of}
 use Rattle.ess_grid.specs.Points.{GridShape}
 use Rattle.ess_grid.specs.Order.{PointBelow}
 use Rattle.ess_grid.proofs.PointOrder.{level-below}

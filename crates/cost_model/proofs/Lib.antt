@@ -5,3 +5,6 @@ pub mod Cards
 pub mod Bounds
 pub mod Monotone
 pub mod Parts
+pub mod Members
+pub mod Enumerated
+pub mod Least

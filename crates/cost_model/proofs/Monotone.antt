@@ -1,13 +1,13 @@
 -- Costs grow with selectivity.
-use Rattle.std.proofs.Common.{◌≡◌, ℕ, ◌+◌, ◌*◌, ◌<◌, ◌≤◌, min, List, [], ◌∷◌, map, ap, sym, ◌∙◌, arith}
+use Rattle.std.proofs.Common.{ℕ, ◌*◌, ◌≤◌, List, [], ◌∷◌, map, arith}
 use Rattle.std.proofs.Math.Nat.{mul-le-mul_left}
 use Rattle.std.proofs.lemmas.Nat.{mul-le}
 use Rattle.ess_grid.specs.Order.{PointBelow}
-use Rattle.plan_tree.specs.Plans.{PlanTree, Scan, IndexScan, Nest, Hash, Merge, IndexLoop, leaves_of, has_leaf}
+use Rattle.plan_tree.specs.Plans.{PlanTree, Scan, IndexScan, Nest, Hash, Merge, IndexLoop, has_leaf}
 use Rattle.plan_tree.specs.Enumerated.{column_on, edge_at}
-use Rattle.plan_tree.specs.Work.{bits, nest_work, hash_work, merge_work, index_loop_work}
+use Rattle.plan_tree.specs.Work.{bits}
 use Rattle.cost_model.specs.Costing.{CostingTree}
-use Rattle.cost_model.specs.Costs.{relation_stats, index_stats, out_card, candidate_card, cost_of}
+use Rattle.cost_model.specs.Costs.{relation_stats, index_stats, out_card, cost_of}
 use Rattle.cost_model.specs.Optimal.{plans_of, least_of, optimal_cost}
 use Rattle.cost_model.proofs.Bits.{bits-le}
 use Rattle.cost_model.proofs.Cards.{card-le, candidates-le}

@@ -1,5 +1,5 @@
 -- The parts of a plan, joined.
-use Rattle.std.proofs.Common.{◌≡◌, ℕ, ◌+◌, ◌*◌, ◌^◌, ◌<◌, ◌≤◌, List, bit_or, length, refl, ap, ap₂, sym, subst, ◌∙◌, arith}
+use Rattle.std.proofs.Common.{◌≡◌, ℕ, ◌+◌, ◌*◌, ◌^◌, ◌<◌, ◌≤◌, List, bit_or, length, ap, ap₂, sym, subst, ◌∙◌, arith}
 use Rattle.std.specs.Prelude.{IsFalse}
 use Rattle.sql_values.specs.Limits.{max_product}
 use Rattle.plan_tree.specs.Plans.{PlanTree, Nest, Hash, Merge, IndexLoop, has_leaf, covers_of}
@@ -7,7 +7,7 @@ use Rattle.plan_tree.specs.Enumerated.{AreApart, IsSubPlan, column_on, edge_at}
 use Rattle.plan_tree.specs.Work.{nest_work, hash_work, merge_work, index_loop_work}
 use Rattle.cost_model.specs.declared.part.Part.{Part}
 use Rattle.cost_model.specs.Costing.{CostingTree, IsCosting}
-use Rattle.cost_model.specs.Costs.{relation_stats, index_stats, out_card, candidate_card, cost_of}
+use Rattle.cost_model.specs.Costs.{relation_stats, index_stats, out_card, candidate_card}
 use Rattle.cost_model.specs.Parts.{IsPart, AreSides, IsJoined, table_part}
 use Rattle.cost_model.proofs.Sets.{apart-sets, card-of-plan}
 use Rattle.cost_model.proofs.Bounds.{card-below, pairs-below, loop-pairs-below, relation-few, cost-below}

@@ -1,12 +1,12 @@
 -- Sets of relations: as numbers, and as the leaves of plans.
-use Rattle.std.proofs.Common.{◌≡◌, ◌↔◌, ℕ, zero, suc, cond, ◌+◌, ◌≤◌, ◌*◌, ◌^◌, ◌<◌, Bool, true, false, ◌&&◌, ◌||◌, not, List, [], ◌∷◌, ◌++◌, IsTrue, IsFalse, bit_and, nat_eq, refl, ap, ap₂, sym, ◌∙◌, inl, inr, arith}
+use Rattle.std.proofs.Common.{◌≡◌, ◌↔◌, ℕ, zero, suc, cond, ◌+◌, ◌≤◌, ◌^◌, ◌<◌, Bool, true, false, ◌&&◌, ◌||◌, not, List, [], ◌∷◌, ◌++◌, IsTrue, bit_and, nat_eq, refl, ap, ◌∙◌, inl, inr, arith}
 use Rattle.std.proofs.Math.Path.{fun_ext}
 use Rattle.std.proofs.lemmas.Bool.{cases_eq}
 use Rattle.std.proofs.lemmas.Bool.Decides.{nat_tests}
 use Rattle.std.specs.List.{list_any}
 use Rattle.std.proofs.lemmas.List.Folds.{list_any-append}
 use Rattle.query_block.specs.Meaning.{RelationSet}
-use Rattle.plan_tree.specs.Plans.{PlanTree, leaves_of, has_leaf, covers_of}
+use Rattle.plan_tree.specs.Plans.{PlanTree, Scan, leaves_of, has_leaf, covers_of}
 use Rattle.plan_tree.specs.Enumerated.{AreApart}
 use Rattle.plan_tree.proofs.Sets.{bits-are-leaves}
 use Rattle.cost_model.specs.Costing.{CostingTree}
@@ -78,3 +78,18 @@ size-some set number zero (suc more) there below =
     omega (arith, one-here (set number) here)
 size-some set number (suc place) (suc more) there below =
     omega (arith, size-some set (number + 1) place more (ap set (omega arith) ∙ there) (omega (arith, below)))
+
+-- a leaf is one relation, and a join has those of both sides
+pub leaf-size : (many relation : ℕ) → relation < many → 1 ≤ size_of (has_leaf (Scan relation)) 0 many
+leaf-size many relation below = size-some (has_leaf (Scan relation)) 0 relation many (grind (arith, nat_tests)) below
+
+pub both-sizes : (many : ℕ) (left right : List ℕ) → ((relation : ℕ) → (list_any (nat_eq relation) left && list_any (nat_eq relation) right) ≡ false)
+    → size_of (λ relation. list_any (nat_eq relation) (left ++ right)) 0 many
+    ≡ size_of (λ relation. list_any (nat_eq relation) left) 0 many + size_of (λ relation. list_any (nat_eq relation) right) 0 many
+both-sizes many left right apart =
+    size-of-both (λ relation. list_any (nat_eq relation) left) (λ relation. list_any (nat_eq relation) right) (λ relation. list_any (nat_eq relation) (left ++ right))
+    0 many apart (leaf-of-both left right)
+
+pub alone : (left : PlanTree) (relation : ℕ) → has_leaf left relation ≡ false → (other : ℕ) → (has_leaf left other && has_leaf (Scan relation) other) ≡ false
+alone left relation out other =
+    elim (cases_eq other relation) [ inl same ↦ rw same (grind (arith, out)) | inr apart ↦ grind (arith, nat_tests, apart) ]

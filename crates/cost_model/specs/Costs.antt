@@ -1,6 +1,5 @@
 -- The cost of a plan at a point: the work of its nodes, with cards for the rows that they give.
 use Rattle.std.specs.Prelude.{ℕ, ◌+◌, ◌*◌, List, [], ◌∷◌, nat_eq, slice_index_or, unwrap_or, None, if◌then◌else◌}
-use Rattle.query_block.specs.declared.edge.Edge.{Edge}
 use Rattle.plan_tree.specs.Plans.{PlanTree, Scan, IndexScan, Nest, Hash, Merge, IndexLoop, has_leaf}
 use Rattle.plan_tree.specs.Enumerated.{edge_at, column_on}
 use Rattle.plan_tree.specs.Work.{nest_work, hash_work, merge_work, index_loop_work}

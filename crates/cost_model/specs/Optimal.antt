@@ -1,7 +1,7 @@
 -- The optimal cost at a point: the least of all plans of a block.
-use Rattle.std.specs.Prelude.{ℕ, zero, suc, ◌++◌, ◌&&◌, not, min, Bool, List, [], ◌∷◌, filter, map, length, nat_lt, nat_eq}
+use Rattle.std.specs.Prelude.{ℕ, zero, suc, ◌++◌, min, Bool, List, [], ◌∷◌, filter, map, length, nat_eq, if◌then◌else◌}
 use Rattle.std.specs.List.{flat_map, list_all, list_any, range_with_len}
-use Rattle.query_block.specs.Blocks.{RelationTree, BlockTree, relation_at}
+use Rattle.query_block.specs.Blocks.{BlockTree, relation_at}
 use Rattle.plan_tree.specs.Plans.{PlanTree, Scan, IndexScan, Nest, Hash, Merge, IndexLoop, leaves_of, has_leaf}
 use Rattle.plan_tree.specs.Usable.{is_usable}
 use Rattle.plan_tree.specs.Enumerated.{edge_at, column_on, crosses}
@@ -14,22 +14,26 @@ readings block relation =
     let tree = relation_at block.relations relation in
     Scan relation ∷ map (IndexScan relation) (filter (λ column. list_any (is_usable tree.columns column) tree.filter) tree.indexes)
 
+-- the numbers of the edges that cross two plans
+abbrev pub crossing : BlockTree → (left right : PlanTree) → List ℕ
+crossing block left right = filter (λ edge. crosses (edge_at block.edges edge) left right) (range_with_len 0 (length block.edges))
+
 -- the joins of two plans that share no relation, by no edge or by one that crosses them
 abbrev pub joins : BlockTree → (left right : PlanTree) → List PlanTree
 joins block left right =
-    let edges = filter (λ edge. crosses (edge_at block.edges edge) left right) (range_with_len 0 (length block.edges)) in
-    filter (λ _. not (list_any (has_leaf right) (leaves_of left)))
-    (Nest left right ∷ flat_map (λ edge. Hash edge left right ∷ Merge edge left right ∷ []) edges)
+    if list_any (has_leaf right) (leaves_of left) then []
+    else Nest left right ∷ flat_map (λ edge. Hash edge left right ∷ Merge edge left right ∷ []) (crossing block left right)
+
+-- whether a relation's column of an edge is indexed
+abbrev pub has_index : BlockTree → (relation edge : ℕ) → Bool
+has_index block relation edge =
+    list_any (λ other. nat_eq other (column_on (edge_at block.edges edge) relation)) (relation_at block.relations relation).indexes
 
 -- the look-ups of a relation that a plan hasn't, by an index on its column of an edge between both
 abbrev pub look_ups : BlockTree → (left : PlanTree) → (relation : ℕ) → List PlanTree
 look_ups block left relation =
-    let indexes = (relation_at block.relations relation).indexes in
-    map (λ edge. IndexLoop edge left relation)
-    (filter
-    (λ edge. not (has_leaf left relation) && crosses (edge_at block.edges edge) left (Scan relation)
-    && list_any (λ other. nat_eq other (column_on (edge_at block.edges edge) relation)) indexes)
-    (range_with_len 0 (length block.edges)))
+    if has_leaf left relation then []
+    else map (λ edge. IndexLoop edge left relation) (filter (has_index block relation) (crossing block left (Scan relation)))
 
 -- all plans of some of the block's relations that are at most so many nodes deep
 unfoldable pub sub_plans : BlockTree → (depth : ℕ) → List PlanTree

@@ -1,4 +1,4 @@
-use Rattle.std.proofs.Common.{◌≡◌, ◌∙◌, length, map, ap, sym, subst, rules, arith}
+use Rattle.std.proofs.Common.{◌≡◌, ◌∙◌, ap, sym, subst, rules, arith}
 use Rattle.std.proofs.Math.ListN.{length-map}
 use Rattle.query_block.specs.Blocks.{block_tree, relation_tree}
 use Rattle.plan_tree.specs.declared.plan.Plan.{the_lemmas}

@@ -1,4 +1,4 @@
-use Rattle.std.proofs.Common.{◌≡◌, ◌∙◌, List, ap, sym}
+use Rattle.std.proofs.Common.{◌∙◌, List, ap, sym}
 use Rattle.std.proofs.lemmas.List.{drop_all}
 use Rattle.query_block.specs.declared.edge.Edge.{Edge}
 use Rattle.cost_model.specs.Costing.{CostingShape}

@@ -1,6 +1,6 @@
-use Rattle.std.proofs.Common.{◌^◌, ◌<◌, subst, sym, arith}
+use Rattle.std.proofs.Common.{subst, arith}
 use Rattle.plan_tree.specs.Plans.{plan_tree}
-use Rattle.cost_model.specs.Costing.{CostingShape, costing_tree, IsCosting}
+use Rattle.cost_model.specs.Costing.{costing_tree, IsCosting}
 use Rattle.cost_model.proofs.Bounds.{cost-below}
 use Rattle.cost_model.proofs.costing.Costing.cost.Goals as goal
 

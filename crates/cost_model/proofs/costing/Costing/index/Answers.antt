@@ -1,4 +1,4 @@
-use Rattle.std.proofs.Common.{◌∙◌, All, ap, sym, subst}
+use Rattle.std.proofs.Common.{◌∙◌, ap, sym, subst}
 use Rattle.cost_model.specs.Costs.{index_on}
 use Rattle.cost_model.specs.Parts.{IsFewIndex}
 use Rattle.cost_model.proofs.Bounds.{index-on-few}

@@ -1,4 +1,4 @@
-use Rattle.std.proofs.Common.{◌≡◌, ◌∙◌, ℕ, ap, unwrap_or, arith}
+use Rattle.std.proofs.Common.{◌∙◌, ℕ, ap, unwrap_or, arith}
 use Rattle.plan_tree.specs.Plans.{IndexScan}
 use Rattle.cost_model.specs.declared.stats.IndexStats.{IndexStats}
 use Rattle.cost_model.specs.Costing.{costing_tree}

@@ -1,7 +1,5 @@
-use Rattle.std.proofs.Common.{◌≡◌, ◌∙◌, ℕ, ◌+◌, ◌*◌, ◌≤◌, All, List, length, cond, drop, ap, sym, subst, arith}
-use Rattle.cost_model.specs.declared.stats.RelationStats.{RelationStats}
+use Rattle.std.proofs.Common.{◌≡◌, ◌∙◌, ◌+◌, ◌*◌, ◌≤◌, All, length, cond, drop, ap, sym, subst, arith}
 use Rattle.cost_model.specs.Fits.{row_product}
-use Rattle.cost_model.specs.Costing.{costing_tree}
 use Rattle.cost_model.specs.Cards.{set_of, kept_product}
 use Rattle.std.proofs.Math.Nat.{mul_assoc}
 use Rattle.sql_values.specs.Limits.{max_product}
