@@ -1,0 +1,5 @@
+pub mod LeafRows
+pub mod Parts
+pub mod Relations
+pub mod Looked
+pub mod Written

@@ -1,0 +1,49 @@
+-- A relation of a block as it is kept and as it is seen, and its table.
+use Rattle.std.proofs.Common.{◌≡◌, ℕ, ℤ, ◌<◌, List, [], ◌∷◌, All, length, map, get_or, refl, sym, ap, subst, ◌∙◌}
+use Rattle.std.proofs.lemmas.List.{length-map, get_or-map}
+use Rattle.std.proofs.lemmas.List.Elements.{All-get_or}
+use Rattle.sql_values.specs.declared.column.ColumnDef.{ColumnDef}
+use Rattle.sql_values.specs.Words.{value_of}
+use Rattle.sql_values.specs.Stored.{ValueRow, StandsFor, row_of, values_of, AreWords, AreWordsOf}
+use Rattle.query_block.specs.declared.block.Relation.{Relation}
+use Rattle.query_block.specs.Blocks.{RelationTree, relation_tree, relation_at, IsRelation}
+use Rattle.db_catalog.specs.Database.{DatabaseState, table_at}
+use Rattle.db_catalog.specs.Fits.{FitsTable}
+
+-- the relation of this number is what is seen of the one that is kept there
+pub relation_seen : (relations : List Relation) (number : ℕ) (relation : Relation) → number < length relations → relation ≡ get_or relations number relation
+    → relation_at (map relation_tree relations) number ≡ relation_tree relation
+relation_seen relations number relation there is =
+    get_or-map relation_tree relations number relation (record { table = 0; columns = []; filter = []; indexes = [] }) there ∙ ap relation_tree (sym is)
+
+-- so what is so of each relation of a block is so of that one
+pub of_each : (P : RelationTree → Type 0) (relations : List Relation) (number : ℕ) (relation : Relation) → number < length relations → relation ≡ get_or relations number relation
+    → All P (map relation_tree relations) → P (relation_tree relation)
+of_each P relations number relation there is all =
+    let none : RelationTree = record { table = 0; columns = []; filter = []; indexes = [] } in
+    let below : number < length (map relation_tree relations) = simp length-map there in
+    subst P (relation_seen relations number relation there is) (All-get_or P (map relation_tree relations) number none below all)
+
+-- the values of a stored table's row, by the kinds of its columns
+pub values_by_kind : (texts : List (List ℕ)) (columns : List ColumnDef) (words : List ℤ) → values_of texts (map (λ column. column.kind) columns) words ≡ row_of texts columns words
+values_by_kind texts [] words = refl
+values_by_kind texts (column ∷ columns) [] = refl
+values_by_kind texts (column ∷ columns) (word ∷ words) = ap (λ row. value_of texts column.kind word ∷ row) (values_by_kind texts columns words)
+
+-- and words that may stand in it
+pub words_by_kind : (texts : List (List ℕ)) (columns : List ColumnDef) (words : List ℤ) → AreWords texts columns words → AreWordsOf texts (map (λ column. column.kind) columns) words
+words_by_kind texts [] [] are = tt
+words_by_kind texts [] (word ∷ words) are = are
+words_by_kind texts (column ∷ columns) [] are = are
+words_by_kind texts (column ∷ columns) (word ∷ words) are = (are.0, words_by_kind texts columns words are.1)
+
+-- a row of the relation's table, by the kinds of the relation's columns
+module _ (database : DatabaseState) (relation : RelationTree) (fits : FitsTable database relation) (words : List ℤ) (row : ValueRow)
+    (stands : StandsFor database.texts (table_at database relation.table).columns words row) where
+  pub relation_words : AreWordsOf database.texts relation.columns words
+  relation_words =
+      subst (λ kinds. AreWordsOf database.texts kinds words) (sym fits.columns) (words_by_kind database.texts (table_at database relation.table).columns words stands.allowed)
+
+  pub relation_values : values_of database.texts relation.columns words ≡ row
+  relation_values =
+      ap (λ kinds. values_of database.texts kinds words) fits.columns ∙ values_by_kind database.texts (table_at database relation.table).columns words ∙ sym stands.values
