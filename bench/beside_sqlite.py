@@ -79,13 +79,14 @@ def rows_of(path, header):
 
 
 def first_difference(outputs, header, rows):
-    """Where two outputs differ, or where they lack rows; None where all rows are there and the same."""
+    """Where two outputs differ, or where they lack rows; None where all rows are there and the same. Where `rows` is
+    None any number of them is right."""
     count = 0
     sides = (rows_of(path, header) for path in outputs)
     for count, (one, other) in enumerate(itertools.zip_longest(*sides), 1):
         if one != other:
             return f"row {count} differs: {one} and {other}"
-    return None if count == rows else f"{count} rows are printed, and {rows} were loaded"
+    return None if rows in (None, count) else f"{count} rows are printed, and {rows} were loaded"
 
 
 def report(name, seconds, memory, times, most):
