@@ -1,0 +1,4 @@
+pub mod Heights
+pub mod Fitting
+pub mod Relations
+pub mod Values

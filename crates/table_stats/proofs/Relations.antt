@@ -1,0 +1,77 @@
+-- What holds of each relation of a block holds of the one at a place.
+use Rattle.std.proofs.Common.{◌≡◌, ℕ, ◌+◌, ◌*◌, ◌<◌, ◌≤◌, max, ltb, Some, List, [], ◌∷◌, All, length, map, drop, get_or, ap, sym, subst, ◌∙◌, arith}
+use Rattle.std.specs.Prelude.{true, false, Option, Result, Ok, Err, IsErrAnd}
+use Rattle.std.specs.Option.{option_or}
+use Rattle.std.proofs.lemmas.Bool.Decides.{nat_tests}
+use Rattle.std.proofs.Math.ListN.{length-map}
+use Rattle.std.proofs.lemmas.List.{get_or-map, at_drop_more}
+use Rattle.std.proofs.lemmas.List.Elements.{All-get_or}
+use Rattle.sql_values.specs.Limits.{max_product}
+use Rattle.sql_values.specs.Stored.{StoredTable}
+use Rattle.query_block.specs.declared.block.Relation.{Relation}
+use Rattle.query_block.specs.Blocks.{RelationTree, relation_tree}
+use Rattle.plan_tree.specs.Work.{table_rows}
+use Rattle.db_catalog.specs.Database.{DatabaseState}
+use Rattle.cost_model.specs.declared.stats.RelationStats.{RelationStats}
+use Rattle.table_stats.specs.Product.{first_past, row_counts}
+use Rattle.cost_model.specs.declared.stats.Stale.{Stale}
+use Rattle.table_stats.specs.Fresh.{IsFirst, first_stale, stale_in}
+
+pub at-tree : (P : RelationTree → Type 0) (relations : List Relation) (place : ℕ) (relation : Relation) → All P (map relation_tree relations) → place < length relations
+    → relation ≡ get_or relations place relation → P (relation_tree relation)
+at-tree P relations place relation all below is =
+    let none : RelationTree = record { table = 0; columns = []; filter = []; indexes = [] } in
+    let there : place < length (map relation_tree relations) = omega (arith, below, length-map relations relation_tree) in
+    subst P (get_or-map relation_tree relations place relation none below ∙ ap relation_tree (sym is)) (All-get_or P (map relation_tree relations) place none there all)
+
+-- ---- products
+
+-- a product within its limit isn't the one that is looked for
+pub next-count : (tables : List StoredTable) (relations : List Relation) (i : ℕ) (relation : Relation) (product factor : ℕ) → i < length relations → relation ≡ get_or relations i relation
+    → factor ≡ max (length (table_rows tables (relation_tree relation))) 1 → product * factor ≤ max_product
+    → first_past product (row_counts tables (map relation_tree (drop i relations))) ≡ first_past (product * factor) (row_counts tables (map relation_tree (drop (i + 1) relations)))
+next-count tables relations i relation product factor below is factor_is fits =
+    let rest = row_counts tables (map relation_tree (drop (i + 1) relations)) in
+    let count : Relation → ℕ = λ one. length (table_rows tables (relation_tree one)) in
+    let same : max 1 (count relation) ≡ factor = omega (arith, factor_is) in
+    let within : ltb max_product (product * factor) ≡ false = grind (arith, nat_tests, fits) in
+    let test : ltb max_product (product * max 1 (count relation)) ≡ false = ap (λ n. ltb max_product (product * n)) same ∙ within in
+    at_drop_more (λ some. first_past product (row_counts tables (map relation_tree some))) relations i relation below
+    ∙ ap (λ one. first_past product (count one ∷ rest)) (sym is)
+    ∙ rw test (ap (λ n. first_past (product * n) rest) same)
+
+-- and the first one past it is
+pub past-count : (tables : List StoredTable) (relations : List Relation) (i : ℕ) (relation : Relation) (product factor : ℕ) → i < length relations → relation ≡ get_or relations i relation
+    → factor ≡ max (length (table_rows tables (relation_tree relation))) 1 → max_product < product * factor
+    → first_past product (row_counts tables (map relation_tree (drop i relations))) ≡ Some (product * factor)
+past-count tables relations i relation product factor below is factor_is past =
+    let rest = row_counts tables (map relation_tree (drop (i + 1) relations)) in
+    let count : Relation → ℕ = λ one. length (table_rows tables (relation_tree one)) in
+    let same : max 1 (count relation) ≡ factor = omega (arith, factor_is) in
+    let beyond : ltb max_product (product * factor) ≡ true = grind (arith, nat_tests, past) in
+    let test : ltb max_product (product * max 1 (count relation)) ≡ true = ap (λ n. ltb max_product (product * n)) same ∙ beyond in
+    at_drop_more (λ some. first_past product (row_counts tables (map relation_tree some))) relations i relation below
+    ∙ ap (λ one. first_past product (count one ∷ rest)) (sym is)
+    ∙ rw test (ap (λ n. Some (product * n)) same)
+
+-- ---- counts that aren't what they were
+
+pub next-stale : (database : DatabaseState) (relations : List Relation) (stats : List RelationStats) (n : ℕ) (relation : Relation) (one : RelationStats) → n < length relations → n < length stats
+    → relation ≡ get_or relations n relation → one ≡ get_or stats n one
+    → first_stale database n (map relation_tree (drop n relations)) (drop n stats)
+    ≡ option_or (stale_in database n (relation_tree relation) one) (first_stale database (n + 1) (map relation_tree (drop (n + 1) relations)) (drop (n + 1) stats))
+next-stale database relations stats n relation one below below' is is' =
+    let rest = first_stale database (n + 1) (map relation_tree (drop (n + 1) relations)) (drop (n + 1) stats) in
+    at_drop_more (λ some. first_stale database n (map relation_tree some) (drop n stats)) relations n relation below
+    ∙ ap (λ r. first_stale database n (relation_tree r ∷ map relation_tree (drop (n + 1) relations)) (drop n stats)) (sym is)
+    ∙ at_drop_more (λ some. first_stale database n (relation_tree relation ∷ map relation_tree (drop (n + 1) relations)) some) stats n one below'
+    ∙ ap (λ s. option_or (stale_in database n (relation_tree relation) s) rest) (sym is')
+
+-- a refusal that is handed on, of what stands before the rest
+pub handed-on : {T E : Type 0} (found rest : Option Stale) (result : Result T Stale) (stale : Stale) → IsErrAnd result (λ one. one ≡ stale) → IsFirst {T = E} found (Err stale)
+    → IsFirst {T = T} (option_or found rest) result
+handed-on found rest (Ok value) stale is first = absurd is
+handed-on found rest (Err one) stale is first = record {
+  answered = tt;
+  refused = ap (λ some. option_or some rest) first.refused ∙ ap Some (sym is);
+}

@@ -1,0 +1,36 @@
+use Rattle.std.proofs.Common.{◌≡◌, ◌∙◌, All, List, [], ◌∷◌, map, refl, ap, sym, subst}
+use Rattle.std.proofs.lemmas.List.{take_all}
+use Rattle.query_block.specs.declared.block.Relation.{Relation}
+use Rattle.query_block.specs.Blocks.{RelationTree, relation_tree, IsRelation}
+use Rattle.db_catalog.specs.Fits.{FitsTable}
+use Rattle.cost_model.specs.declared.stats.RelationStats.{RelationStats}
+use Rattle.cost_model.specs.Counts.{relation_stats_of}
+use Rattle.table_stats.proofs.Relations.{at-tree}
+use Rattle.table_stats.proofs.stats.all_stats.Goals as goal
+
+pub relation_stats-requires-clause-relation : goal.relation_stats-requires-clause-relation
+relation_stats-requires-clause-relation c =
+    let lent = c.relations-relation-items.result.now in
+    let all = subst (λ relations. All IsRelation (map relation_tree relations)) (sym c.relations-relation-items.ensures.relations) c.relations-relation-items.ensures.block.relations in
+    at-tree IsRelation lent c.loop-relation.relation-index c.relation-item.result all c.loop-relation-test.true c.relation-item.is
+
+pub relation_stats-requires-clause-fits : goal.relation_stats-requires-clause-fits
+relation_stats-requires-clause-fits c =
+    let fits : RelationTree → Type 0 = FitsTable c.args.db.now in
+    let lent = c.relations-relation-items.result.now in
+    let all = subst (λ relations. All fits (map relation_tree relations)) (sym c.relations-relation-items.ensures.relations) c.requires in
+    at-tree fits lent c.loop-relation.relation-index c.relation-item.result all c.loop-relation-test.true c.relation-item.is
+
+twice : (f : RelationTree → RelationStats) (relations : List Relation) → map (λ relation. f (relation_tree relation)) relations ≡ map f (map relation_tree relations)
+twice f [] = refl
+twice f (relation ∷ relations) = ap (λ more. f (relation_tree relation) ∷ more) (twice f relations)
+
+pub returns : goal.returns
+returns c =
+    let f : RelationTree → RelationStats = relation_stats_of c.args.db.now.tables in
+    let lent = c.relations-relation-items.result.now in
+    let each : List Relation → List RelationStats = λ relations. map (λ relation. f (relation_tree relation)) relations in
+    c.loop-relation.invariant
+    ∙ ap each (take_all c.loop-relation.relation-index lent c.loop-relation-test.false)
+    ∙ ap each c.relations-relation-items.ensures.relations
+    ∙ twice f c.args.block.now.relations
