@@ -1,14 +1,13 @@
 -- A row that a scan has looked at: what its words stand for, and what is left then.
 use Rattle.std.proofs.Common.{◌≡◌, ℕ, ℤ, ◌+◌, ◌<◌, ◌≤◌, Bool, true, false, cond, List, [], ◌∷◌, filter, length, map, refl, sym, ap, subst, ◌∙◌, arith, Result, Ok, Err}
 use Rattle.std.specs.Result.{IsErrAnd}
-use Rattle.std.proofs.lemmas.List.{length-map}
 use Rattle.std.proofs.lemmas.List.Elements.{All-get_or}
 use Rattle.std.proofs.lemmas.List.Sums.{sum_by_more_le}
 use Rattle.work_ledger.specs.declared.ledger.Exhausted.{Exhausted}
 use Rattle.work_ledger.specs.Account.{Account}
 use Rattle.sql_values.specs.Stored.{StoredTable, ValueRow, AreWordsOf, StandsFor, values_of}
-use Rattle.query_block.specs.Blocks.{RelationTree, BlockTree, relation_at, offset_of, width_of}
-use Rattle.query_block.specs.Meaning.{Combination, meets_filter}
+use Rattle.query_block.specs.Blocks.{RelationTree, BlockTree, relation_at, width_of}
+use Rattle.query_block.specs.Meaning.{meets_filter}
 use Rattle.query_block.proofs.Words.{length-words}
 use Rattle.db_catalog.specs.Database.{DatabaseState, table_at}
 use Rattle.db_catalog.specs.Fits.{Fits, FitsTable}

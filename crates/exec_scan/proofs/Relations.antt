@@ -6,7 +6,7 @@ use Rattle.sql_values.specs.declared.column.ColumnDef.{ColumnDef}
 use Rattle.sql_values.specs.Words.{value_of}
 use Rattle.sql_values.specs.Stored.{ValueRow, StandsFor, row_of, values_of, AreWords, AreWordsOf}
 use Rattle.query_block.specs.declared.block.Relation.{Relation}
-use Rattle.query_block.specs.Blocks.{RelationTree, relation_tree, relation_at, IsRelation}
+use Rattle.query_block.specs.Blocks.{RelationTree, relation_tree, relation_at}
 use Rattle.db_catalog.specs.Database.{DatabaseState, table_at}
 use Rattle.db_catalog.specs.Fits.{FitsTable}
 

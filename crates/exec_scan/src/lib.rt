@@ -10,3 +10,6 @@ mod scan_op;
 mod table_scan;
 
 pub use scan_op::ScanOp;
+
+#[cfg(test)]
+mod tests;
