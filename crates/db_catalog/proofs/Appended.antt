@@ -1,11 +1,13 @@
 -- A database after an append: the tables that are there mean the same, and one has more rows.
 use Rattle.std.proofs.Common.{◌≡◌, ◌∙◌, ℕ, zero, suc, ◌+◌, ◌<◌, ◌≤◌, ◌*◌, true, false, ◌||◌, List, [], ◌∷◌, ◌++◌, length, map, get_or, set, ℤ, refl, sym, ap, subst, arith, append-nil, append_assoc, true≢false, if◌then◌else◌, length-set, length-append, fold}
-use Rattle.std.specs.List.{IsDistinct, AllByRecursion}
+use Rattle.std.specs.Prelude.{All, nat_eq}
+use Rattle.std.specs.Cmp.{nat_eq_equiv}
+use Rattle.std.specs.List.{IsDistinct, AllByRecursion, list_any}
 use Rattle.std.specs.Str.{bytes_eq}
 use Rattle.std.proofs.lemmas.List.{map-append, length-map}
 use Rattle.std.proofs.lemmas.List.Folds.{list_any-append}
 use Rattle.std.proofs.lemmas.List.Elements.{All-append, All-push, All-nil, All-set, All-weaker, All-head, All-tail}
-use Rattle.std.proofs.lemmas.Map.Keys.{IsDistinct-head, IsDistinct-tail}
+use Rattle.std.proofs.lemmas.Map.Keys.{IsDistinct-head, IsDistinct-tail, IsDistinct-push}
 use Rattle.std.proofs.lemmas.Slice.Eq.{bytes_eq-Decides}
 use Rattle.sql_values.specs.declared.column.ColumnDef.{ColumnDef}
 use Rattle.sql_values.specs.Dictionary.{has_text, with_text, with_texts, Begins}
@@ -14,8 +16,9 @@ use Rattle.sql_values.proofs.Dictionary.{with_texts-with_texts, Begins-with_text
 use Rattle.heap_pages.specs.Rows.{cut_rows}
 use Rattle.sql_values.specs.Stored.{ValueRow, IsRowOf, AreWords, row_of, texts_in}
 use Rattle.db_catalog.specs.declared.table.Table.{Table}
-use Rattle.db_catalog.specs.Database.{table_at, more_rows, with_rows}
-use Rattle.db_catalog.specs.Kept.{MeanRows, SameRows, AppendsWords, IsBatch, stored_table, kept_words, IsKept, AreKept}
+use Rattle.db_catalog.specs.Database.{table_at, more_rows, more_indexed, with_rows}
+use Rattle.db_catalog.specs.Indexes.{kept_index, no_indexes}
+use Rattle.db_catalog.specs.Kept.{MeanRows, SameRows, TakesWords, AppendsWords, IndexesColumn, with_column, IsBatch, stored_table, kept_words, IsKept, AreKept}
 use Rattle.db_catalog.specs.Refused.{words_in}
 use Rattle.db_catalog.proofs.BatchParts.{rows_of, texts_in-ended, map-row_of-Begins, MeanRows-Begins}
 use Rattle.db_catalog.proofs.Tables.{database_of, table_at-database_of, kept_at}
@@ -49,7 +52,7 @@ map-set f (x ∷ xs) (suc i) y = ap (λ l. f x ∷ l) (map-set f xs i y)
 
 -- a table is seen as before where more texts come
 stored_table-Begins : (texts new : List (List ℕ)) (table : Table) → Begins texts new → IsKept texts table → stored_table new table ≡ stored_table texts table
-stored_table-Begins texts new table begins kept = ap (λ rows. record { name = table.name; columns = table.columns.items; indexed = []; rows = rows }) (map-row_of-Begins texts new table.columns.items table.heap.rows begins kept.rows.allowed)
+stored_table-Begins texts new table begins kept = ap (λ rows. record { name = table.name; columns = table.columns.items; indexed = table.indexes.columns; rows = rows }) (map-row_of-Begins texts new table.columns.items table.heap.rows begins kept.rows.allowed)
 
 tables-Begins : (texts new : List (List ℕ)) (tables : List Table) → Begins texts new → ((k : ℕ) (d : Table) → k < length tables → IsKept texts (get_or tables k d)) → map (stored_table new) tables ≡ map (stored_table texts) tables
 tables-Begins texts new [] begins kept = refl
@@ -62,6 +65,8 @@ IsKept-Begins texts new table begins kept = record {
   few_columns = kept.few_columns;
   width = kept.width;
   rows = MeanRows-Begins texts new table.columns.items table.heap.rows begins kept.rows;
+  indexes = kept.indexes;
+  indexed_once = kept.indexed_once;
 }
 
 names_kept : (tables : List Table) (number : ℕ) (table table' : Table) → number < length tables → table ≡ get_or tables number table → table'.name ≡ table.name →
@@ -78,9 +83,10 @@ pub record HasAppended (names texts new : List (List ℕ)) (tables : List Table)
 pub appended : (names texts new : List (List ℕ)) (tables : List Table) (number : ℕ) (table table' : Table) (rows : List (List ℤ)) (values : List ValueRow) →
     AreKept names texts tables → number < length tables → table ≡ get_or tables number table → Begins texts new → IsDistinct bytes_eq new →
     table'.name ≡ table.name → table'.columns ≡ table.columns → table'.heap.columns ≡ table.heap.columns → table'.heap.rows ≡ table.heap.rows ++ rows →
+    table'.indexes.columns ≡ table.indexes.columns → table'.indexes.entries ≡ map (kept_index table'.heap.rows) table.indexes.columns →
     MeanRows new table.columns.items rows → map (row_of new table.columns.items) rows ≡ values →
     HasAppended names texts new tables number table' values
-appended names texts new tables number table table' rows values old there is begins distinct name columns width joined mean valued = record {
+appended names texts new tables number table table' rows values old there is begins distinct name columns width joined indexed entries mean valued = record {
   kept = record {
     names_of_tables = old.names_of_tables ∙ sym (names_kept tables number table table' there is name);
     few_tables = omega (arith, length-set tables number table', old.few_tables);
@@ -110,6 +116,11 @@ appended names texts new tables number table table' rows values old there is beg
       few_columns = omega (arith, kept.few_columns, ap (λ c. length c.items) columns);
       width = width ∙ kept.width ∙ ap (λ c. length c.items) (sym columns);
       rows = subst (λ c. MeanRows new c.items table'.heap.rows) (sym columns) (subst (MeanRows new table.columns.items) (sym joined) all);
+      indexes = record {
+        there = subst (All (λ column. column < table'.heap.columns)) (sym indexed) (subst (λ n. All (λ column. column < n) table.indexes.columns) (sym width) kept.indexes.there);
+        entries = entries ∙ ap (map (kept_index table'.heap.rows)) (sym indexed);
+      };
+      indexed_once = subst (IsDistinct nat_eq) (sym indexed) kept.indexed_once;
     }
 
     rows_seen : map (row_of new table.columns.items) (table.heap.rows ++ rows) ≡ map (row_of texts table.columns.items) table.heap.rows ++ values
@@ -119,8 +130,8 @@ appended names texts new tables number table table' rows values old there is beg
 
     seen_now : stored_table new table' ≡ more_rows (table_at (database_of texts tables) number) values
     seen_now =
-        (λ i. record { name = name i; columns = (columns i).items; indexed = []; rows = map (row_of new (columns i).items) (joined i) })
-        ∙ (λ i. record { name = table.name; columns = table.columns.items; indexed = []; rows = rows_seen i })
+        (λ i. record { name = name i; columns = (columns i).items; indexed = indexed i; rows = map (row_of new (columns i).items) (joined i) })
+        ∙ (λ i. record { name = table.name; columns = table.columns.items; indexed = table.indexes.columns; rows = rows_seen i })
         ∙ ap (λ t. more_rows t values) (sym (table_at-database_of texts tables number table there is))
 
 -- the texts of a batch are those of its rows
@@ -137,8 +148,8 @@ pub batch_appended : (names texts more new : List (List ℕ)) (tables tables' : 
     SameRows columns more new (cut_rows (length columns) rows words) (cut_rows (length columns) rows words') → AppendsWords number rows words' tables tables' →
     AreKept names new tables' × (database_of new tables' ≡ with_rows (database_of texts tables) number (rows_of more columns rows words))
 batch_appended names texts more new tables tables' number columns rows words words' row room kept there batch whole same_columns is_new distinct same appends = (
-  subst (AreKept names new) (sym appends.tables) done.kept,
-  λ i. record { tables = (ap (map (stored_table new)) appends.tables ∙ done.seen) i; texts = (is_new ∙ batch_texts columns more rows words row room texts batch whole) i },
+  subst (AreKept names new) (sym tables_are) done.kept,
+  λ i. record { tables = (ap (map (stored_table new)) tables_are ∙ done.seen) i; index_names = []; texts = (is_new ∙ batch_texts columns more rows words row room texts batch whole) i },
 )
   where
     columns_are : columns ≡ appends.table.columns.items
@@ -153,15 +164,69 @@ batch_appended names texts more new tables tables' number columns rows words wor
     valued : map (row_of new appends.table.columns.items) (cut_rows appends.table.heap.columns rows words') ≡ rows_of more columns rows words
     valued = (λ i. map (row_of new (sym columns_are i)) (cut_rows (width_is i) rows words')) ∙ same.same
 
-    done : HasAppended names texts new tables number (record appends.table { heap = appends.heap }) (rows_of more columns rows words)
-    done = appended names texts new tables number appends.table (record appends.table { heap = appends.heap }) (cut_rows appends.table.heap.columns rows words') (rows_of more columns rows words)
-        kept there appends.there (subst (Begins texts) (sym is_new) (Begins-with_texts texts texts more (Begins_itself texts))) distinct refl refl appends.columns appends.appended mean valued
+    takes : TakesWords rows words' appends.table appends.after
+    takes = appends.takes
+
+    after : Table
+    after = record appends.table { heap = takes.heap; indexes = takes.indexes }
+
+    tables_are : tables' ≡ set tables number after
+    tables_are = appends.tables ∙ ap (set tables number) takes.table
+
+    done : HasAppended names texts new tables number after (rows_of more columns rows words)
+    done = appended names texts new tables number appends.table after (cut_rows appends.table.heap.columns rows words') (rows_of more columns rows words)
+        kept there appends.there (subst (Begins texts) (sym is_new) (Begins-with_texts texts texts more (Begins_itself texts))) distinct refl refl takes.columns takes.appended takes.indexed takes.entries mean valued
+
+none_indexed : IsDistinct nat_eq []
+unfolding IsDistinct
+none_indexed = tt
+
+-- a database after a column was indexed
+pub column_indexed : (names texts : List (List ℕ)) (tables tables' : List Table) (number column : ℕ) → AreKept names texts tables → number < length tables →
+    column < length (table_at (database_of texts tables) number).columns → list_any (nat_eq column) (table_at (database_of texts tables) number).indexed ≡ false →
+    IndexesColumn number column tables tables' →
+    AreKept names texts tables' × (map (stored_table texts) tables' ≡ set (map (stored_table texts) tables) number (more_indexed (table_at (database_of texts tables) number) column))
+column_indexed names texts tables tables' number column kept there exists free made = (
+  subst (AreKept names texts) (sym made.tables) (record {
+    names_of_tables = kept.names_of_tables ∙ sym (names_kept tables number table (with_column table column) there made.there refl);
+    few_tables = omega (arith, length-set tables number (with_column table column), kept.few_tables);
+    each_kept = All-set (IsKept texts) tables number (with_column table column) now kept.each_kept;
+    distinct_texts = kept.distinct_texts;
+  }),
+  ap (map (stored_table texts)) made.tables ∙ map-set (stored_table texts) tables number (with_column table column)
+      ∙ ap (λ t. set (map (stored_table texts) tables) number (more_indexed t column)) (sym seen),
+)
+  where
+    table : Table
+    table = made.table
+
+    seen : table_at (database_of texts tables) number ≡ stored_table texts table
+    seen = table_at-database_of texts tables number table there made.there
+
+    here : IsKept texts table
+    here = kept_at names texts tables number table kept there made.there
+
+    now : IsKept texts (with_column table column)
+    now = record {
+      some_columns = here.some_columns;
+      few_columns = here.few_columns;
+      width = here.width;
+      rows = here.rows;
+      indexes = record {
+        there = All-push (λ c. c < table.heap.columns) table.indexes.columns column here.indexes.there (omega (arith, exists, ap (λ t. length t.columns) seen, here.width));
+        entries =
+            ap (λ l. l ++ kept_index table.heap.rows column ∷ []) here.indexes.entries
+            ∙ sym (map-append (kept_index table.heap.rows) table.indexes.columns (column ∷ []));
+      };
+      indexed_once = IsDistinct-push nat_eq_equiv table.indexes.columns column here.indexed_once (sym (ap (λ t. list_any (nat_eq column) t.indexed) seen) ∙ free);
+    }
 
 -- a table without rows comes behind the others
 pub table_appended : (names texts : List (List ℕ)) (tables : List Table) (table : Table) (name : List ℕ) (columns : List ColumnDef) →
     AreKept names texts tables → has_text names name ≡ false → length tables + 1 ≤ max_tables → 1 ≤ length columns → length columns ≤ max_columns →
-    table.name ≡ name → table.columns.items ≡ columns → table.heap.columns ≡ length columns → table.heap.rows ≡ [] → AreKept (with_text names name) texts (tables ++ table ∷ [])
-table_appended names texts tables table name columns kept new few some few_columns named has wide none = record {
+    table.name ≡ name → table.columns.items ≡ columns → table.heap.columns ≡ length columns → table.heap.rows ≡ [] →
+    table.indexes ≡ no_indexes → AreKept (with_text names name) texts (tables ++ table ∷ [])
+table_appended names texts tables table name columns kept new few some few_columns named has wide none unindexed = record {
   names_of_tables =
       ap (λ b. if b then names else names ++ name ∷ []) new
       ∙ (λ i. kept.names_of_tables i ++ sym named i ∷ []) ∙ sym (map-append (λ t. t.name) tables (table ∷ []));
@@ -171,6 +236,11 @@ table_appended names texts tables table name columns kept new few some few_colum
     few_columns = omega (arith, few_columns, ap length has);
     width = wide ∙ ap length (sym has);
     rows = subst (MeanRows texts table.columns.items) (sym none) (record { allowed = All-nil (AreWords texts table.columns.items); fit = All-nil (λ words. IsRowOf table.columns.items (row_of texts table.columns.items words)) });
+    indexes = record {
+      there = subst (λ x. All (λ column. column < table.heap.columns) x.columns) (sym unindexed) (All-nil (λ column. column < table.heap.columns));
+      entries = ap (λ x. x.entries) unindexed ∙ sym (ap (λ x. map (kept_index table.heap.rows) x.columns) unindexed);
+    };
+    indexed_once = subst (λ x. IsDistinct nat_eq x.columns) (sym unindexed) none_indexed;
   });
   distinct_texts = kept.distinct_texts;
 }

@@ -5,3 +5,5 @@ pub mod Refusals
 pub mod Recoding
 pub mod Appended
 pub mod Growth
+pub mod EntryOrder
+pub mod OfIndexes

@@ -1,6 +1,8 @@
 -- Refusals of several checks, one after another.
 use Rattle.std.proofs.Common.{◌≡◌, ◌≢◌, ℕ, ◌≤◌, Bool, true, false, Option, Some, None, Result, Ok, Err, refl, sym, ap, ◌∙◌, nat_lt, if◌then◌else◌, true≢false, is_some, option_map, pos, List}
-use Rattle.std.specs.Prelude.{IsErrAnd, OnErr, OnOk, is_err}
+use Rattle.std.specs.Prelude.{IsErrAnd, OnErr, OnOk, is_err, nat_eq, slice_index_or, [], map}
+use Rattle.std.specs.List.{list_any}
+use Rattle.sql_values.specs.declared.column.ColumnDef.{ColumnDef}
 use Rattle.std.specs.Str.{bytes_eq}
 use Rattle.sql_values.specs.Dictionary.{has_text, code_of}
 use Rattle.sql_values.proofs.Dictionary.{position-below, position_none}
@@ -9,7 +11,7 @@ use Rattle.std.proofs.lemmas.Bool.{ltb-false}
 use Rattle.sql_values.specs.declared.limit.LimitName.{LimitName}
 use Rattle.db_catalog.specs.declared.fault.DbFault.{DbFault}
 use Rattle.db_catalog.specs.declared.fault.DbFault.TheVariants.{Duplicate, Limit, NoMemory}
-use Rattle.db_catalog.specs.Refused.{Refuses, past, taken}
+use Rattle.db_catalog.specs.Refused.{Refuses, past, taken, indexed_fault}
 
 -- the first check refuses
 pub refused_first : {T : Type 0} (a b : Option DbFault) (e : DbFault) → (e ≢ NoMemory → a ≡ Some e) → Refuses {T = T} (option_or a b) (Err e)
@@ -69,4 +71,15 @@ not_taken names name h = by (has_text names name) refl
   where
     by : (b : Bool) → has_text names name ≡ b → b ≡ false
     by true e = let gone : Some (Duplicate name) ≡ None = sym (ap (λ b. if b then Some (Duplicate name) else None) e) ∙ h in cc
+    by false e = refl
+
+-- a column that isn't refused is not among the indexed ones
+pub not_indexed : (columns : List ColumnDef) (indexed : List ℕ) (column : ℕ) → indexed_fault columns indexed column ≡ None → list_any (nat_eq column) indexed ≡ false
+not_indexed columns indexed column h = by (list_any (nat_eq column) indexed) refl
+  where
+    fault : DbFault
+    fault = Duplicate (slice_index_or (map (λ column. column.name) columns) column [])
+
+    by : (b : Bool) → list_any (nat_eq column) indexed ≡ b → b ≡ false
+    by true e = let gone : Some fault ≡ None = sym (ap (λ b. if b then Some fault else None) e) ∙ h in cc
     by false e = refl

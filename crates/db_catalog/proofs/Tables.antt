@@ -4,24 +4,32 @@ use Rattle.std.specs.Prelude.{IsSomeAnd}
 use Rattle.std.specs.List.{IsDistinct}
 use Rattle.std.specs.Str.{bytes_eq}
 use Rattle.std.proofs.lemmas.List.{length-map}
-use Rattle.std.proofs.lemmas.List.Elements.{All-nil}
+use Rattle.std.proofs.lemmas.List.Elements.{All-nil, All-weaker}
+use Rattle.std.proofs.lemmas.Slice.Zip.{AllZip-long}
 use Rattle.std.proofs.lemmas.Option.{get_or_from_slice_get, slice_get_within}
 use Rattle.sql_values.specs.declared.column.ColumnDef.{ColumnDef}
 use Rattle.sql_values.specs.Dictionary.{code_of}
+use Rattle.sql_values.specs.Words.{IsWord}
 use Rattle.sql_values.specs.Stored.{StandsFor, IsRowOf, AreWords, row_of}
 use Rattle.sql_values.proofs.Stored.{StandsFor-row_of}
 use Rattle.db_catalog.specs.declared.table.Table.{Table}
 use Rattle.db_catalog.specs.Database.{DatabaseState, new_table, table_at, row_at, table_number, IsRowAt}
-use Rattle.db_catalog.specs.Kept.{MeanRows, HasWords, stored_table, IsKept, AreKept}
+use Rattle.db_catalog.specs.Indexes.{entries_from, ordered, index_at, kept_index}
+use Rattle.db_catalog.specs.Kept.{MeanRows, IsWide, HasWords, HasColumn, stored_table, IsKept, AreKept}
+use Rattle.db_catalog.proofs.OfIndexes.{entries_seen}
 
 pub get_or-map : {X Y : Type 0} (f : X → Y) (xs : List X) (i : ℕ) (d : X) (e : Y) → i < length xs → get_or (map f xs) i e ≡ f (get_or xs i d)
 get_or-map f [] i d e h = absurd (omega (arith, h))
 get_or-map f (x ∷ xs) zero d e h = refl
 get_or-map f (x ∷ xs) (suc i) d e h = get_or-map f xs i d e (omega (arith, h))
 
--- what is seen of a database of these parts
+-- what is seen of a database of these parts, without the names of its indexes
 abbrev pub database_of : List (List ℕ) → List Table → DatabaseState
-database_of texts tables = record { tables = map (stored_table texts) tables; texts = texts }
+database_of texts tables = record { tables = map (stored_table texts) tables; texts = texts; index_names = [] }
+
+-- and with them
+abbrev pub named : List (List ℕ) → DatabaseState → DatabaseState
+named index_names database = record database { index_names = index_names }
 
 -- a table of the database is what is seen of the one that is kept
 pub table_at-database_of : (texts : List (List ℕ)) (tables : List Table) (number : ℕ) (table : Table) → number < length tables → table ≡ get_or tables number table →
@@ -70,14 +78,8 @@ pub nothing_kept : AreKept [] [] []
 nothing_kept = record { names_of_tables = refl; few_tables = omega arith; each_kept = All-nil (IsKept []); distinct_texts = no_texts }
 
 -- a table that is seen is kept
-pub is_kept : (texts : List (List ℕ)) (tables : List Table) (db : DatabaseState) (number : ℕ) → database_of texts tables ≡ db → number < length db.tables → number < length tables
+pub is_kept : {index_names : List (List ℕ)} (texts : List (List ℕ)) (tables : List Table) (db : DatabaseState) (number : ℕ) → named index_names (database_of texts tables) ≡ db → number < length db.tables → number < length tables
 is_kept texts tables db number view there = omega (arith, there, ap (λ d. length d.tables) view, length-map tables (stored_table texts))
-
--- no column is indexed so far
-pub no_indexes : (texts : List (List ℕ)) (tables : List Table) (number : ℕ) → (table_at (database_of texts tables) number).indexed ≡ []
-no_indexes texts [] number = refl
-no_indexes texts (t ∷ ts) zero = refl
-no_indexes texts (t ∷ ts) (suc number) = no_indexes texts ts number
 
 -- the code of a name is the number of its table
 pub number_seen : (names texts : List (List ℕ)) (tables : List Table) (name : List ℕ) → names ≡ map (λ table. table.name) tables → option_map nat_abs (code_of names name) ≡ table_number (database_of texts tables) name
@@ -90,11 +92,38 @@ some_at [] i h = absurd (omega (arith, h))
 some_at (x ∷ xs) zero h = (x, (refl, refl))
 some_at (x ∷ xs) (suc i) h = some_at xs i (omega (arith, h))
 
+-- a table that is kept has rows as wide as it is
+pub is_wide : (texts : List (List ℕ)) (table : Table) → IsKept texts table → IsWide table
+is_wide texts table kept = record {
+  width = kept.width;
+  wide = All-weaker (AreWords texts table.columns.items) (λ words. length words ≡ table.heap.columns)
+      (λ words allowed. AllZip-long (λ column word. IsWord texts column.kind word) table.columns.items words allowed ∙ sym kept.width) table.heap.rows kept.rows.allowed;
+}
+
 -- so many words make rows of the table at a place
 pub has_words : (names texts : List (List ℕ)) (tables : List Table) (number words rows : ℕ) (columns : List ColumnDef) → AreKept names texts tables → number < length tables →
-    columns ≡ (table_at (database_of texts tables) number).columns → words ≡ rows * length columns → HasWords number words rows tables
+    columns ≡ (table_at (database_of texts tables) number).columns → words ≡ rows * length columns → IsSomeAnd (slice_get tables number) (HasWords words rows)
 has_words names texts tables number words rows columns kept there same filled =
     let (table, (at, is)) = some_at tables number there in
+    let here : IsKept texts table = kept_at names texts tables number table kept there is in
     let width : length columns ≡ table.heap.columns =
-    ap length (same ∙ ap (λ t. t.columns) (table_at-database_of texts tables number table there is)) ∙ sym (kept_at names texts tables number table kept there is).width in
-    subst (λ o. IsSomeAnd o (λ t. words ≡ rows * t.heap.columns)) (sym at) (filled ∙ ap (λ n. rows * n) width)
+    ap length (same ∙ ap (λ t. t.columns) (table_at-database_of texts tables number table there is)) ∙ sym here.width in
+    subst (λ o. IsSomeAnd o (HasWords words rows)) (sym at)
+    (record { is_wide = is_wide texts table here; filled = filled ∙ ap (λ n. rows * n) width; indexes = here.indexes })
+
+-- the table at a place has a column of the table that is seen there
+pub has_column : (names texts : List (List ℕ)) (tables : List Table) (number column : ℕ) → AreKept names texts tables → number < length tables →
+    column < length (table_at (database_of texts tables) number).columns → IsSomeAnd (slice_get tables number) (HasColumn column)
+has_column names texts tables number column kept there exists =
+    let (table, (at, is)) = some_at tables number there in
+    let here : IsKept texts table = kept_at names texts tables number table kept there is in
+    let count = ap (λ t. length t.columns) (table_at-database_of texts tables number table there is) in
+    subst (λ o. IsSomeAnd o (HasColumn column)) (sym at)
+    (record { is_wide = is_wide texts table here; there = omega (arith, exists, count, here.width) })
+
+-- the index that is kept of a column of a table is the one that is seen
+pub index_seen : (names texts : List (List ℕ)) (tables : List Table) (number column : ℕ) (table : Table) → AreKept names texts tables → number < length tables → table ≡ get_or tables number table →
+    index_at (database_of texts tables) number column ≡ kept_index table.heap.rows column
+index_seen names texts tables number column table kept there is =
+    ap (λ t. ordered (entries_from texts column 0 t.rows)) (table_at-database_of texts tables number table there is)
+    ∙ ap ordered (entries_seen texts table.columns.items column 0 table.heap.rows kept.distinct_texts (kept_at names texts tables number table kept there is).rows)

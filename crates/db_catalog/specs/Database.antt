@@ -7,10 +7,11 @@ use Rattle.sql_values.specs.declared.value.Value.{Value}
 use Rattle.sql_values.specs.Stored.{StoredTable, ValueRow, IsRowOf, StandsFor, texts_in}
 use Rattle.heap_pages.specs.Rows.{cut_rows}
 
--- the tables in the order in which they were made, and the different texts that stand in them
+-- the tables in the order in which they were made, the different texts that stand in them, and the names of all indexes
 pub record DatabaseState : Type 0 where
   pub tables : List StoredTable
   pub texts : List (List ℕ)
+  pub index_names : List (List ℕ)
 
 -- a new table has no rows
 abbrev pub new_table : List ℕ → List ColumnDef → StoredTable
@@ -38,9 +39,20 @@ more_rows table rows = record table { rows = table.rows ++ rows }
 
 -- rows behind those of the table of this number, and behind the texts those of the rows that are new
 abbrev pub with_rows : DatabaseState → ℕ → List ValueRow → DatabaseState
-with_rows database number rows = record {
+with_rows database number rows = record database {
   tables = slice_set database.tables number (more_rows (table_at database number) rows);
   texts = with_texts database.texts (texts_in rows);
+}
+
+-- a column more that is indexed, which comes last
+abbrev pub more_indexed : StoredTable → ℕ → StoredTable
+more_indexed table column = record table { indexed = table.indexed ++ column ∷ [] }
+
+-- a column more that is indexed in the table of this number, by an index of this name
+abbrev pub with_index : DatabaseState → List ℕ → (number column : ℕ) → DatabaseState
+with_index database name number column = record database {
+  tables = slice_set database.tables number (more_indexed (table_at database number) column);
+  index_names = database.index_names ++ name ∷ [];
 }
 
 -- the words stand for row i of the table of this number

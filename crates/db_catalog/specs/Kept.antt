@@ -1,5 +1,5 @@
 -- How tables and batches are kept: as words, of which each means something.
-use Rattle.std.specs.Prelude.{◌≡◌, ℕ, ◌*◌, ◌≤◌, ℤ, List, [], ◌∷◌, ◌++◌, All, length, map, take, sum_by, slice_get, slice_index_or, slice_set, IsSomeAnd}
+use Rattle.std.specs.Prelude.{◌≡◌, ℕ, ◌*◌, ◌<◌, ◌≤◌, ℤ, List, [], ◌∷◌, ◌++◌, All, length, map, nat_eq, take, sum_by, slice_index_or, slice_set}
 use Rattle.std.specs.List.{IsDistinct}
 use Rattle.std.specs.Str.{bytes_eq}
 use Rattle.sql_values.specs.declared.column.ColumnDef.{ColumnDef}
@@ -7,6 +7,7 @@ use Rattle.sql_values.specs.Limits.{max_tables, max_columns}
 use Rattle.sql_values.specs.Dictionary.{with_texts}
 use Rattle.sql_values.specs.Stored.{StoredTable, IsRowOf, AreWords, row_of, texts_in}
 use Rattle.heap_pages.specs.Rows.{HeapState, cut_rows}
+use Rattle.db_catalog.specs.Indexes.{IndexesState, kept_index}
 use Rattle.db_catalog.specs.declared.table.Table.{Table}
 
 -- each row of words means a row that fits the columns
@@ -30,7 +31,7 @@ abbrev pub stored_table : List (List ℕ) → Table → StoredTable
 stored_table texts table = record {
   name = table.name;
   columns = table.columns.items;
-  indexed = [];
+  indexed = table.indexes.columns;
   rows = map (row_of texts table.columns.items) table.heap.rows;
 }
 
@@ -38,26 +39,68 @@ stored_table texts table = record {
 abbrev pub kept_words : List Table → ℕ
 kept_words tables = sum_by (λ table. length table.heap.rows * length table.columns.items) tables
 
--- so many words make so many rows of the table at this place
-abbrev pub HasWords : ℕ → ℕ → ℕ → List Table → Type 0
-HasWords number words rows tables =
-    IsSomeAnd (slice_get tables number) (λ table. words ≡ rows * table.heap.columns)
+-- the indexes of a table: of columns that exist, each with exactly the entries of its column
+pub record AreIndexes (table : Table) : Type 0 where
+  pub there : All (λ column. column < table.heap.columns) table.indexes.columns
+  pub entries : table.indexes.entries ≡ map (kept_index table.heap.rows) table.indexes.columns
+
+-- a table of rows as wide as it is
+pub record IsWide (table : Table) : Type 0 where
+  pub width : table.heap.columns ≡ length table.columns.items
+  pub wide : All (λ words. length words ≡ table.heap.columns) table.heap.rows
+
+-- so many words make so many rows of a table with indexes
+pub record HasWords (words rows : ℕ) (table : Table) : Type 0 where
+  pub is_wide : IsWide table
+  pub filled : words ≡ rows * table.heap.columns
+  pub indexes : AreIndexes table
+
+-- a table with such a column
+pub record HasColumn (column : ℕ) (table : Table) : Type 0 where
+  pub is_wide : IsWide table
+  pub there : column < table.heap.columns
+
+-- rows of words more in a table, and in its indexes
+pub record TakesWords (rows : ℕ) (words : List ℤ) (old new : Table) : Type 0 where
+  pub heap : HeapState
+  pub indexes : IndexesState
+  pub columns : heap.columns ≡ old.heap.columns
+  pub appended : heap.rows ≡ old.heap.rows ++ cut_rows old.heap.columns rows words
+  pub indexed : indexes.columns ≡ old.indexes.columns
+  pub entries : indexes.entries ≡ map (kept_index heap.rows) old.indexes.columns
+  pub table : new ≡ record old { heap = heap; indexes = indexes }
+
+-- an index more, of this column
+abbrev pub with_column : Table → ℕ → Table
+with_column table column = record table {
+  indexes = record {
+    columns = table.indexes.columns ++ column ∷ [];
+    entries = table.indexes.entries ++ kept_index table.heap.rows column ∷ [];
+  };
+}
 
 -- rows of words more in the table at this place
 pub record AppendsWords (number rows : ℕ) (words : List ℤ) (old new : List Table) : Type 0 where
   pub table : Table
-  pub heap : HeapState
+  pub after : Table
   pub there : table ≡ slice_index_or old number table
-  pub columns : heap.columns ≡ table.heap.columns
-  pub appended : heap.rows ≡ table.heap.rows ++ cut_rows table.heap.columns rows words
-  pub tables : new ≡ slice_set old number (record table { heap = heap })
+  pub takes : TakesWords rows words table after
+  pub tables : new ≡ slice_set old number after
 
--- a table's columns and words, and the width of its heap
+-- an index more of the table at this place
+pub record IndexesColumn (number column : ℕ) (old new : List Table) : Type 0 where
+  pub table : Table
+  pub there : table ≡ slice_index_or old number table
+  pub tables : new ≡ slice_set old number (with_column table column)
+
+-- a table's columns and words, the width of its heap, and its indexes
 pub record IsKept (texts : List (List ℕ)) (table : Table) : Type 0 where
   pub some_columns : 1 ≤ length table.columns.items
   pub few_columns : length table.columns.items ≤ max_columns
   pub width : table.heap.columns ≡ length table.columns.items
   pub rows : MeanRows texts table.columns.items table.heap.rows
+  pub indexes : AreIndexes table
+  pub indexed_once : IsDistinct nat_eq table.indexes.columns
 
 -- the parts of a database
 pub record AreKept (names texts : List (List ℕ)) (tables : List Table) : Type 0 where

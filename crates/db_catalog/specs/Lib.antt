@@ -1,4 +1,5 @@
 pub mod Database
+pub mod Indexes
 pub mod Refused
 pub mod Batch
 pub mod Meter

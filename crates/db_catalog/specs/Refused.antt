@@ -1,5 +1,6 @@
 -- When a call refuses: the checks of each, in their order, and the first that fails.
-use Rattle.std.specs.Prelude.{◌≡◌, ◌≢◌, ℕ, ◌+◌, ◌*◌, ◌&&◌, nat_le, nat_lt, List, [], ◌∷◌, ◌++◌, length, map, sum_by, Option, Some, None, Result, OnOk, IfErr, if◌then◌else◌}
+use Rattle.std.specs.Prelude.{◌≡◌, ◌≢◌, ℕ, ◌+◌, ◌*◌, ◌&&◌, nat_le, nat_lt, List, [], ◌∷◌, ◌++◌, length, map, nat_eq, slice_index_or, sum_by, Option, Some, None, Result, OnOk, IfErr, if◌then◌else◌}
+use Rattle.std.specs.List.{list_any}
 use Rattle.std.specs.Option.{option_or}
 use Rattle.sql_values.specs.declared.limit.LimitName.{LimitName}
 use Rattle.sql_values.specs.declared.limit.LimitName.TheVariants as limit
@@ -48,6 +49,19 @@ creation_fault database name columns =
     option_or (past limit.Tables max_tables (length database.tables + 1))
     (option_or (taken (map (λ table. table.name) database.tables) name)
     (option_or (past limit.Columns max_columns (length columns)) (columns_fault [] columns)))
+
+-- a column of these that is among the indexed ones: the refusal has its name
+abbrev pub indexed_fault : List ColumnDef → (indexed : List ℕ) → (column : ℕ) → Option DbFault
+indexed_fault columns indexed column =
+    if list_any (nat_eq column) indexed
+    then Some (Duplicate (slice_index_or (map (λ column. column.name) columns) column []))
+    else None
+
+-- an index more: its name, then its column
+abbrev pub index_fault : DatabaseState → List ℕ → (number column : ℕ) → Option DbFault
+index_fault database name number column =
+    let table = table_at database number in
+    option_or (taken database.index_names name) (indexed_fault table.columns table.indexed column)
 
 -- how many words stand in tables
 abbrev pub words_in : List StoredTable → ℕ

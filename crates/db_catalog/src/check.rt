@@ -1,7 +1,7 @@
 // The checks before a change: limits, names and columns. None of them changes anything.
-ghost use Rattle.std.specs.Prelude.{◌≡◌, ◌≢◌, [], map, length};
+ghost use Rattle.std.specs.Prelude.{◌≡◌, ◌≢◌, ◌<◌, [], map, length};
 ghost use Rattle.sql_values.specs.Dictionary.{has_text};
-ghost use Rattle.db_catalog.specs.Refused.{Refuses, past, column_fault, columns_fault};
+ghost use Rattle.db_catalog.specs.Refused.{Refuses, past, column_fault, columns_fault, indexed_fault};
 
 use crate::fault::DbFault;
 use sql_values::{ColumnDef, ColumnType, LimitName, MAX_LENGTH, MIN_LENGTH, Text};
@@ -63,6 +63,22 @@ pub(crate) fn check_columns(alloc: Global, columns: &[ColumnDef]) -> Result<(), 
 {
     for i in 0..columns.len() {
         check_column(alloc, &columns[..i], &columns[i])?;
+    }
+    Ok(())
+}
+
+// Refuses a column that is among the indexed ones.
+pub(crate) fn check_unindexed(
+    alloc: Global,
+    columns: &[ColumnDef],
+    indexed: &[u8],
+    column: u8,
+) -> Result<(), DbFault>
+    requires { column < length columns.now }
+    ensures { Refuses (indexed_fault columns.now indexed.now column) result }
+{
+    if indexed.contains(&column) {
+        return Err(duplicate(alloc, columns[column as usize].name.bytes()));
     }
     Ok(())
 }

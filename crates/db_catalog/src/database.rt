@@ -1,32 +1,37 @@
-// The database: tables under their names, and the one dictionary of their texts. It relies on the heap for rows and on
-// the batch for their words, and never drops or changes a row.
+// The database: tables under their names, the one dictionary of their texts, and the names of all indexes. It relies on
+// the heap for rows and on the batch for their words, and never drops or changes a row.
 ghost use Rattle.std.specs.Prelude.{◌≡◌, ◌+◌, ◌*◌, ◌<◌, ◌≤◌, ◌^◌, [], ◌∷◌, ◌++◌, length, map, All};
-ghost use Rattle.std.specs.Prelude.{OnOk, OnErr, IfOk, nat_eq, vec_capacity};
+ghost use Rattle.std.specs.Prelude.{OnOk, OnErr, IfOk, IfSome, nat_eq, vec_capacity, Contains};
+ghost use Rattle.std.specs.Prelude.{IsSomeAnd, slice_get, filter, drop};
 ghost use Rattle.std.specs.List.{IsDistinct};
 ghost use Rattle.std.specs.Str.{bytes_eq};
 ghost use Rattle.sql_values.specs.Limits.{max_tables, max_columns, max_rows};
-ghost use Rattle.db_catalog.specs.Database.{with_table, with_rows, new_table, rows_in};
+ghost use Rattle.btree_index.specs.Entries.{IsOn, entries_left, first_row, is_within, next_charge};
+ghost use Rattle.db_catalog.specs.Database.{with_table, with_rows, with_index, new_table, rows_in};
 ghost use Rattle.db_catalog.specs.Database.{table_at, table_number, FillRows, IsRowAt};
 ghost use Rattle.db_catalog.specs.Meter.{table_pages, page_rows, HasSlot, IsRowIn};
 ghost use Rattle.work_ledger.specs.Account.{Pays};
-ghost use Rattle.work_ledger.specs.Charges.{page_charge, row_charge, fetch_charge};
-ghost use Rattle.db_catalog.specs.Refused.{Refuses, creation_fault, append_fault};
+ghost use Rattle.work_ledger.specs.Charges.{page_charge, row_charge, fetch_charge, node_charge};
+ghost use Rattle.db_catalog.specs.Indexes.{index_at, index_height};
+ghost use Rattle.db_catalog.specs.Refused.{Refuses, creation_fault, append_fault, index_fault};
 ghost use Rattle.db_catalog.specs.Refused.{room_fault, texts_fault};
 ghost use Rattle.db_catalog.specs.Kept.{MeanRows, SameRows, AppendsWords, HasWords, kept_words};
+ghost use Rattle.db_catalog.specs.Kept.{HasColumn, IndexesColumn};
 ghost use Rattle.heap_pages.specs.Rows.{cut_rows};
 ghost use Rattle.sql_values.specs.Dictionary.{with_texts};
 
 use crate::batch::Batch;
-use crate::check::{check_columns, check_limit, duplicate};
+use crate::check::{check_columns, check_limit, check_unindexed, duplicate};
 use crate::fault::DbFault;
 use crate::recode::recode;
 use crate::table::Table;
+use btree_index::Cursor;
 use heap_pages::{HeapFault, PageView};
 use sql_values::{
     ColumnDef, LimitName, MAX_COLUMNS, MAX_ROWS, MAX_TABLES, MAX_TEXT_BYTES, MAX_TEXTS, MAX_WORDS,
     Texts, Value,
 };
-use std::alloc::Global;
+use std::alloc::{AllocError, Global};
 use std::marker::Model;
 use work_ledger::{Exhausted, Ledger};
 
@@ -37,6 +42,7 @@ pub struct Database {
     names: Texts,
     tables: Vec<Table>,
     texts: Texts,
+    index_names: Texts,
 }
 
 impl Model for Database {
@@ -49,6 +55,7 @@ impl Model for Database {
     ghost view = { λ d. record {
       tables = map (stored_table d.texts) d.tables.items;
       texts = d.texts;
+      index_names = d.index_names;
     } };
 
     ghost invariant = { λ d. AreKept d.names d.texts d.tables.items };
@@ -113,20 +120,36 @@ fn settle(
     Ok(())
 }
 
-// Puts the words of rows behind those of a table. Out of memory changes nothing.
+// Puts the words of rows behind those of a table, and their entries into its indexes. Out of memory changes nothing.
 fn append_words(
     tables: &mut [Table],
+    alloc: Global,
     number: usize,
     words: Vec<i64>,
     rows: u64,
 ) -> Result<(), HeapFault>
     requires there { number < length tables.old }
     requires few { rows ≤ 2 ^ 62 }
-    requires filled { HasWords number (length words.items) rows tables.old }
+    requires filled { IsSomeAnd (slice_get tables.old number) (HasWords (length words.items) rows) }
     ensures appended { OnOk result (AppendsWords number rows words.items tables.old tables.new) }
     ensures unchanged { OnErr result (tables.new ≡ tables.old) }
 {
-    tables[number].heap.append_rows(words, rows)
+    tables[number].append_rows(alloc, words, rows)
+}
+
+// Makes an index of a column of a table. Out of memory changes nothing.
+fn index_column(
+    tables: &mut [Table],
+    alloc: Global,
+    number: usize,
+    column: u8,
+) -> Result<(), AllocError>
+    requires there { number < length tables.old }
+    requires column { IsSomeAnd (slice_get tables.old number) (HasColumn column) }
+    ensures indexed { OnOk result (IndexesColumn number column tables.old tables.new) }
+    ensures unchanged { OnErr result (tables.new ≡ tables.old) }
+{
+    tables[number].index_column(alloc, column)
 }
 
 // Refuses a dictionary past a limit.
@@ -146,12 +169,14 @@ impl Database {
     pub fn new(alloc: Global) -> Database
         ensures tables { result.tables ≡ [] }
         ensures texts { result.texts ≡ [] }
+        ensures index_names { result.index_names ≡ [] }
     {
         Database {
             alloc,
             names: Texts::new(alloc),
             tables: Vec::new(alloc),
             texts: Texts::new(alloc),
+            index_names: Texts::new(alloc),
         }
     }
 
@@ -192,6 +217,38 @@ impl Database {
         check_columns(self.alloc, columns)
     }
 
+    /// Makes an index, of a name, of a column of a table. The checks, in order: the name, among those of all indexes, then
+    /// the column, which is indexed already; that refusal has the column's name.
+    pub fn create_index(&mut self, name: &[u8], table: u32, column: u8) -> Result<(), DbFault>
+        requires there { table < length self.old.tables }
+        requires column { column < length (table_at self.old table).columns }
+        ensures created { OnOk result (self.new ≡ with_index self.old name.now table column) }
+        ensures unchanged { OnErr result (self.new ≡ self.old) }
+        ensures refuses { Refuses (index_fault self.old name.now table column) result }
+    {
+        self.check_index(name, table, column)?;
+        let before = self.index_names.len();
+        self.index_names.add(name)?;
+        prove!(before <= self.index_names.len());
+        if index_column(&mut self.tables, self.alloc, table as usize, column).is_err() {
+            self.index_names.cut(before);
+            return Err(DbFault::NoMemory);
+        }
+        Ok(())
+    }
+
+    // The checks of `create_index`.
+    fn check_index(&self, name: &[u8], table: u32, column: u8) -> Result<(), DbFault>
+        requires there { table < length self.now.tables }
+        requires column { column < length (table_at self.now table).columns }
+        ensures { Refuses (index_fault self.now name.now table column) result }
+    {
+        if self.index_names.code_of(name).is_some() {
+            return Err(duplicate(self.alloc, name));
+        }
+        check_unindexed(self.alloc, self.columns(table), self.indexes(table), column)
+    }
+
     /// Appends rows, whose values follow one another, to a table. The checks, in order, each of the number that there would
     /// be then: the table's rows, the words of all tables, the different texts, their bytes.
     pub fn append_rows(&mut self, table: u32, rows: &[Value]) -> Result<(), DbFault>
@@ -228,7 +285,7 @@ impl Database {
         let before = self.texts.len();
         settle(&mut self.texts, texts, &mut words, &columns, rows)?;
         prove!(before <= self.texts.len());
-        if append_words(&mut self.tables, table as usize, words, rows).is_err() {
+        if append_words(&mut self.tables, self.alloc, table as usize, words, rows).is_err() {
             self.texts.cut(before);
             return Err(DbFault::NoMemory);
         }
@@ -295,7 +352,7 @@ impl Database {
         self.tables[table as usize].heap.rows()
     }
 
-    /// The numbers of a table's columns that are indexed, from 0, each once. So far no column is.
+    /// The numbers of a table's columns that are indexed, from 0, each once, in the order in which their indexes were made.
     pub fn indexes(&self, table: u32) -> &[u8]
         requires { table < length self.now.tables }
         ensures indexed { result.now ≡ (table_at self.now table).indexed }
@@ -303,8 +360,7 @@ impl Database {
             column < length (table_at self.now table).columns) result.now }
         ensures different { IsDistinct nat_eq result.now }
     {
-        prove!((table as usize) < self.tables.len());
-        &[]
+        self.tables[table as usize].indexes.columns()
     }
 
     /// The words of row `i` of a table, from 0. This read isn't paid.
@@ -364,6 +420,54 @@ impl Database {
         ensures pays { Pays fetch_charge ledger.old ledger.new result }
     {
         self.tables[table as usize].heap.fetch(i, ledger)
+    }
+
+    // Descends in the index of a column to the entries with words from `from` to `to`, which pays for each level.
+    pub(crate) fn seek(
+        &self,
+        table: u32,
+        column: u8,
+        from: i64,
+        to: i64,
+        ledger: &mut Ledger,
+    ) -> Result<Cursor, Exhausted>
+        requires there { table < length self.now.tables }
+        requires indexed { Contains (table_at self.now table).indexed column }
+        ensures range { IfOk result (λ cursor. entries_left (index_at self.now table column) cursor
+            ≡ filter (is_within from to) (index_at self.now table column)) }
+        ensures placed { IfOk result (λ cursor. IsOn (index_at self.now table column) cursor) }
+        ensures pays { Pays (node_charge * index_height self.now table column) ledger.old ledger.new result }
+    {
+        self.tables[table as usize]
+            .index_of(column)
+            .seek(from, to, ledger)
+    }
+
+    // The row of a cursor's next entry, which pays for it.
+    pub(crate) fn next(
+        &self,
+        table: u32,
+        column: u8,
+        cursor: &mut Cursor,
+        ledger: &mut Ledger,
+    ) -> Result<Option<u64>, Exhausted>
+        requires there { table < length self.now.tables }
+        requires indexed { Contains (table_at self.now table).indexed column }
+        requires placed { IsOn (index_at self.now table column) cursor.old }
+        ensures row { IfOk result (λ row.
+            row ≡ first_row (entries_left (index_at self.now table column) cursor.old)) }
+        ensures there { IfOk result (λ row.
+            IfSome row (λ i. i < length (table_at self.now table).rows)) }
+        ensures left { OnOk result (entries_left (index_at self.now table column) cursor.new
+            ≡ drop 1 (entries_left (index_at self.now table column) cursor.old)) }
+        ensures unchanged { OnErr result (cursor.new ≡ cursor.old) }
+        ensures placed { IsOn (index_at self.now table column) cursor.new }
+        ensures pays { Pays (next_charge (entries_left (index_at self.now table column) cursor.old))
+            ledger.old ledger.new result }
+    {
+        self.tables[table as usize]
+            .index_of(column)
+            .next(cursor, ledger)
     }
 
     // How many pages a table's rows take.

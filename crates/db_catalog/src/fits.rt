@@ -2,7 +2,7 @@
 ghost use Rattle.std.specs.Prelude.{◌≡◌, ◌↔◌, ℕ, All, Contains, List, IsTrue, map};
 ghost use Rattle.sql_values.specs.Stored.{StoredTable, ValueRow};
 ghost use Rattle.query_block.specs.Blocks.{BlockTree, block_tree, relation_tree};
-ghost use Rattle.db_catalog.specs.Database.{DatabaseState, with_rows, with_table};
+ghost use Rattle.db_catalog.specs.Database.{DatabaseState, with_rows, with_table, with_index};
 ghost use Rattle.db_catalog.specs.Fits.{Fits, FitsTable};
 
 use crate::database::Database;
@@ -69,10 +69,12 @@ impl Database {
     }
 }
 
-/// A law: a block that fits a database fits it too once there are more rows in it, or a table more.
+/// A law: a block that fits a database fits it too once there are more rows in it, a table more, or an index more.
 pub fn blocks_fit_as_a_database_grows()
     ensures rows { (database : DatabaseState) (number : ℕ) (rows : List ValueRow) (block : BlockTree)
         → Fits database block → Fits (with_rows database number rows) block }
     ensures table { (database : DatabaseState) (table : StoredTable) (block : BlockTree)
         → Fits database block → Fits (with_table database table) block }
+    ensures index { (database : DatabaseState) (name : List ℕ) (number column : ℕ) (block : BlockTree)
+        → Fits database block → Fits (with_index database name number column) block }
 {}

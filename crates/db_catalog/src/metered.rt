@@ -1,13 +1,17 @@
 // The meter: the only way by which the layers above reach a row. It relies on the ledger for what is paid, and lends
 // rows for as long as the database is lent.
-ghost use Rattle.std.specs.Prelude.{◌≡◌, ◌+◌, ◌<◌, ◌≤◌, ◌^◌, length, IfOk};
+ghost use Rattle.std.specs.Prelude.{◌≡◌, ◌+◌, ◌*◌, ◌<◌, ◌≤◌, ◌^◌, length, filter, drop, Contains};
+ghost use Rattle.std.specs.Prelude.{IfOk, IfSome, OnOk, OnErr};
+ghost use Rattle.btree_index.specs.Entries.{IsOn, entries_left, first_row, is_within, next_charge};
 ghost use Rattle.work_ledger.specs.Account.{IsInBounds};
-ghost use Rattle.work_ledger.specs.Charges.{page_charge, row_charge, fetch_charge};
+ghost use Rattle.work_ledger.specs.Charges.{page_charge, row_charge, fetch_charge, node_charge};
 ghost use Rattle.sql_values.specs.Limits.{max_columns, max_rows};
 ghost use Rattle.db_catalog.specs.Database.{table_at, IsRowAt};
+ghost use Rattle.db_catalog.specs.Indexes.{index_at, index_height};
 ghost use Rattle.db_catalog.specs.Meter.{Reads, HasSlot, table_pages, page_rows, IsRowIn};
 
 use crate::database::Database;
+use btree_index::Cursor;
 use heap_pages::PageView;
 use sql_values::{ColumnDef, Texts};
 use std::marker::Model;
@@ -148,5 +152,48 @@ impl<'d> Metered<'d> {
         ensures reads { Reads fetch_charge self.old self.new result }
     {
         self.database.fetch(table, i, &mut self.ledger)
+    }
+
+    /// Descends in the index of a column to the entries with words from `from` to `to`, both included, which pays for each
+    /// level. There are none where `from` is greater than `to`, and none for NULL.
+    pub fn seek(&mut self, table: u32, column: u8, from: i64, to: i64) -> Result<Cursor, Exhausted>
+        requires there { table < length self.old.database.tables }
+        requires indexed { Contains (table_at self.old.database table).indexed column }
+        ensures range { IfOk result (λ cursor.
+            entries_left (index_at self.old.database table column) cursor
+            ≡ filter (is_within from to) (index_at self.old.database table column)) }
+        ensures placed { IfOk result (λ cursor.
+            IsOn (index_at self.old.database table column) cursor) }
+        ensures reads { Reads (node_charge * index_height self.old.database table column)
+            self.old self.new result }
+    {
+        self.database
+            .seek(table, column, from, to, &mut self.ledger)
+    }
+
+    /// The row of the cursor's next entry, which pays for the entry and moves the cursor past it. Past the last entry there
+    /// is none, and nothing is paid.
+    pub fn next(
+        &mut self,
+        table: u32,
+        column: u8,
+        cursor: &mut Cursor,
+    ) -> Result<Option<u64>, Exhausted>
+        requires there { table < length self.old.database.tables }
+        requires indexed { Contains (table_at self.old.database table).indexed column }
+        requires placed { IsOn (index_at self.old.database table column) cursor.old }
+        ensures row { IfOk result (λ row.
+            row ≡ first_row (entries_left (index_at self.old.database table column) cursor.old)) }
+        ensures there { IfOk result (λ row.
+            IfSome row (λ i. i < length (table_at self.old.database table).rows)) }
+        ensures left { OnOk result (entries_left (index_at self.old.database table column) cursor.new
+            ≡ drop 1 (entries_left (index_at self.old.database table column) cursor.old)) }
+        ensures unchanged { OnErr result (cursor.new ≡ cursor.old) }
+        ensures placed { IsOn (index_at self.old.database table column) cursor.new }
+        ensures reads { Reads
+            (next_charge (entries_left (index_at self.old.database table column) cursor.old))
+            self.old self.new result }
+    {
+        self.database.next(table, column, cursor, &mut self.ledger)
     }
 }

@@ -117,7 +117,7 @@ script_answer state (step ∷ rest) = and_then (outcome state step.statement ste
 
 -- before the first statement there is nothing
 abbrev pub nothing_made : SessionState
-nothing_made = record { tables = []; texts = [] }
+nothing_made = record { tables = []; texts = []; index_names = [] }
 
 -- the answer to a script of these statements, or to one that is refused whole
 abbrev pub answer_of : Result (List Step) Refusal → Answer

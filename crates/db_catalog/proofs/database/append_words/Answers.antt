@@ -4,11 +4,10 @@ use Rattle.db_catalog.proofs.database.append_words.Goals as goal
 
 pub returns-clause-appended : goal.returns-clause-appended
 returns-clause-appended c =
-    IfOk-map c.append_rows.result (λ _ rows. record {
+    IfOk-map c.append_rows.result (λ _ takes. record {
       table = get_or c.args.tables.now c.args.number c.index-tables-number.result;
-      heap = c.append_rows.new.self;
+      after = c.append_rows.new.self;
       there = ap (get_or c.args.tables.now c.args.number) c.index-tables-number.is;
-      columns = c.append_rows.ensures.columns;
-      appended = rows;
+      takes = takes;
       tables = refl;
-    }) c.append_rows.ensures.rows
+    }) c.append_rows.ensures.appended

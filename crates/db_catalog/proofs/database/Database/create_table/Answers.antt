@@ -24,4 +24,4 @@ invariant_of-self-2 c =
     subst (λ ns. AreKept ns c.self.inside.texts c.push_within.new.tables.items) (sym c.in_ok-add.ensures.texts)
     (subst (AreKept (with_text c.self.inside.names c.args.name.now) c.self.inside.texts) (sym put)
     (table_appended c.self.inside.names c.self.inside.texts c.self.inside.tables.items c.in_ok-table.table c.args.name.now c.args.columns.now c.self.invariant free few c.requires.some
-    (within limit.Columns max_columns (length c.args.columns.now) columns.0) c.in_ok-table.ensures.name c.in_ok-table.ensures.columns c.in_ok-table.ensures.width c.in_ok-table.ensures.rows))
+    (within limit.Columns max_columns (length c.args.columns.now) columns.0) c.in_ok-table.ensures.name c.in_ok-table.ensures.columns c.in_ok-table.ensures.width c.in_ok-table.ensures.rows c.in_ok-table.ensures.indexes))
