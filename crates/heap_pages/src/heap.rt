@@ -49,6 +49,8 @@ pub struct PageView {
 #[derive(Drop)]
 pub struct Heap {
     columns: usize,
+    // How many rows a full page has, so that no read divides.
+    per_page: usize,
     words: Vec<i64>,
     rows: u64,
     spare: u64,
@@ -69,7 +71,8 @@ impl Model for Heap {
     ghost use Rattle.heap_pages.specs.Layout.{IsLaidOut};
 
     ghost invariant = { λ h.
-        IsLaidOut h.columns h.rows h.spare (vec_len h.words) (vec_capacity h.words) };
+        IsLaidOut h.columns h.per_page h.rows h.spare
+        (vec_len h.words) (vec_capacity h.words) };
 }
 
 // Puts words after those that are there. Where there are none they are taken over, not copied.
@@ -106,6 +109,7 @@ impl Heap {
     {
         Heap {
             columns,
+            per_page: PAGE_WORDS / columns,
             words: Vec::new(alloc),
             rows: 0,
             spare: 0,
@@ -125,7 +129,7 @@ impl Heap {
         ensures count { result ≡ pages_of self.now.columns (length self.now.rows) }
         ensures row_fits { 1 ≤ rows_per_page self.now.columns }
     {
-        let per_page = (PAGE_WORDS / self.columns) as u64;
+        let per_page = self.per_page as u64;
         (self.rows + (per_page - 1)) / per_page
     }
 
@@ -134,7 +138,7 @@ impl Heap {
         requires { no < pages_of self.now.columns (length self.now.rows) }
         ensures { result ≡ rows_on_page self.now.columns (length self.now.rows) no }
     {
-        let per_page = PAGE_WORDS / self.columns;
+        let per_page = self.per_page;
         per_page.min(self.rows as usize - no as usize * per_page)
     }
 
@@ -232,7 +236,7 @@ impl Heap {
         ensures pays { Pays row_charge ledger.old ledger.new result }
     {
         ledger.pay(charge::ROW)?;
-        Ok(self.get(view.number * (PAGE_WORDS / self.columns) as u64 + slot as u64))
+        Ok(self.get(view.number * self.per_page as u64 + slot as u64))
     }
 
     /// Row `i`, from 0, which pays for the look-up.

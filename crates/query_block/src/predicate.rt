@@ -1,7 +1,7 @@
 // The predicates on operands of a row. Nothing here takes memory or calls itself.
 ghost use Rattle.std.specs.Prelude.{◌≡◌, ◌<◌, All, length};
 ghost use Rattle.sql_values.specs.Words.{IsWord, value_of};
-ghost use Rattle.sql_values.specs.Truth.{comparison, truth_and, certain, is_null};
+ghost use Rattle.sql_values.specs.Truth.{comparison, truth_and, certain, is_null, AreComparable};
 ghost use Rattle.sql_values.specs.declared.op.Op.TheVariants.{Ge, Le};
 ghost use Rattle.query_block.specs.Blocks.{IsOperand, AreOperands, kind_at};
 ghost use Rattle.query_block.specs.Cells.{cell_value, row_values, IsCell, IsRow};
@@ -56,6 +56,19 @@ fn operand_cell<'a>(operand: &'a Operand, row: &Row<'_>) -> Cell<'a>
     }
 }
 
+// Compares a cell with an operand.
+fn compare_with(op: Op, left: Cell<'_>, right: &Operand, row: &Row<'_>) -> Truth
+    requires row { IsRow row.now }
+    requires left { IsCell row.now.texts.now left }
+    requires right { IsOperand row.now.columns.now right.now }
+    requires kinds { AreComparable (cell_value row.now.texts.now left)
+        (operand_value (row_values row.now) right.now) }
+    ensures { result ≡ comparison op (cell_value row.now.texts.now left.entry)
+        (operand_value (row_values row.now) right.now) }
+{
+    compare_cells(op, left, operand_cell(right, row), row.texts)
+}
+
 /// Compares two operands (SQL-92, 8.2).
 pub(crate) fn compare(op: Op, left: &Operand, right: &Operand, row: &Row<'_>) -> Truth
     requires row { IsRow row.now }
@@ -63,12 +76,7 @@ pub(crate) fn compare(op: Op, left: &Operand, right: &Operand, row: &Row<'_>) ->
     ensures { let value = operand_value (row_values row.now) in
         result ≡ comparison op (value left.now) (value right.now) }
 {
-    compare_cells(
-        op,
-        operand_cell(left, row),
-        operand_cell(right, row),
-        row.texts,
-    )
+    compare_with(op, operand_cell(left, row), right, row)
 }
 
 /// Whether an operand lies between two others (SQL-92, 8.3). The upper one is left alone where the lower one decides.
@@ -95,9 +103,10 @@ pub(crate) fn one_of(of: &Operand, operands: &[Operand], row: &Row<'_>) -> Truth
     ensures { let values = row_values row.now in
         result ≡ one_of values (operand_value values of.now) operands.now }
 {
+    let cell = operand_cell(of, row);
     let mut found = Truth::False;
     for operand in operands {
-        found = or(found, compare(Op::Eq, of, operand, row));
+        found = or(found, compare_with(Op::Eq, cell, operand, row));
         if found == Truth::True {
             return Truth::True;
         }

@@ -1,16 +1,29 @@
-use Rattle.std.proofs.Common.{rules, ◌≡◌, ap, ◌∙◌}
+use Rattle.std.proofs.Common.{rules, ◌≡◌, refl, sym, ap, subst, ◌∙◌}
+use Rattle.std.proofs.lemmas.List.Elements.{All-get_or}
+use Rattle.sql_values.specs.declared.op.Op.TheVariants.{Eq}
 use Rattle.sql_values.specs.declared.truth.Truth.TheVariants as truth
-use Rattle.sql_values.specs.Truth.{truth_or}
+use Rattle.sql_values.specs.Truth.{truth_or, comparison}
+use Rattle.query_block.specs.Blocks.{AreOperands}
 use Rattle.query_block.specs.Cells.{row_values}
 use Rattle.query_block.specs.Truth.{operand_value}
 use Rattle.query_block.proofs.Chains.{equals, left-next, left-stop}
+use Rattle.query_block.proofs.Words.{operands-comparable}
 use Rattle.query_block.proofs.predicate.one_of.Goals as goal
+
+pub compare_with-requires-clause-kinds : goal.compare_with-requires-clause-kinds
+compare_with-requires-clause-kinds c =
+    let row = c.args.row.now in
+    let item = c.operand-item.result in
+    let fits = AreOperands row.columns.now c.args.of.now in
+    let are : fits item = subst fits (sym c.operand-item.is) (All-get_or fits c.args.operands.now c.loop-operand.operand-index item c.loop-operand-test.true c.requires.operands) in
+    operands-comparable row.texts.now row.columns.now row.words.now c.args.of.now item _ _ c.requires.row are c.operand_cell-cell.ensures.value refl
 
 pub returns-then-eq : goal.returns-then-eq
 returns-then-eq c =
     let row = row_values c.args.row.now in
     let chain = equals row (operand_value row c.args.of.now) in
     let decided : c.or-found.result ≡ truth.True = search rules in
+    let equal = c.compare_with.ensures ∙ ap (λ value. comparison Eq value (operand_value row c.operand-item.result)) c.operand_cell-cell.ensures.value in
     left-stop chain c.args.operands.now c.or-found.result _ decided
     (left-next chain c.args.operands.now c.loop-operand.found c.or-found.result c.loop-operand.operand-index c.operand-item.result c.loop-operand-test.true c.operand-item.is
-    c.loop-operand.invariant (c.or-found.ensures ∙ ap (truth_or c.loop-operand.found) c.compare.ensures))
+    c.loop-operand.invariant (c.or-found.ensures ∙ ap (truth_or c.loop-operand.found) equal))
