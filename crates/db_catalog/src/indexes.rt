@@ -1,8 +1,11 @@
 // The indexes of one table: the columns that are indexed, in the order in which that was asked, and beside each its
 // index. It relies on btree_index for order and search, and never drops an index.
-ghost use Rattle.std.specs.Prelude.{◌≡◌, ◌<◌, [], ◌∷◌, ◌++◌, length, Contains, OnOk, OnErr};
+ghost use Rattle.std.specs.Prelude.{ℕ, ◌≡◌, ◌<◌, [], ◌∷◌, ◌++◌, length, Contains, OnOk, OnErr};
 ghost use Rattle.std.specs.Prelude.{slice_index_or, vec_capacity};
-ghost use Rattle.db_catalog.specs.Indexes.{no_indexes};
+ghost use Rattle.std.specs.List.Sorted.{IsPermutation};
+ghost use Rattle.btree_index.specs.Entries.{IsInOrder};
+ghost use Rattle.db_catalog.specs.Database.{DatabaseState};
+ghost use Rattle.db_catalog.specs.Indexes.{no_indexes, column_entries, index_at};
 
 use btree_index::Index;
 use std::alloc::{AllocError, Global};
@@ -93,3 +96,11 @@ impl Indexes {
         self.entries = entries;
     }
 }
+
+/// A law: the index of a column has exactly the column's entries, and has them in order.
+pub fn an_index_is_its_column_in_order()
+    ensures same { (database : DatabaseState) (number column : ℕ)
+        → IsPermutation (column_entries database number column) (index_at database number column) }
+    ensures order { (database : DatabaseState) (number column : ℕ)
+        → IsInOrder (index_at database number column) }
+{}
