@@ -8,3 +8,4 @@ pub mod Parts
 pub mod Members
 pub mod Enumerated
 pub mod Least
+mod Tested
