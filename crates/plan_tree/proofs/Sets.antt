@@ -36,6 +36,10 @@ bits (Hash edge left right) relation = join (leaves_of left) (leaves_of right) _
 bits (Merge edge left right) relation = join (leaves_of left) (leaves_of right) _ _ relation (bits left relation) (bits right relation)
 bits (IndexLoop edge left a) relation = join (leaves_of left) (a ∷ []) _ _ relation (bits left relation) (leaf a relation)
 
+-- a bit of a plan's set is 1 where the plan has the relation, and else 0
+pub bit-of : (p : PlanTree) (relation : ℕ) → bit_at (covers_of p) relation ≡ cond (has_leaf p relation) 1 0
+bit-of = bits
+
 is-set : (set relation : ℕ) (b : Bool) → bit_at set relation ≡ cond b 1 0 → IsBitSet set relation ↔ IsTrue b
 is-set set relation true bit =
     let one : bit_and set (2 ^ relation) ≡ 1 * 2 ^ relation = and_pow set relation ∙ ap (λ n. n * 2 ^ relation) bit in

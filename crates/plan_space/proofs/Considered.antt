@@ -1,0 +1,187 @@
+-- How the steps of the search for an entry follow one another.
+use Rattle.std.proofs.Common.{◌≡◌, ◌⊎◌, inl, inr, Bool, true, false, nat_lt, nat_eq, ◌||◌, [], ◌∷◌, ◌++◌, ℕ, ◌+◌, ◌-◌, ◌*◌, ◌^◌, ◌<◌, ◌≤◌, List, length, refl, sym, ap, ap₂, subst, ◌∙◌, arith}
+use Rattle.std.specs.List.{list_any}
+use Rattle.std.proofs.lemmas.List.Folds.{list_any-append}
+use Rattle.query_block.specs.Blocks.{relation_at}
+use Rattle.plan_tree.specs.Enumerated.{IsIndexed}
+use Rattle.std.specs.Cmp.{upto, tied_itself}
+use Rattle.std.specs.Ordering.{nat_cmp, is_gt}
+use Rattle.std.proofs.lemmas.Cmp.{nat_list_cmp_total}
+use Rattle.std.specs.declared.cmp.Ordering.TheVariants.{Equal}
+use Rattle.plan_space.specs.declared.roots.Root.{Root}
+use Rattle.plan_space.specs.declared.roots.Root.TheVariants as root
+use Rattle.plan_space.specs.declared.entry.Entry.{Entry}
+use Rattle.plan_space.specs.Roots.{Stands, IsSplit}
+use Rattle.plan_space.specs.Table.{entry_at, side_costs, offered, rank, NotLater, IsOffered, IsLeast, AreLeast}
+use Rattle.plan_space.specs.Pricing.{Pricing}
+use Rattle.plan_space.specs.Prices.{own_at, block_at}
+use Rattle.plan_space.proofs.Bits.{same-relation}
+use Rattle.plan_space.specs.Steps.{Group, Considers, IsReady, IsByEdge, IsBeforeEdge, IsByLeft, IsBeforeLeft, IsLookUpBy, IsScanBy, IsReading}
+
+pub not-later-then : (a b c : Entry) → NotLater a b → NotLater b c → NotLater a c
+not-later-then a b c = upto nat_list_cmp_total (rank a) (rank b) (rank c)
+
+pub not-later-itself : (a : Entry) → NotLater a a
+not-later-itself a = ap is_gt (tied_itself nat_list_cmp_total (rank a))
+
+-- an entry is the node that it names over the entries of its sides
+pub is-offered : (at : Pricing) (table : List Entry) (set : ℕ) (entry : Entry) → IsOffered (own_at at) (block_at at) table set entry → offered (own_at at) table entry.root set ≡ entry
+is-offered at table set entry kept i = record { cost = sym kept.cost i; root = entry.root }
+
+module _ (at : Pricing) (table : List Entry) (set : ℕ) where
+  pub nothing : (group : Group) (a : Entry) → IsOffered (own_at at) (block_at at) table set a → ((node : Root) → group node → Stands (block_at at) node set → ⊥)
+      → Considers at table set group a a
+  nothing group a kept none = record { kept = kept; found = not-later-itself a; all = λ node in-group stands. absurd (none node in-group stands) }
+
+  pub chosen : (a b : Entry) (entry : Entry) → IsOffered (own_at at) (block_at at) table set a → IsOffered (own_at at) (block_at at) table set entry
+      → (b ≡ a) ⊎ (b ≡ entry) → NotLater b a → NotLater b entry → Considers at table set (λ node. node ≡ entry.root) a b
+  chosen a b entry kept kept' either found offers = record {
+    kept = elim either [
+      | inl same ↦ subst (IsOffered (own_at at) (block_at at) table set) (sym same) kept
+      | inr same ↦ subst (IsOffered (own_at at) (block_at at) table set) (sym same) kept'
+    ];
+    found = found;
+    all = λ node is stands.
+        subst (NotLater b) (sym (ap (λ one. offered (own_at at) table one set) is ∙ is-offered at table set entry kept')) offers;
+  }
+
+  pub and-then : (G H K : Group) (a b c : Entry) → Considers at table set G a b → Considers at table set H b c
+      → ((node : Root) → K node → Stands (block_at at) node set → G node ⊎ H node) → Considers at table set K a c
+  and-then G H K a b c first second covers = record {
+    kept = second.kept;
+    found = not-later-then c b a second.found first.found;
+    all = λ node in-group stands. elim (covers node in-group stands) [
+      | inl one ↦ not-later-then c b (offered (own_at at) table node set) second.found (first.all node one stands)
+      | inr one ↦ second.all node one stands
+    ];
+  }
+
+  pub narrow : (G K : Group) (a b : Entry) → Considers at table set G a b → ((node : Root) → K node → Stands (block_at at) node set → G node) → Considers at table set K a b
+  narrow G K a b first covers = record { kept = first.kept; found = first.found; all = λ node in-group stands. first.all node (covers node in-group stands) stands }
+
+  -- ---- the groups of joins
+
+  -- a look-up by this edge over this left side is of the one relation on the right
+  pub looked-up : (edge left relation : ℕ) → set - left ≡ 2 ^ relation → (node : Root) → IsLookUpBy edge left node → Stands (block_at at) node set → node ≡ root.IndexLoop edge left relation
+  looked-up edge left relation right (root.Scan r) group stands = absurd group
+  looked-up edge left relation right (root.IndexScan r c) group stands = absurd group
+  looked-up edge left relation right (root.Nest s) group stands = absurd group
+  looked-up edge left relation right (root.Hash n s) group stands = absurd group
+  looked-up edge left relation right (root.Merge n s) group stands = absurd group
+  looked-up edge left relation right (root.IndexLoop n s r) group stands =
+      let same = same-relation r relation (sym stands.2.one ∙ ap (λ side. set - side) group.1 ∙ right) in
+      λ i. root.IndexLoop (group.0 i) (group.1 i) (same i)
+
+  pub no-look-up : (edge left : ℕ) → ((relation : ℕ) → set - left ≡ 2 ^ relation → ⊥) → (node : Root) → IsLookUpBy edge left node → Stands (block_at at) node set → ⊥
+  no-look-up edge left none (root.Scan r) group stands = group
+  no-look-up edge left none (root.IndexScan r c) group stands = group
+  no-look-up edge left none (root.Nest s) group stands = group
+  no-look-up edge left none (root.Hash n s) group stands = group
+  no-look-up edge left none (root.Merge n s) group stands = group
+  no-look-up edge left none (root.IndexLoop n s r) group stands = none r (ap (λ side. set - side) (sym group.1) ∙ stands.2.one)
+
+  pub of-edge : (edge left : ℕ) (node : Root) → IsByEdge edge left node → ((node ≡ root.Hash edge left) ⊎ (node ≡ root.Merge edge left)) ⊎ IsLookUpBy edge left node
+  of-edge edge left (root.Scan r) group = absurd group
+  of-edge edge left (root.IndexScan r c) group = absurd group
+  of-edge edge left (root.Nest s) group = absurd group
+  of-edge edge left (root.Hash n s) group = inl (inl (ap₂ root.Hash group.0 group.1))
+  of-edge edge left (root.Merge n s) group = inl (inr (ap₂ root.Merge group.0 group.1))
+  of-edge edge left (root.IndexLoop n s r) group = inr group
+
+  before : (number edge side left : ℕ) → (number < edge + 1) × (side ≡ left) → ((number < edge) × (side ≡ left)) ⊎ ((number ≡ edge) × (side ≡ left))
+  before number edge side left (less, same) = by (nat_lt number edge) refl
+    where
+      by : (t : Bool) → nat_lt number edge ≡ t → ((number < edge) × (side ≡ left)) ⊎ ((number ≡ edge) × (side ≡ left))
+      by true is = inl (grind arith, same)
+      by false is = inr (grind arith, same)
+
+  pub no-edge : (left : ℕ) (node : Root) → IsBeforeEdge 0 left node → ⊥
+  no-edge left (root.Scan r) group = group
+  no-edge left (root.IndexScan r c) group = group
+  no-edge left (root.Nest s) group = group
+  no-edge left (root.Hash n s) group = omega (arith, group.0)
+  no-edge left (root.Merge n s) group = omega (arith, group.0)
+  no-edge left (root.IndexLoop n s r) group = omega (arith, group.0)
+
+  pub next-edge : (edge left : ℕ) (node : Root) → IsBeforeEdge (edge + 1) left node → IsBeforeEdge edge left node ⊎ IsByEdge edge left node
+  next-edge edge left (root.Scan r) group = absurd group
+  next-edge edge left (root.IndexScan r c) group = absurd group
+  next-edge edge left (root.Nest s) group = absurd group
+  next-edge edge left (root.Hash n s) group = before n edge s left group
+  next-edge edge left (root.Merge n s) group = before n edge s left group
+  next-edge edge left (root.IndexLoop n s r) group = before n edge s left group
+
+  pub of-left : (left : ℕ) (node : Root) → IsByLeft left node → Stands (block_at at) node set → (node ≡ root.Nest left) ⊎ IsBeforeEdge (length at.costing.block.edges) left node
+  of-left left (root.Scan r) group stands = absurd group
+  of-left left (root.IndexScan r c) group stands = absurd group
+  of-left left (root.Nest s) group stands = inl (ap root.Nest group)
+  of-left left (root.Hash n s) group stands = inr (stands.1.exists, group)
+  of-left left (root.Merge n s) group stands = inr (stands.1.exists, group)
+  of-left left (root.IndexLoop n s r) group stands = inr (stands.1.exists, group)
+
+  before-left : (side left : ℕ) → side < left + 1 → (side < left) ⊎ (side ≡ left)
+  before-left side left less = by (nat_lt side left) refl
+    where
+      by : (t : Bool) → nat_lt side left ≡ t → (side < left) ⊎ (side ≡ left)
+      by true is = inl (grind arith)
+      by false is = inr (grind arith)
+
+  pub no-left : (node : Root) → IsBeforeLeft 1 node → Stands (block_at at) node set → ⊥
+  no-left (root.Scan r) group stands = group
+  no-left (root.IndexScan r c) group stands = group
+  no-left (root.Nest s) group stands = omega (arith, group, stands.some)
+  no-left (root.Hash n s) group stands = omega (arith, group, stands.0.some)
+  no-left (root.Merge n s) group stands = omega (arith, group, stands.0.some)
+  no-left (root.IndexLoop n s r) group stands = omega (arith, group, stands.0.some)
+
+  pub next-left : (left : ℕ) (node : Root) → IsBeforeLeft (left + 1) node → IsBeforeLeft left node ⊎ IsByLeft left node
+  next-left left (root.Scan r) group = absurd group
+  next-left left (root.IndexScan r c) group = absurd group
+  next-left left (root.Nest s) group = before-left s left group
+  next-left left (root.Hash n s) group = before-left s left group
+  next-left left (root.Merge n s) group = before-left s left group
+  next-left left (root.IndexLoop n s r) group = before-left s left group
+
+  -- ---- the ways to read a relation
+
+  pub next-column : (relation column : ℕ) (done all : List ℕ) → all ≡ done ++ column ∷ [] → (node : Root) → IsScanBy relation all node
+      → IsScanBy relation done node ⊎ (node ≡ root.IndexScan relation column)
+  next-column relation column done all is (root.Scan r) group = absurd group
+  next-column relation column done all is (root.IndexScan r c) group = by (list_any (λ one. nat_eq one c) done) (nat_eq column c) refl refl
+    where
+      whole : (list_any (λ one. nat_eq one c) done || (nat_eq column c || false)) ≡ true
+      whole = sym (ap (list_any (λ one. nat_eq one c)) is ∙ list_any-append (λ one. nat_eq one c) done (column ∷ [])) ∙ group.1
+
+      by : (before here : Bool) → list_any (λ one. nat_eq one c) done ≡ before → nat_eq column c ≡ here
+          → IsScanBy relation done (root.IndexScan r c) ⊎ (root.IndexScan r c ≡ root.IndexScan relation column)
+      by true here e f = inl (group.0, e)
+      by false true e f = inr (let same : c ≡ column = grind arith in ap₂ root.IndexScan group.0 same)
+      by false false e f = let none : false ≡ true = sym (ap₂ (λ a b. a || (b || false)) e f) ∙ whole in cc
+  next-column relation column done all is (root.Nest s) group = absurd group
+  next-column relation column done all is (root.Hash n s) group = absurd group
+  next-column relation column done all is (root.Merge n s) group = absurd group
+  next-column relation column done all is (root.IndexLoop n s r) group = absurd group
+
+  pub read-all : (relation cost : ℕ) (result : Entry) → set ≡ 2 ^ relation → cost ≡ own_at at (root.Scan relation) set
+      → Considers at table set (IsScanBy relation (relation_at (block_at at).relations relation).indexes) (record { cost = cost; root = root.Scan relation }) result
+      → Considers at table set IsReading result result
+  read-all relation cost result is price considers = record {
+    kept = considers.kept;
+    found = not-later-itself result;
+    all = read;
+  }
+    where
+      read : (node : Root) → IsReading node → Stands (block_at at) node set → NotLater result (offered (own_at at) table node set)
+      read (root.Scan r) group stands =
+          let same : r ≡ relation = same-relation r relation (sym stands.1 ∙ is) in
+          let scan : offered (own_at at) table (root.Scan r) set ≡ record { cost = cost; root = root.Scan relation } =
+          let worth : 0 + own_at at (root.Scan r) set ≡ cost = omega (arith, ap (λ n. own_at at (root.Scan n) set) same, price) in
+          λ i. record { cost = worth i; root = root.Scan (same i) } in
+          subst (NotLater result) (sym scan) considers.found
+      read (root.IndexScan r c) group stands =
+          let same : r ≡ relation = same-relation r relation (sym stands.1 ∙ is) in
+          considers.all (root.IndexScan r c) (same, subst (λ n. IsIndexed (relation_at (block_at at).relations n) c) same stands.0.indexed) stands
+      read (root.Nest s) group stands = absurd group
+      read (root.Hash n s) group stands = absurd group
+      read (root.Merge n s) group stands = absurd group
+      read (root.IndexLoop n s r) group stands = absurd group

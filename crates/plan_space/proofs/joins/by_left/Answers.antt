@@ -1,0 +1,13 @@
+use Rattle.std.proofs.Common.{◌≡◌, length}
+use Rattle.plan_space.specs.declared.roots.Root.TheVariants as root
+use Rattle.plan_space.specs.Steps.{IsByLeft, IsBeforeEdge}
+use Rattle.plan_space.proofs.Considered.{and-then, of-left}
+use Rattle.plan_space.proofs.joins.by_left.Goals as goal
+
+pub returns : goal.returns
+returns c =
+    let at = c.args.prices.now in
+    let left = c.args.left in
+    and-then at c.args.table.now c.args.set (λ node. node ≡ root.Nest left) (IsBeforeEdge (length at.costing.block.edges) left) (IsByLeft left)
+    c.args.start c.by_nest-found.result c.by_edges.result c.by_nest-found.ensures c.by_edges.ensures
+    (of-left at c.args.table.now c.args.set left)

@@ -1,0 +1,9 @@
+use Rattle.std.proofs.Common.{◌∙◌, arith}
+use Rattle.cost_model.specs.Costing.{costing_tree}
+use Rattle.cost_model.specs.Cards.{set_of}
+use Rattle.cost_model.proofs.Bounds.{card-below}
+use Rattle.plan_space.proofs.prices.card_at.Goals as goal
+
+pub returns-clause-few : goal.returns-clause-few
+returns-clause-few c =
+    omega (arith, c.requires.cards c.args.set c.requires.set, card-below (costing_tree c.args.costing.now) (set_of c.args.set) c.args.q.now c.block-block.ensures.costing)

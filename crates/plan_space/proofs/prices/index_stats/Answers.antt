@@ -1,0 +1,11 @@
+use Rattle.std.proofs.Common.{◌∙◌, ap, sym, subst}
+use Rattle.cost_model.specs.Costs.{index_on}
+use Rattle.cost_model.specs.Parts.{IsFewIndex}
+use Rattle.cost_model.proofs.Bounds.{index-on-few}
+use Rattle.plan_space.proofs.prices.index_stats.Goals as goal
+
+pub returns-clause-few : goal.returns-clause-few
+returns-clause-few c =
+    let column = c.args.column in
+    subst IsFewIndex (sym (c.index_on.ensures ∙ ap (λ all. index_on all column) c.as_slice.ensures))
+    (index-on-few _ column c.relation_stats.ensures.few.columns)

@@ -1,0 +1,59 @@
+use Rattle.std.proofs.Common.{◌≡◌, ℕ, ◌+◌, ◌^◌, ◌<◌, ◌≤◌, length, ap, sym, subst, ◌∙◌, arith}
+use Rattle.std.proofs.Math.ListN.{length-map, length-set}
+use Rattle.std.proofs.lemmas.Nat.{pow_pos}
+use Rattle.query_block.specs.Blocks.{relation_tree}
+use Rattle.plan_space.specs.declared.entry.Entry.{Entry}
+use Rattle.plan_space.specs.Table.{AreLeast}
+use Rattle.plan_space.specs.Prices.{own_at, block_at}
+use Rattle.plan_space.proofs.Filled.{next-power, sets-below, add-least}
+use Rattle.plan_space.proofs.table.add_relation.Goals as goal
+
+pub entry_of-requires-clause-ready : goal.entry_of-requires-clause-ready
+entry_of-requires-clause-ready c =
+    let relation = c.args.relation in
+    let rest = c.loop-rest.rest in
+    let all = (block_at c.args.prices.now).relations in
+    let many = length-map c.args.prices.now.costing.block.relations relation_tree in
+    let alone = c.set_of_one-alone.ensures in
+    let less : rest < 2 ^ relation = omega (arith, alone, c.loop-rest-test.true) in
+    let below : 2 ^ relation + rest < 2 ^ length all = sets-below relation (length all) rest (omega (arith, c.requires.relation, many)) less in
+    let small : 2 ^ relation + rest < 2 ^ 6 = sets-below relation 6 rest (omega (arith, c.requires.relation, many, c.block-block.ensures.costing.block.few)) less in
+    record {
+      some = omega (arith, alone, pow_pos relation);
+      below = omega (arith, alone, below);
+      small = omega (arith, alone, small);
+      filled = c.loop-rest.invariant.0;
+    }
+
+pub bounds-table-set : goal.bounds-table-set
+bounds-table-set c =
+    let relation = c.args.relation in
+    let rest = c.loop-rest.rest in
+    let many = length-map c.args.prices.now.costing.block.relations relation_tree in
+    let alone = c.set_of_one-alone.ensures in
+    let less : rest < 2 ^ relation = omega (arith, alone, c.loop-rest-test.true) in
+    let small : 2 ^ relation + rest < 2 ^ 6 = sets-below relation 6 rest (omega (arith, c.requires.relation, many, c.block-block.ensures.costing.block.few)) less in
+    omega (arith, alone, small)
+
+pub loop-rest-preserved : goal.loop-rest-preserved
+loop-rest-preserved c =
+    let at = c.args.prices.now in
+    let relation = c.args.relation in
+    let rest = c.loop-rest.rest in
+    let set = c.set_of_one-alone.result + rest in
+    let many = length-map at.costing.block.relations relation_tree in
+    let alone = c.set_of_one-alone.ensures in
+    let less : rest < 2 ^ relation = omega (arith, alone, c.loop-rest-test.true) in
+    let small : 2 ^ relation + rest < 2 ^ 6 = sets-below relation 6 rest (omega (arith, c.requires.relation, many, c.block-block.ensures.costing.block.few)) less in
+    let more = add-least (own_at at) (block_at at) c.loop-rest.table set c.entry_of.result c.loop-rest.invariant.1 (omega (arith, alone, small)) c.loop-rest.invariant.0 c.entry_of.ensures in
+    let next : set + 1 ≡ c.set_of_one-alone.result + (rest + 1) = omega arith in (
+      subst (AreLeast (own_at at) (block_at at) _) next more,
+      length-set c.loop-rest.table set c.entry_of.result ∙ c.loop-rest.invariant.1,
+    )
+
+pub returns : goal.returns
+returns c =
+    let at = c.args.prices.now in
+    let whole : c.set_of_one-alone.result + c.loop-rest.rest ≡ 2 ^ (c.args.relation + 1) =
+    omega (arith, c.set_of_one-alone.ensures, next-power c.args.relation, c.loop-rest-test.false, c.loop-rest.auto.rest-end) in
+    subst (AreLeast (own_at at) (block_at at) c.loop-rest.table) whole c.loop-rest.invariant.0

@@ -1,0 +1,5 @@
+pub mod Roots
+pub mod Table
+pub mod Pricing
+pub mod Prices
+pub mod Steps

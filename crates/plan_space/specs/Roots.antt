@@ -1,0 +1,59 @@
+-- The outermost nodes of plans, by the sets of their sides.
+use Rattle.std.specs.Prelude.{◌≡◌, ℕ, ◌-◌, ◌^◌, ◌<◌, ◌≤◌, ◌&&◌, ◌||◌, Bool, IsTrue, List, [], ◌∷◌, bit_and, length}
+use Rattle.query_block.specs.declared.edge.Edge.{Edge}
+use Rattle.query_block.specs.Blocks.{BlockTree, relation_at}
+use Rattle.plan_tree.specs.Plans.{PlanTree, Scan, IndexScan, Nest, Hash, Merge, IndexLoop, covers_of}
+use Rattle.plan_tree.specs.Enumerated.{edge_at, column_on, IsIndexed, IsScannable}
+use Rattle.cost_model.specs.Cards.{set_of}
+use Rattle.plan_space.specs.declared.roots.Root.{Root}
+use Rattle.plan_space.specs.declared.roots.Root.TheVariants as root
+
+-- of a plan
+abbrev pub root_of : PlanTree → Root
+root_of (Scan relation) = root.Scan relation
+root_of (IndexScan relation column) = root.IndexScan relation column
+root_of (Nest left right) = root.Nest (covers_of left)
+root_of (Hash edge left right) = root.Hash edge (covers_of left)
+root_of (Merge edge left right) = root.Merge edge (covers_of left)
+root_of (IndexLoop edge left relation) = root.IndexLoop edge (covers_of left) relation
+
+-- what plan order compares of it
+abbrev pub root_numbers : Root → List ℕ
+root_numbers (root.Scan relation) = 0 ∷ 0 ∷ relation ∷ 0 ∷ 0 ∷ []
+root_numbers (root.IndexScan relation column) = 1 ∷ 0 ∷ relation ∷ column ∷ 0 ∷ []
+root_numbers (root.Nest left) = 2 ∷ 0 ∷ 0 ∷ 0 ∷ left ∷ []
+root_numbers (root.Hash edge left) = 3 ∷ edge ∷ 0 ∷ 0 ∷ left ∷ []
+root_numbers (root.Merge edge left) = 4 ∷ edge ∷ 0 ∷ 0 ∷ left ∷ []
+root_numbers (root.IndexLoop edge left relation) = 5 ∷ edge ∷ 0 ∷ 0 ∷ left ∷ []
+
+-- a set without its left side is a right side: neither is empty, and they share no relation
+pub record IsSplit (left set : ℕ) : Type 0 where
+  pub some : 1 ≤ left
+  pub less : left < set
+  pub apart : bit_and left (set - left) ≡ 0
+
+-- whether an edge has one of its relations on each side
+abbrev pub joins_sets : Edge → (left right : ℕ) → Bool
+joins_sets edge left right =
+    (set_of left edge.left && set_of right edge.right) || (set_of left edge.right && set_of right edge.left)
+
+-- the edge exists and crosses the two sides
+pub record IsCrossed (edges : List Edge) (edge left right : ℕ) : Type 0 where
+  pub exists : edge < length edges
+  pub crosses : IsTrue (joins_sets (edge_at edges edge) left right)
+
+-- the right side is one relation, with an index on its column of the edge
+pub record IsLookedUp (block : BlockTree) (edge right relation : ℕ) : Type 0 where
+  pub one : right ≡ 2 ^ relation
+  pub exists : relation < length block.relations
+  pub indexed : IsIndexed (relation_at block.relations relation) (column_on (edge_at block.edges edge) relation)
+
+-- the node may be the outermost one of a plan of the set
+abbrev pub Stands : BlockTree → Root → (set : ℕ) → Type 0
+Stands block (root.Scan relation) set = (relation < length block.relations) × (set ≡ 2 ^ relation)
+Stands block (root.IndexScan relation column) set = IsScannable block relation column × (set ≡ 2 ^ relation)
+Stands block (root.Nest left) set = IsSplit left set
+Stands block (root.Hash edge left) set = IsSplit left set × IsCrossed block.edges edge left (set - left)
+Stands block (root.Merge edge left) set = IsSplit left set × IsCrossed block.edges edge left (set - left)
+Stands block (root.IndexLoop edge left relation) set =
+    IsSplit left set × IsCrossed block.edges edge left (set - left) × IsLookedUp block edge (set - left) relation

@@ -1,0 +1,81 @@
+-- The table that is filled: for each set of relations the cheapest way to join it, by the entries of smaller sets. What a
+-- node costs by itself is a function of the node and the set.
+use Rattle.std.specs.Prelude.{◌≡◌, ℕ, ◌+◌, ◌-◌, ◌*◌, ◌^◌, ◌<◌, ◌≤◌, List, [], ◌∷◌, slice_index_or, false}
+use Rattle.std.specs.Ordering.{nat_cmp, is_gt}
+use Rattle.std.specs.Cmp.Lexicographic.{slice_cmp}
+use Rattle.query_block.specs.Blocks.{BlockTree}
+use Rattle.plan_tree.specs.Plans.{PlanTree, Scan, IndexScan, Nest, Hash, Merge, IndexLoop, covers_of}
+use Rattle.plan_space.specs.declared.roots.Root.{Root}
+use Rattle.plan_space.specs.declared.roots.Root.TheVariants as root
+use Rattle.plan_space.specs.declared.entry.Entry.{Entry}
+use Rattle.plan_space.specs.Roots.{root_of, root_numbers, Stands}
+
+abbrev pub OwnCost : Type 0
+OwnCost = Root → (set : ℕ) → ℕ
+
+-- the cost of a plan, by the own costs of its nodes
+abbrev pub sum_of : OwnCost → PlanTree → ℕ
+sum_of own (Scan relation) = own (root.Scan relation) (covers_of (Scan relation))
+sum_of own (IndexScan relation column) = own (root.IndexScan relation column) (covers_of (IndexScan relation column))
+sum_of own (Nest left right) = sum_of own left + sum_of own right + own (root.Nest (covers_of left)) (covers_of (Nest left right))
+sum_of own (Hash edge left right) =
+    sum_of own left + sum_of own right + own (root.Hash edge (covers_of left)) (covers_of (Hash edge left right))
+sum_of own (Merge edge left right) =
+    sum_of own left + sum_of own right + own (root.Merge edge (covers_of left)) (covers_of (Merge edge left right))
+sum_of own (IndexLoop edge left relation) =
+    sum_of own left + own (root.IndexLoop edge (covers_of left) relation) (covers_of (IndexLoop edge left relation))
+
+-- the entry of a set
+abbrev pub entry_at : List Entry → (set : ℕ) → Entry
+entry_at table set = slice_index_or table set (record { cost = 0; root = root.Scan 0 })
+
+-- what the plans of the sides of a node cost
+abbrev pub side_costs : List Entry → Root → (set : ℕ) → ℕ
+side_costs table (root.Scan relation) set = 0
+side_costs table (root.IndexScan relation column) set = 0
+side_costs table (root.Nest left) set = (entry_at table left).cost + (entry_at table (set - left)).cost
+side_costs table (root.Hash edge left) set = (entry_at table left).cost + (entry_at table (set - left)).cost
+side_costs table (root.Merge edge left) set = (entry_at table left).cost + (entry_at table (set - left)).cost
+side_costs table (root.IndexLoop edge left relation) set = (entry_at table left).cost
+
+-- a node over the entries of its sides, as an entry
+abbrev pub offered : OwnCost → List Entry → Root → (set : ℕ) → Entry
+offered own table node set = record { cost = side_costs table node set + own node set; root = node }
+
+-- what is compared of entries: the cost, and where it is equal what plan order compares of the outermost node
+abbrev pub rank : Entry → List ℕ
+rank entry = entry.cost ∷ root_numbers entry.root
+
+abbrev pub NotLater : Entry → Entry → Type 0
+NotLater entry other = is_gt (slice_cmp nat_cmp (rank entry) (rank other)) ≡ false
+
+-- the entry of a set is a node over the entries of its sides, and its cost is far from the end of 128 bits
+pub record IsOffered (own : OwnCost) (block : BlockTree) (table : List Entry) (set : ℕ) (entry : Entry) : Type 0 where
+  pub stands : Stands block entry.root set
+  pub cost : entry.cost ≡ side_costs table entry.root set + own entry.root set
+  pub bound : entry.cost + 2 ^ 108 ≤ 2 ^ 108 * (2 * set)
+
+-- no other node over the entries of its sides is before it
+pub record IsLeast (own : OwnCost) (block : BlockTree) (table : List Entry) (set : ℕ) (entry : Entry) : Type 0 where
+  pub kept : IsOffered own block table set entry
+  pub least : (node : Root) → Stands block node set → NotLater entry (offered own table node set)
+
+-- the entries of all sets that are numbers below the end
+abbrev pub AreLeast : OwnCost → BlockTree → List Entry → (end : ℕ) → Type 0
+AreLeast own block table end = (set : ℕ) → 1 ≤ set → set < end → IsLeast own block table set (entry_at table set)
+
+-- the plan has in each node the entry of the node's set
+abbrev pub Follows : List Entry → PlanTree → (set : ℕ) → Type 0
+Follows table (Scan relation) set = (entry_at table set).root ≡ root.Scan relation
+Follows table (IndexScan relation column) set = (entry_at table set).root ≡ root.IndexScan relation column
+Follows table (Nest left right) set =
+    ((entry_at table set).root ≡ root.Nest (covers_of left))
+    × Follows table left (covers_of left) × Follows table right (set - covers_of left)
+Follows table (Hash edge left right) set =
+    ((entry_at table set).root ≡ root.Hash edge (covers_of left))
+    × Follows table left (covers_of left) × Follows table right (set - covers_of left)
+Follows table (Merge edge left right) set =
+    ((entry_at table set).root ≡ root.Merge edge (covers_of left))
+    × Follows table left (covers_of left) × Follows table right (set - covers_of left)
+Follows table (IndexLoop edge left relation) set =
+    ((entry_at table set).root ≡ root.IndexLoop edge (covers_of left) relation) × Follows table left (covers_of left)

@@ -1,0 +1,65 @@
+// What is kept of the best plan of a set of relations, and which of two such plans is kept.
+ghost use Rattle.std.specs.Prelude.{◌≡◌, ◌⊎◌};
+ghost use Rattle.std.specs.Ordering.{nat_cmp};
+ghost use Rattle.std.specs.Cmp.Lexicographic.{slice_cmp};
+ghost use Rattle.plan_space.specs.Roots.{root_numbers};
+ghost use Rattle.plan_space.specs.Table.{NotLater};
+
+use crate::roots::Root;
+use std::cmp::Ordering;
+
+/// The cost of a plan and its outermost node. The plans of the sides stand in the entries of their sets.
+#[derive(Clone, Copy, Debug, PartialEq, Eq)]
+pub(crate) struct Entry {
+    pub(crate) cost: u128,
+    pub(crate) root: Root,
+}
+
+// What plan order compares of an outermost node.
+fn root_numbers(root: Root) -> [u8; 5]
+    ensures { result ≡ root_numbers root }
+{
+    match root {
+        Root::Scan(relation) => [0, 0, relation, 0, 0],
+        Root::IndexScan(relation, column) => [1, 0, relation, column, 0],
+        Root::Nest(left) => [2, 0, 0, 0, left],
+        Root::Hash(edge, left) => [3, edge, 0, 0, left],
+        Root::Merge(edge, left) => [4, edge, 0, 0, left],
+        Root::IndexLoop(edge, left, _) => [5, edge, 0, 0, left],
+    }
+}
+
+// The order of two outermost nodes.
+fn root_order(root: Root, other: Root) -> Ordering
+    ensures { result ≡ slice_cmp nat_cmp (root_numbers root) (root_numbers other) }
+{
+    root_numbers(root).cmp(&root_numbers(other))
+}
+
+// Of two plans of equal cost, whose outermost nodes these are, the second where it is first in plan order.
+fn keep_first(found: Entry, root: Root) -> Entry
+    ensures either { (result ≡ found) ⊎ (result ≡ record { cost = found.cost; root = root }) }
+    ensures found { NotLater result found }
+    ensures offered { NotLater result (record { cost = found.cost; root = root }) }
+{
+    match root_order(found.root, root) {
+        Ordering::Greater => Entry {
+            cost: found.cost,
+            root,
+        },
+        _ => found,
+    }
+}
+
+/// Of the plan that was found and the plan that is offered, the cheaper one; of equally cheap ones the first in plan order.
+pub(crate) fn keep(found: Entry, cost: u128, root: Root) -> Entry
+    ensures either { (result ≡ found) ⊎ (result ≡ record { cost = cost; root = root }) }
+    ensures found { NotLater result found }
+    ensures offered { NotLater result (record { cost = cost; root = root }) }
+{
+    match found.cost.cmp(&cost) {
+        Ordering::Less => found,
+        Ordering::Equal => keep_first(found, root),
+        Ordering::Greater => Entry { cost, root },
+    }
+}

@@ -1,0 +1,215 @@
+// The joins that may be the outermost node of a plan of a set: each split of the set into two sides, and for each split a
+// nested loop and the joins by each edge that crosses it.
+ghost use Rattle.std.specs.Prelude.{◌≡◌, ◌↔◌, ◌⊎◌, ◌-◌, ◌^◌, ◌<◌, ◌≤◌, IsTrue, bit_and, length};
+ghost use Rattle.query_block.specs.Blocks.{block_tree, relation_at};
+ghost use Rattle.plan_tree.specs.Enumerated.{column_on, edge_at, IsIndexed};
+ghost use Rattle.plan_space.specs.declared.roots.Root.TheVariants.{Nest, Hash, Merge};
+ghost use Rattle.plan_space.specs.Roots.{joins_sets, IsCrossed, IsSplit};
+ghost use Rattle.plan_space.specs.Table.{IsOffered};
+ghost use Rattle.plan_space.specs.Prices.{own_at, block_at};
+ghost use Rattle.plan_space.specs.Steps.{Considers, IsReady, IsByEdge, IsBeforeEdge, IsByLeft, IsBeforeLeft, IsLookUpBy};
+
+use crate::costs;
+use crate::entry::Entry;
+use crate::prices::Prices;
+use crate::roots::Root;
+use crate::sets::has;
+use crate::steps::{both_sides, consider, left_side};
+use query_block::{Block, Edge};
+
+// Whether an edge has one of its relations on each side.
+fn crosses(edge: &Edge, left: u8, right: u8) -> bool
+    requires left { edge.now.left < 8 }
+    requires right { edge.now.right < 8 }
+    ensures { result ≡ joins_sets edge.now left right }
+{
+    has(left, edge.left) && has(right, edge.right) || has(left, edge.right) && has(right, edge.left)
+}
+
+// Whether an edge of the block crosses two sides.
+fn is_crossed(block: &Block, edge: u8, left: u8, right: u8) -> bool
+    requires { edge < length block.now.edges }
+    ensures { IsTrue result ↔ IsCrossed block.now.edges edge left right }
+{
+    crosses(&block.edges()[edge as usize], left, right)
+}
+
+// The column of one of its relations that an edge of the block compares.
+fn column_on(block: &Block, edge: u8, relation: u8) -> u8
+    requires { edge < length block.now.edges }
+    ensures { result ≡ column_on (edge_at block.now.edges edge) relation }
+{
+    let edge = block.edges()[edge as usize];
+    if relation == edge.left {
+        edge.left_column
+    } else {
+        edge.right_column
+    }
+}
+
+// Whether a column of a relation is indexed.
+fn is_indexed(block: &Block, relation: u8, column: u8) -> bool
+    requires { relation < length block.now.relations }
+    ensures { IsTrue result
+        ↔ IsIndexed (relation_at (block_tree block.now).relations relation) column }
+{
+    let indexes = block.relations()[relation as usize].indexes.as_slice();
+    indexes.contains(&column)
+}
+
+// A nested loop of the two sides of a set.
+fn by_nest(prices: &Prices<'_>, table: &[Entry; 64], set: u8, left: u8, start: Entry) -> Entry
+    requires ready { IsReady prices.now table.now set }
+    requires split { IsSplit left set }
+    requires start { IsOffered (own_at prices.now) (block_at prices.now) table.now set start }
+    ensures { Considers prices.now table.now set (λ node. node ≡ Nest left) start result }
+{
+    let cost = both_sides(prices, table, set, left) + costs::nest(prices, left, set);
+    consider(prices, table, set, start, cost, Root::Nest(left))
+}
+
+// A hash join and a merge join of the two sides of a set by an edge.
+fn by_pairs(
+    prices: &Prices<'_>,
+    table: &[Entry; 64],
+    set: u8,
+    left: u8,
+    edge: u8,
+    start: Entry,
+) -> Entry
+    requires ready { IsReady prices.now table.now set }
+    requires split { IsSplit left set }
+    requires crossed { IsCrossed (block_at prices.now).edges edge left (set - left) }
+    requires start { IsOffered (own_at prices.now) (block_at prices.now) table.now set start }
+    ensures { Considers prices.now table.now set
+        (λ node. (node ≡ Hash edge left) ⊎ (node ≡ Merge edge left)) start result }
+{
+    let sides = both_sides(prices, table, set, left);
+    let candidates = costs::candidates(prices, edge, left, set);
+    let cost = sides + costs::hash(prices, edge, left, set, candidates);
+    let found = consider(prices, table, set, start, cost, Root::Hash(edge, left));
+    let cost = sides + costs::merge(prices, edge, left, set, candidates);
+    consider(prices, table, set, found, cost, Root::Merge(edge, left))
+}
+
+// The index loop by an edge whose right side is this one relation.
+fn by_relation(
+    prices: &Prices<'_>,
+    table: &[Entry; 64],
+    set: u8,
+    left: u8,
+    edge: u8,
+    relation: u8,
+    start: Entry,
+) -> Entry
+    requires ready { IsReady prices.now table.now set }
+    requires split { IsSplit left set }
+    requires crossed { IsCrossed (block_at prices.now).edges edge left (set - left) }
+    requires relation { set - left ≡ 2 ^ relation }
+    requires start { IsOffered (own_at prices.now) (block_at prices.now) table.now set start }
+    ensures { Considers prices.now table.now set (IsLookUpBy edge left) start result }
+{
+    let block = prices.block();
+    let column = column_on(block, edge, relation);
+    if !is_indexed(block, relation, column) {
+        return start;
+    }
+    let side = left_side(prices, table, set, left);
+    let cost = side + costs::index_loop(prices, edge, left, relation, column, set);
+    consider(
+        prices,
+        table,
+        set,
+        start,
+        cost,
+        Root::IndexLoop(edge, left, relation),
+    )
+}
+
+// The index loop by an edge, where the right side of a set is one relation.
+fn by_look_up(
+    prices: &Prices<'_>,
+    table: &[Entry; 64],
+    set: u8,
+    left: u8,
+    edge: u8,
+    start: Entry,
+) -> Entry
+    requires ready { IsReady prices.now table.now set }
+    requires split { IsSplit left set }
+    requires crossed { IsCrossed (block_at prices.now).edges edge left (set - left) }
+    requires start { IsOffered (own_at prices.now) (block_at prices.now) table.now set start }
+    ensures { Considers prices.now table.now set (IsLookUpBy edge left) start result }
+{
+    let right = set - left;
+    let relation = right.trailing_zeros() as u8;
+    if right != 1 << relation {
+        return start;
+    }
+    by_relation(prices, table, set, left, edge, relation, start)
+}
+
+// The joins of the two sides of a set by an edge.
+fn by_edge(
+    prices: &Prices<'_>,
+    table: &[Entry; 64],
+    set: u8,
+    left: u8,
+    edge: u8,
+    start: Entry,
+) -> Entry
+    requires ready { IsReady prices.now table.now set }
+    requires split { IsSplit left set }
+    requires edge { edge < length prices.now.costing.block.edges }
+    requires start { IsOffered (own_at prices.now) (block_at prices.now) table.now set start }
+    ensures { Considers prices.now table.now set (IsByEdge edge left) start result }
+{
+    if !is_crossed(prices.block(), edge, left, set - left) {
+        return start;
+    }
+    let found = by_pairs(prices, table, set, left, edge, start);
+    by_look_up(prices, table, set, left, edge, found)
+}
+
+// The joins of the two sides of a set by all edges.
+fn by_edges(prices: &Prices<'_>, table: &[Entry; 64], set: u8, left: u8, start: Entry) -> Entry
+    requires ready { IsReady prices.now table.now set }
+    requires split { IsSplit left set }
+    requires start { IsOffered (own_at prices.now) (block_at prices.now) table.now set start }
+    ensures { Considers prices.now table.now set
+        (IsBeforeEdge (length prices.now.costing.block.edges) left) start result }
+{
+    let mut found = start;
+    for edge in 0..prices.block().edges().len() {
+        found = by_edge(prices, table, set, left, edge as u8, found);
+    }
+    found
+}
+
+// All joins of a set with this left side, where it is one.
+fn by_left(prices: &Prices<'_>, table: &[Entry; 64], set: u8, left: u8, start: Entry) -> Entry
+    requires ready { IsReady prices.now table.now set }
+    requires some { 1 ≤ left }
+    requires less { left < set }
+    requires start { IsOffered (own_at prices.now) (block_at prices.now) table.now set start }
+    ensures { Considers prices.now table.now set (IsByLeft left) start result }
+{
+    if left & (set - left) != 0 {
+        return start;
+    }
+    let found = by_nest(prices, table, set, left, start);
+    by_edges(prices, table, set, left, found)
+}
+
+/// All joins of a set.
+pub(crate) fn joins(prices: &Prices<'_>, table: &[Entry; 64], set: u8, start: Entry) -> Entry
+    requires ready { IsReady prices.now table.now set }
+    requires start { IsOffered (own_at prices.now) (block_at prices.now) table.now set start }
+    ensures { Considers prices.now table.now set (IsBeforeLeft set) start result }
+{
+    let mut found = start;
+    for left in 1..set {
+        found = by_left(prices, table, set, left, found);
+    }
+    found
+}

@@ -1,0 +1,107 @@
+// The best plan of a block at a point.
+ghost use Rattle.std.specs.Prelude.{◌≡◌, ◌^◌, ◌<◌, ◌≤◌, IfOk, length};
+ghost use Rattle.ess_grid.specs.Points.{IsPoint};
+ghost use Rattle.plan_tree.specs.Plans.{plan_tree, covers_of};
+ghost use Rattle.plan_tree.specs.Order.{plan_order_of};
+ghost use Rattle.cost_model.specs.Costing.{costing_tree};
+ghost use Rattle.cost_model.specs.Best.{IsBest};
+ghost use Rattle.cost_model.specs.Optimal.{optimal_cost};
+ghost use Rattle.plan_space.specs.Table.{Follows, AreLeast};
+ghost use Rattle.plan_space.specs.Prices.{own_at, block_at};
+
+use crate::entry::Entry;
+use crate::prices::Prices;
+use crate::roots::Root;
+use crate::sets::set_of_all;
+use crate::table::filled;
+use cost_model::Costing;
+use ess_grid::Point;
+use plan_tree::Plan;
+use std::alloc::{AllocError, Global};
+
+// The plan of a set that the entries tell, in a box.
+#[cycle(rebuilt)]
+fn boxed(
+    alloc: Global,
+    prices: &Prices<'_>,
+    table: &[Entry; 64],
+    set: u8,
+) -> Result<Box<Plan>, AllocError>
+    requires filled { AreLeast (own_at prices.now) (block_at prices.now) table.now
+        (2 ^ length (block_at prices.now).relations) }
+    requires some { 1 ≤ set }
+    requires below { set < 2 ^ length (block_at prices.now).relations }
+    requires small { set < 64 }
+    ensures follows { IfOk result (λ p. Follows table.now (plan_tree p.value) set) }
+    ensures covers { IfOk result (λ p. covers_of (plan_tree p.value) ≡ set) }
+{
+    let p = rebuilt(alloc, prices, table, set)?;
+    Ok(Box::new(alloc, p)?)
+}
+
+// The plan of a set that the entries tell.
+#[cycle(rebuilt)]
+fn rebuilt(
+    alloc: Global,
+    prices: &Prices<'_>,
+    table: &[Entry; 64],
+    set: u8,
+) -> Result<Plan, AllocError>
+    requires filled { AreLeast (own_at prices.now) (block_at prices.now) table.now
+        (2 ^ length (block_at prices.now).relations) }
+    requires some { 1 ≤ set }
+    requires below { set < 2 ^ length (block_at prices.now).relations }
+    requires small { set < 64 }
+    ensures follows { IfOk result (λ p. Follows table.now (plan_tree p) set) }
+    ensures covers { IfOk result (λ p. covers_of (plan_tree p) ≡ set) }
+{
+    match table[set as usize].root {
+        Root::Scan(relation) => Ok(Plan::Scan(relation)),
+        Root::IndexScan(relation, column) => Ok(Plan::IndexScan(relation, column)),
+        Root::Nest(left) => {
+            let right = set - left;
+            let left = boxed(alloc, prices, table, left)?;
+            Ok(Plan::Nest(left, boxed(alloc, prices, table, right)?))
+        }
+        Root::Hash(edge, left) => {
+            let right = set - left;
+            let left = boxed(alloc, prices, table, left)?;
+            Ok(Plan::Hash(edge, left, boxed(alloc, prices, table, right)?))
+        }
+        Root::Merge(edge, left) => {
+            let right = set - left;
+            let left = boxed(alloc, prices, table, left)?;
+            Ok(Plan::Merge(edge, left, boxed(alloc, prices, table, right)?))
+        }
+        Root::IndexLoop(edge, left, relation) => {
+            let left = boxed(alloc, prices, table, left)?;
+            Ok(Plan::IndexLoop(edge, left, relation))
+        }
+    }
+}
+
+// The best plan at the prices of a point, and what it costs there.
+fn best_at(alloc: Global, prices: &Prices<'_>) -> Result<(Plan, u128), AllocError>
+    ensures best { IfOk result (λ found. IsBest plan_order_of
+        (costing_tree prices.now.costing) prices.now.point (plan_tree found.0)) }
+    ensures cost { IfOk result (λ found.
+        found.1 ≡ optimal_cost (costing_tree prices.now.costing) prices.now.point) }
+{
+    let _block = prices.block();
+    let table = filled(prices);
+    let all = set_of_all(prices);
+    let p = rebuilt(alloc, prices, &table, all)?;
+    Ok((p, table[all as usize].cost))
+}
+
+/// The best plan of the block at a point of the costing's grid, and what it costs there: of all plans of the block the
+/// cheapest, and of equally cheap ones the first in plan order. An error is want of memory.
+pub fn best(alloc: Global, costing: &Costing<'_>, q: &Point) -> Result<(Plan, u128), AllocError>
+    requires { IsPoint costing.now.grid q.now }
+    ensures best { IfOk result (λ found.
+        IsBest plan_order_of (costing_tree costing.now) q.now (plan_tree found.0)) }
+    ensures cost { IfOk result (λ found.
+        found.1 ≡ optimal_cost (costing_tree costing.now) q.now) }
+{
+    best_at(alloc, &Prices::new(costing, q))
+}

@@ -1,0 +1,32 @@
+// Sets of relations as numbers: bit r for relation r.
+ghost use Rattle.std.specs.Prelude.{◌≡◌, ◌-◌, ◌^◌, ◌<◌, ◌≤◌, length};
+ghost use Rattle.cost_model.specs.Cards.{set_of};
+ghost use Rattle.plan_space.specs.Prices.{block_at};
+
+use crate::prices::Prices;
+
+/// The set of one relation.
+pub(crate) fn set_of_one(relation: u8) -> u8
+    requires { relation < 8 }
+    ensures { result ≡ 2 ^ relation }
+{
+    1 << relation
+}
+
+/// The set of all relations of the block.
+pub(crate) fn set_of_all(prices: &Prices<'_>) -> u8
+    ensures all { result ≡ 2 ^ length (block_at prices.now).relations - 1 }
+    ensures some { 1 ≤ result }
+    ensures small { result < 64 }
+{
+    let count = prices.block().relations().len();
+    set_of_one(count as u8) - 1
+}
+
+/// Whether a relation is in a set.
+pub(crate) fn has(set: u8, relation: u8) -> bool
+    requires { relation < 8 }
+    ensures { result ≡ set_of set relation }
+{
+    set & (1 << relation) != 0
+}

@@ -1,0 +1,75 @@
+// The table of the best plans of all sets of relations. Sets are numbers, and each one's sides are smaller numbers, so the
+// table is filled upwards.
+ghost use Rattle.std.specs.Prelude.{◌≡◌, ◌+◌, ◌^◌, ◌<◌, ◌≤◌, length};
+ghost use Rattle.plan_space.specs.Roots.{IsSplit};
+ghost use Rattle.plan_space.specs.Table.{IsOffered, IsLeast, AreLeast};
+ghost use Rattle.plan_space.specs.Prices.{own_at, block_at};
+ghost use Rattle.plan_space.specs.Steps.{IsReady};
+
+use crate::costs;
+use crate::entry::Entry;
+use crate::joins::joins;
+use crate::leaves::readings;
+use crate::prices::Prices;
+use crate::roots::Root;
+use crate::sets::set_of_one;
+use crate::steps::both_sides;
+
+// A nested loop over one split of a set: something to begin with.
+fn first_split(prices: &Prices<'_>, table: &[Entry; 64], set: u8, left: u8) -> Entry
+    requires ready { IsReady prices.now table.now set }
+    requires split { IsSplit left set }
+    ensures { IsOffered (own_at prices.now) (block_at prices.now) table.now set result }
+{
+    Entry {
+        cost: both_sides(prices, table, set, left) + costs::nest(prices, left, set),
+        root: Root::Nest(left),
+    }
+}
+
+// The entry of a set whose highest relation this is, by those of smaller sets.
+fn entry_of(prices: &Prices<'_>, table: &[Entry; 64], set: u8, relation: u8) -> Entry
+    requires ready { IsReady prices.now table.now set }
+    requires relation { relation < length prices.now.costing.block.relations }
+    requires least { 2 ^ relation ≤ set }
+    requires highest { set < 2 ^ (relation + 1) }
+    ensures { IsLeast (own_at prices.now) (block_at prices.now) table.now set result }
+{
+    let _block = prices.block();
+    let alone = set_of_one(relation);
+    let start = if set == alone {
+        readings(prices, table, set, relation)
+    } else {
+        first_split(prices, table, set, alone)
+    };
+    joins(prices, table, set, start)
+}
+
+// The entries of the sets whose highest relation this is.
+fn add_relation(prices: &Prices<'_>, table: &mut [Entry; 64], relation: u8)
+    requires relation { relation < length prices.now.costing.block.relations }
+    requires filled { AreLeast (own_at prices.now) (block_at prices.now) table.old (2 ^ relation) }
+    ensures { AreLeast (own_at prices.now) (block_at prices.now) table.new (2 ^ (relation + 1)) }
+{
+    let _block = prices.block();
+    let alone = set_of_one(relation);
+    for rest in 0..alone {
+        let set = alone + rest;
+        table[set as usize] = entry_of(prices, table, set, relation);
+    }
+}
+
+/// The entries of all sets of the block's relations.
+pub(crate) fn filled(prices: &Prices<'_>) -> [Entry; 64]
+    ensures { AreLeast (own_at prices.now) (block_at prices.now) result
+        (2 ^ length (block_at prices.now).relations) }
+{
+    let mut table = [Entry {
+        cost: 0,
+        root: Root::Scan(0),
+    }; 64];
+    for relation in 0..prices.block().relations().len() {
+        add_relation(prices, &mut table, relation as u8);
+    }
+    table
+}
