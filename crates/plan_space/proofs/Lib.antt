@@ -5,3 +5,4 @@ pub mod Filled
 pub mod Pairs
 pub mod Considered
 pub mod Sums
+mod Tested

@@ -18,3 +18,6 @@ mod steps;
 mod table;
 
 pub use search::best;
+
+#[cfg(test)]
+mod tests;
