@@ -113,8 +113,8 @@ impl<'c> Costing<'c> {
         product
     }
 
-    /// What a plan of some of the block's relations costs at a point of the grid. It takes no memory, and as much of the
-    /// machine's stack as the plan is deep.
+    /// What a plan of some of the block's relations costs at a point of the grid. It takes no memory, and as much of
+    /// the machine's stack as the plan is deep.
     pub fn cost(&self, p: &Plan, q: &Point) -> u128
         requires plan { IsSubPlan (block_tree self.now.block) (plan_tree p.now) }
         requires point { IsPoint self.now.grid q.now }

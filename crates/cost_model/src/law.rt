@@ -41,20 +41,21 @@ pub fn cards_see_the_set_alone()
 /// The law of bounds: neither a card, nor the pairs of rows of two sets without a common relation, pass the limit of
 /// combinations, and every cost is below 2^113.
 pub fn costs_are_bounded()
-    ensures card { (costing : CostingTree) (set : RelationSet) (point : List ℕ) → IsCosting costing →
-        card_of costing set point ≤ max_product }
-    ensures pairs { (costing : CostingTree) (set other : RelationSet) (point : List ℕ) → IsCosting costing →
-        ((relation : ℕ) → IsFalse (set relation && other relation)) →
+    ensures card { (costing : CostingTree) (set : RelationSet) (point : List ℕ) →
+        IsCosting costing → card_of costing set point ≤ max_product }
+    ensures pairs { (costing : CostingTree) (set other : RelationSet) (point : List ℕ) →
+        IsCosting costing → ((relation : ℕ) → IsFalse (set relation && other relation)) →
         card_of costing set point * card_of costing other point ≤ max_product }
-    ensures cost { (costing : CostingTree) (p : PlanTree) (point : List ℕ) → IsCosting costing →
-        IsSubPlan costing.block p → cost_of costing p point < 2 ^ 113 }
+    ensures cost { (costing : CostingTree) (p : PlanTree) (point : List ℕ) →
+        IsCosting costing → IsSubPlan costing.block p → cost_of costing p point < 2 ^ 113 }
 {}
 
 /// The law of the optimal cost: it is the least cost of all plans of the block, and that of a cheapest one.
 pub fn optimal_costs_are_least()
-    ensures plans { (block : BlockTree) (p : PlanTree) → Contains (plans_of block) p ↔ IsPlan block p }
-    ensures least { (costing : CostingTree) (p : PlanTree) (point : List ℕ) → IsPlan costing.block p →
-        optimal_cost costing point ≤ cost_of costing p point }
+    ensures plans { (block : BlockTree) (p : PlanTree) →
+        Contains (plans_of block) p ↔ IsPlan block p }
+    ensures least { (costing : CostingTree) (p : PlanTree) (point : List ℕ) →
+        IsPlan costing.block p → optimal_cost costing point ≤ cost_of costing p point }
     ensures cheapest { (costing : CostingTree) (p : PlanTree) (point : List ℕ) →
         IsCheapest costing point p → cost_of costing p point ≡ optimal_cost costing point }
 {}

@@ -1,6 +1,6 @@
-//! What plans cost: the exact counts of a block's tables, how many rows each set of relations is taken to give at a point of
-//! the grid (its card), and the cost of each plan there. The definitions of the exact counts, of a best plan and of the
-//! optimal cost stand here too.
+//! What plans cost: the exact counts of a block's tables, how many rows each set of relations is taken to give at a
+//! point of the grid (its card), and the cost of each plan there. The definitions of the exact counts, of a best plan
+//! and of the optimal cost stand here too.
 //! To the layers above it promises that `card` and `cost` are exactly those of the definitions, rounded up and without
 //! loss of a bit, and that they grow with selectivity.
 //! It never reads a table, never looks for a plan, and never takes memory.

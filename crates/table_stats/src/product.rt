@@ -15,7 +15,8 @@ pub(crate) fn product_past(db: &Database, block: &Block) -> Option<u128>
     requires { Fits db.now (block_tree block.now) }
     ensures past { result
         ≡ first_past 1 (row_counts db.now.tables (block_tree block.now).relations) }
-    ensures few { result ≡ None → All (λ relation. length (table_rows db.now.tables relation) ≤ max_rows)
+    ensures few { result ≡ None →
+        All (λ relation. length (table_rows db.now.tables relation) ≤ max_rows)
         (block_tree block.now).relations }
     ensures block { IsBlock (block_tree block.now) }
 {

@@ -40,12 +40,13 @@ fn check_relation(
     check(number, CountName::Indexes, columns, indexed)
 }
 
-/// Whether counts are still those of a block's tables: for each relation in FROM order the rows of its table are so many,
-/// then so many of the table's columns are indexed. The first count that differs is told. It takes no memory.
+/// Whether counts are still those of a block's tables: for each relation in FROM order the rows of its table are so
+/// many, then so many of the table's columns are indexed. The first count that differs is told. It takes no memory.
 pub fn fresh(db: &Database, block: &Block, stats: &Stats) -> Result<(), Stale>
     requires fits { Fits db.now (block_tree block.now) }
     requires stats { FitsBlock (block_tree block.now) stats.now }
-    ensures { IsFirst (first_stale db.now 0 (block_tree block.now).relations stats.now.relations) result }
+    ensures { IsFirst
+        (first_stale db.now 0 (block_tree block.now).relations stats.now.relations) result }
 {
     let kept = stats.relations.as_slice();
     for (number, relation) in block.relations().iter().enumerate() {

@@ -50,7 +50,8 @@ fn keeps(relation: &Relation, row: &[i64], texts: &Texts) -> bool
 fn count_rows(db: &Database, relation: &Relation, tallies: &mut [Tally]) -> u64
     requires relation { IsRelation (relation_tree relation.now) }
     requires fits { FitsTable db.now (relation_tree relation.now) }
-    requires tallies { tallies.old ≡ map (tally_of (relation_tree relation.now) []) relation.now.indexes }
+    requires tallies { tallies.old
+        ≡ map (tally_of (relation_tree relation.now) []) relation.now.indexes }
     ensures kept { result ≡ count_by (meets_filter (relation_tree relation.now).filter)
         (table_rows db.now.tables (relation_tree relation.now)) }
     ensures tallies { tallies.new ≡ map (tally_of (relation_tree relation.now)
@@ -103,10 +104,10 @@ fn all_stats(alloc: Global, db: &Database, block: &Block) -> Result<Vec<Relation
     Ok(stats)
 }
 
-/// The exact counts of a block's tables: of each relation the rows, the pages and the rows that its filter keeps, and of
-/// each indexed column the height of its index and the rows in which it meets the usable conjuncts. Each table is read
-/// once, and nothing is paid. There are none where the product of the tables' counts of rows, each at least 1, passes
-/// 2^100 on the way from left to right.
+/// The exact counts of a block's tables: of each relation the rows, the pages and the rows that its filter keeps, and
+/// of each indexed column the height of its index and the rows in which it meets the usable conjuncts. Each table is
+/// read once, and nothing is paid. There are none where the product of the tables' counts of rows, each at least 1,
+/// passes 2^100 on the way from left to right.
 pub fn stats_of(alloc: Global, db: &Database, block: &Block) -> Result<Stats, StatsFault>
     requires { Fits db.now (block_tree block.now) }
     ensures counts { IfOk result (λ stats. stats ≡ stats_of db.now.tables (block_tree block.now)) }
