@@ -1,22 +1,21 @@
 -- How the steps of the search for an entry follow one another.
-use Rattle.std.proofs.Common.{◌≡◌, ◌⊎◌, inl, inr, Bool, true, false, nat_lt, nat_eq, ◌||◌, [], ◌∷◌, ◌++◌, ℕ, ◌+◌, ◌-◌, ◌*◌, ◌^◌, ◌<◌, ◌≤◌, List, length, refl, sym, ap, ap₂, subst, ◌∙◌, arith}
+use Rattle.std.proofs.Common.{◌≡◌, ◌⊎◌, inl, inr, Bool, true, false, nat_lt, nat_eq, ◌||◌, [], ◌∷◌, ◌++◌, ℕ, ◌+◌, ◌-◌, ◌^◌, ◌<◌, List, length, refl, sym, ap, ap₂, subst, ◌∙◌, arith}
 use Rattle.std.specs.List.{list_any}
 use Rattle.std.proofs.lemmas.List.Folds.{list_any-append}
 use Rattle.query_block.specs.Blocks.{relation_at}
 use Rattle.plan_tree.specs.Enumerated.{IsIndexed}
 use Rattle.std.specs.Cmp.{upto, tied_itself}
-use Rattle.std.specs.Ordering.{nat_cmp, is_gt}
+use Rattle.std.specs.Ordering.{is_gt}
 use Rattle.std.proofs.lemmas.Cmp.{nat_list_cmp_total}
-use Rattle.std.specs.declared.cmp.Ordering.TheVariants.{Equal}
 use Rattle.plan_space.specs.declared.roots.Root.{Root}
 use Rattle.plan_space.specs.declared.roots.Root.TheVariants as root
 use Rattle.plan_space.specs.declared.entry.Entry.{Entry}
-use Rattle.plan_space.specs.Roots.{Stands, IsSplit}
-use Rattle.plan_space.specs.Table.{entry_at, side_costs, offered, rank, NotLater, IsOffered, IsLeast, AreLeast}
+use Rattle.plan_space.specs.Roots.{Stands}
+use Rattle.plan_space.specs.Table.{offered, rank, NotLater, IsOffered}
 use Rattle.plan_space.specs.Pricing.{Pricing}
 use Rattle.plan_space.specs.Prices.{own_at, block_at}
 use Rattle.plan_space.proofs.Bits.{same-relation}
-use Rattle.plan_space.specs.Steps.{Group, Considers, IsReady, IsByEdge, IsBeforeEdge, IsByLeft, IsBeforeLeft, IsLookUpBy, IsScanBy, IsReading}
+use Rattle.plan_space.specs.Steps.{Group, Considers, IsByEdge, IsBeforeEdge, IsByLeft, IsBeforeLeft, IsLookUpBy, IsScanBy, IsReading}
 
 pub not-later-then : (a b c : Entry) → NotLater a b → NotLater b c → NotLater a c
 not-later-then a b c = upto nat_list_cmp_total (rank a) (rank b) (rank c)

@@ -1,24 +1,24 @@
 -- Where the entries of all sets are least, the plan that follows them is a best plan. Nothing is exchanged inside a plan:
 -- by induction on any other plan, the entry of its set costs no more, and at equal cost the plan that follows is not later.
-use Rattle.std.proofs.Common.{◌≡◌, ◌≢◌, ℕ, ◌+◌, ◌-◌, ◌^◌, ◌<◌, ◌≤◌, Bool, true, false, IsTrue, List, [], ◌∷◌, length, bit_and, bit_or, refl, sym, ap, ap₂, subst, ◌∙◌, arith}
-use Rattle.std.specs.Ordering.{nat_cmp, ordering_then, is_gt, MatchOrdering}
+use Rattle.std.proofs.Common.{◌≡◌, ℕ, ◌+◌, ◌-◌, ◌^◌, ◌<◌, ◌≤◌, false, List, length, bit_and, bit_or, refl, sym, ap, ap₂, subst, ◌∙◌, arith}
+use Rattle.std.specs.Ordering.{nat_cmp, ordering_then, is_gt}
 use Rattle.std.specs.Cmp.Lexicographic.{slice_cmp}
 use Rattle.std.proofs.lemmas.Cmp.{ranked}
 use Rattle.std.proofs.lemmas.Nat.{or_lt}
 use Rattle.std.specs.declared.cmp.Ordering.{Ordering}
 use Rattle.std.specs.declared.cmp.Ordering.TheVariants.{Less, Equal, Greater}
 use Rattle.query_block.specs.Blocks.{BlockTree}
-use Rattle.plan_tree.specs.Plans.{PlanTree, Scan, IndexScan, Nest, Hash, Merge, IndexLoop, has_leaf, covers_of}
-use Rattle.plan_tree.specs.Enumerated.{edge_at, crosses, AreApart, Crosses, IsSubPlan, IsPlan, IsScannable, IsLookUp}
+use Rattle.plan_tree.specs.Plans.{PlanTree, Scan, IndexScan, Nest, Hash, Merge, IndexLoop, covers_of}
+use Rattle.plan_tree.specs.Enumerated.{edge_at, crosses, AreApart, Crosses, IsSubPlan, IsPlan}
 use Rattle.plan_tree.specs.Order.{node_numbers, plan_order_of}
 use Rattle.plan_tree.specs.Sides.{side_order}
 use Rattle.plan_tree.proofs.PlanOrder.{by-nodes}
 use Rattle.plan_space.specs.declared.roots.Root.{Root}
 use Rattle.plan_space.specs.declared.roots.Root.TheVariants as root
 use Rattle.plan_space.specs.declared.entry.Entry.{Entry}
-use Rattle.plan_space.specs.Roots.{root_of, root_numbers, IsSplit, joins_sets, IsCrossed, IsLookedUp, Stands}
-use Rattle.plan_space.specs.Table.{OwnCost, sum_of, entry_at, side_costs, offered, rank, NotLater, IsOffered, IsLeast, AreLeast, Follows}
-use Rattle.plan_space.proofs.Bits.{leaf-is-bit, crosses-sets, covers-some, apart-sets, sets-apart, apart-relation, relation-apart, sum-of-sides, split-of, whole-of, same-relation, power-below, covers-all, all-covered}
+use Rattle.plan_space.specs.Roots.{root_of, root_numbers, IsSplit, joins_sets, IsCrossed, Stands}
+use Rattle.plan_space.specs.Table.{OwnCost, sum_of, entry_at, side_costs, offered, NotLater, IsLeast, AreLeast, Follows}
+use Rattle.plan_space.proofs.Bits.{crosses-sets, covers-some, apart-sets, sets-apart, apart-relation, relation-apart, sum-of-sides, split-of, whole-of, same-relation, power-below, covers-all, all-covered}
 
 -- ---- a plan's outermost node
 

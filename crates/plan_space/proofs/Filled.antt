@@ -1,8 +1,7 @@
 -- How the table is filled, and what a filled table tells.
-use Rattle.std.proofs.Common.{◌≡◌, ◌≢◌, ◌⊎◌, inl, inr, ℕ, suc, ◌+◌, ◌-◌, ◌*◌, ◌^◌, ◌<◌, ◌≤◌, Bool, true, false, List, length, nat_eq, nat_lt, bit_and, bit_or, get_or-set_same, get_or-set_other, refl, sym, ap, ap₂, subst, ◌∙◌, add-one, arith}
+use Rattle.std.proofs.Common.{◌≡◌, ◌≢◌, ◌⊎◌, inl, inr, ℕ, ◌+◌, ◌-◌, ◌*◌, ◌^◌, ◌<◌, ◌≤◌, Bool, true, false, List, length, nat_eq, nat_lt, bit_and, bit_or, get_or-set_same, get_or-set_other, refl, sym, ap, ap₂, subst, ◌∙◌, add-one, arith}
 use Rattle.std.specs.Prelude.{slice_set}
 use Rattle.std.specs.Ordering.{is_gt}
-use Rattle.std.specs.declared.cmp.Ordering.TheVariants.{Greater}
 use Rattle.std.proofs.Math.Nat.{pow-suc, pow-le-pow_right}
 use Rattle.std.proofs.lemmas.Nat.{pow_pos, and_comm}
 use Rattle.std.proofs.lemmas.Nat.Bits.{and_pow, bit_at_above}
@@ -19,7 +18,7 @@ use Rattle.plan_space.specs.declared.roots.Root.{Root}
 use Rattle.plan_space.specs.declared.roots.Root.TheVariants as root
 use Rattle.plan_space.specs.declared.entry.Entry.{Entry}
 use Rattle.plan_space.specs.Roots.{Stands, IsSplit}
-use Rattle.plan_space.specs.Table.{OwnCost, sum_of, entry_at, side_costs, offered, NotLater, IsOffered, IsLeast, AreLeast, Follows}
+use Rattle.plan_space.specs.Table.{OwnCost, sum_of, entry_at, side_costs, offered, NotLater, IsLeast, AreLeast, Follows}
 use Rattle.plan_space.specs.Pricing.{Pricing}
 use Rattle.plan_space.specs.Prices.{own_at, block_at}
 use Rattle.plan_space.specs.Steps.{Considers, IsReading, IsBeforeLeft}

@@ -4,8 +4,7 @@ use Rattle.std.specs.Prelude.{min}
 use Rattle.std.specs.Int.{bit_at}
 use Rattle.std.proofs.Math.Nat.{mul-le-mul_left}
 use Rattle.std.proofs.Math.ListN.{length-map}
-use Rattle.std.proofs.lemmas.Nat.{pow_pos}
-use Rattle.std.proofs.lemmas.Nat.Bits.{bit_at_and, bit_at-lt, bit_at-zero, and_pow}
+use Rattle.std.proofs.lemmas.Nat.Bits.{bit_at_and, bit_at-zero, and_pow}
 use Rattle.sql_values.specs.Limits.{max_product}
 use Rattle.query_block.specs.Blocks.{relation_tree}
 use Rattle.plan_tree.specs.Work.{bits}

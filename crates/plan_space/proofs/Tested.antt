@@ -1,5 +1,5 @@
 -- The blocks and the counts with which the tests try best plans.
-use Rattle.std.proofs.Common.{◌≡◌, ℕ, zero, suc, ◌+◌, ◌*◌, ◌^◌, ◌<◌, ◌≤◌, List, [], ◌∷◌, ◌++◌, All, length, map, max, nat_eq, pos, false, refl, ap, ap₂, sym, subst, ◌∙◌, add-one, arith}
+use Rattle.std.proofs.Common.{◌≡◌, ℕ, zero, suc, ◌^◌, ◌<◌, ◌≤◌, List, [], ◌∷◌, ◌++◌, All, length, map, max, pos, false, refl, ap, sym, subst, ◌∙◌, arith}
 use Rattle.std.specs.List.{AllZip, IsDistinct}
 use Rattle.std.proofs.Math.Nat.{pow-suc, pow-le-pow_right}
 use Rattle.std.proofs.Math.ListN.{length-map}
@@ -16,7 +16,7 @@ use Rattle.query_block.specs.declared.block.Relation.{Relation}
 use Rattle.query_block.specs.declared.edge.Edge.{Edge}
 use Rattle.query_block.specs.declared.edge.ColumnAt.{ColumnAt}
 use Rattle.query_block.specs.Shape.{BlockShape}
-use Rattle.query_block.specs.Conditions.{FilterTree, Compare}
+use Rattle.query_block.specs.Conditions.{Compare}
 use Rattle.query_block.specs.Blocks.{RelationTree, FitsColumns, relation_tree, block_tree, relation_at, kind_at, holds_texts, left_of, right_of, kind_of, IsRelation, IsPlace, IsEdge, IsBlock}
 use Rattle.cost_model.specs.declared.stats.Stats.{Stats}
 use Rattle.cost_model.specs.declared.stats.RelationStats.{RelationStats}

@@ -5,7 +5,7 @@ use Rattle.plan_space.specs.declared.roots.Root.{Root}
 use Rattle.plan_space.specs.declared.roots.Root.TheVariants as root
 use Rattle.plan_space.specs.declared.entry.Entry.{Entry}
 use Rattle.plan_space.specs.Roots.{Stands}
-use Rattle.plan_space.specs.Table.{offered, NotLater, IsOffered, IsLeast, AreLeast}
+use Rattle.plan_space.specs.Table.{offered, NotLater, IsOffered, AreLeast}
 use Rattle.plan_space.specs.Pricing.{Pricing}
 use Rattle.plan_space.specs.Prices.{own_at, block_at}
 

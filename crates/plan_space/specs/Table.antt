@@ -1,6 +1,6 @@
 -- The table that is filled: for each set of relations the cheapest way to join it, by the entries of smaller sets. What a
 -- node costs by itself is a function of the node and the set.
-use Rattle.std.specs.Prelude.{◌≡◌, ℕ, ◌+◌, ◌-◌, ◌*◌, ◌^◌, ◌<◌, ◌≤◌, List, [], ◌∷◌, slice_index_or, false}
+use Rattle.std.specs.Prelude.{◌≡◌, ℕ, ◌+◌, ◌-◌, ◌*◌, ◌^◌, ◌<◌, ◌≤◌, List, ◌∷◌, slice_index_or, false}
 use Rattle.std.specs.Ordering.{nat_cmp, is_gt}
 use Rattle.std.specs.Cmp.Lexicographic.{slice_cmp}
 use Rattle.query_block.specs.Blocks.{BlockTree}
@@ -8,7 +8,7 @@ use Rattle.plan_tree.specs.Plans.{PlanTree, Scan, IndexScan, Nest, Hash, Merge, 
 use Rattle.plan_space.specs.declared.roots.Root.{Root}
 use Rattle.plan_space.specs.declared.roots.Root.TheVariants as root
 use Rattle.plan_space.specs.declared.entry.Entry.{Entry}
-use Rattle.plan_space.specs.Roots.{root_of, root_numbers, Stands}
+use Rattle.plan_space.specs.Roots.{root_numbers, Stands}
 
 abbrev pub OwnCost : Type 0
 OwnCost = Root → (set : ℕ) → ℕ

@@ -1,5 +1,5 @@
 -- The relations and counts with which the tests try best plans.
-use Rattle.std.specs.Prelude.{◌≡◌, ℕ, ◌<◌, ◌≤◌, List, [], ◌∷◌, All, map, max, pos}
+use Rattle.std.specs.Prelude.{◌≡◌, ℕ, ◌<◌, ◌≤◌, List, [], ◌∷◌, map, pos}
 use Rattle.std.specs.List.{AllZip}
 use Rattle.sql_values.specs.declared.column.ColumnType.TheVariants.{Integer}
 use Rattle.sql_values.specs.declared.op.Op.{Op}

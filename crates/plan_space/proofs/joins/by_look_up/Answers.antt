@@ -1,4 +1,4 @@
-use Rattle.std.proofs.Common.{◌≡◌, arith}
+use Rattle.std.proofs.Common.{arith}
 use Rattle.plan_space.specs.Steps.{IsLookUpBy}
 use Rattle.plan_space.proofs.Bits.{lowest-alone}
 use Rattle.plan_space.proofs.Considered.{nothing, no-look-up}

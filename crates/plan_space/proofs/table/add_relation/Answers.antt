@@ -1,8 +1,7 @@
-use Rattle.std.proofs.Common.{◌≡◌, ℕ, ◌+◌, ◌^◌, ◌<◌, ◌≤◌, length, ap, sym, subst, ◌∙◌, arith}
+use Rattle.std.proofs.Common.{◌≡◌, ◌+◌, ◌^◌, ◌<◌, length, subst, ◌∙◌, arith}
 use Rattle.std.proofs.Math.ListN.{length-map, length-set}
 use Rattle.std.proofs.lemmas.Nat.{pow_pos}
 use Rattle.query_block.specs.Blocks.{relation_tree}
-use Rattle.plan_space.specs.declared.entry.Entry.{Entry}
 use Rattle.plan_space.specs.Table.{AreLeast}
 use Rattle.plan_space.specs.Prices.{own_at, block_at}
 use Rattle.plan_space.proofs.Filled.{next-power, sets-below, add-least}

@@ -1,4 +1,4 @@
-use Rattle.std.proofs.Common.{◌≡◌, ◌^◌, ◌<◌, sym, subst, ◌∙◌, arith}
+use Rattle.std.proofs.Common.{◌^◌, ◌<◌, sym, subst, ◌∙◌, arith}
 use Rattle.plan_space.specs.Roots.{IsSplit}
 use Rattle.plan_space.specs.Steps.{Considers, IsReading}
 use Rattle.plan_space.proofs.Filled.{highest-split, least-alone, least-split}

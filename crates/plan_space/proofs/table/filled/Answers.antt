@@ -1,4 +1,4 @@
-use Rattle.std.proofs.Common.{◌≡◌, ◌^◌, length, ap, sym, subst, ◌∙◌, arith}
+use Rattle.std.proofs.Common.{◌≡◌, ◌^◌, length, ap, subst, ◌∙◌, arith}
 use Rattle.std.proofs.Math.ListN.{length-map}
 use Rattle.query_block.specs.Blocks.{relation_tree}
 use Rattle.plan_space.specs.Table.{AreLeast}

@@ -1,4 +1,4 @@
-use Rattle.std.proofs.Common.{◌≡◌, ◌≤◌, ◌∙◌, arith}
+use Rattle.std.proofs.Common.{arith}
 use Rattle.plan_space.proofs.Tested.{is-block, fits-block}
 use Rattle.plan_space.proofs.tests.made_of.Goals as goal
 
