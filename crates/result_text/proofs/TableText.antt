@@ -49,6 +49,11 @@ text_of_rows texts kinds names values sorted printed text same order is =
     ap (records_of texts kinds) same ∙ sym (flat_map-of_map record_of (values_of texts kinds) sorted) ∙ ap (flat_map record_of) order in
     subst (λ (l : List ℕ). IfOk text (λ bytes. bytes.items ≡ row_text default_writer names ++ l)) rows is
 
+-- the text doesn't depend on the order in which rows are given
+pub table_text-permutation : (names : List (List ℕ)) (rows others : List ValueRow) → IsPermutation rows others → table_text names rows ≡ table_text names others
+table_text-permutation names rows others moved =
+    ap (λ (sorted : List ValueRow). row_text default_writer names ++ flat_map record_of sorted) (sym (in_order-permutation rows others moved))
+
 words_total : IsTotalOrder word_row_cmp
 words_total = lists_total int_cmp_total
 

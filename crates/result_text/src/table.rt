@@ -1,7 +1,7 @@
 // The text of a whole table. Rows are sorted by their words as numbers, which is the order of their values as far as INTEGER
 // columns come first. Where rows tie in these, and there alone, texts are ranked: each text's word becomes its place among
 // the texts of such rows in ascending order, and the rows come back in that order into the places that they had together.
-ghost use Rattle.std.specs.Prelude.{◌≡◌, ◌≤◌, List, All, length, map, take, IfOk, IsPermutation, IsSorted};
+ghost use Rattle.std.specs.Prelude.{◌≡◌, ◌≤◌, ℕ, List, All, length, map, take, IfOk, IsPermutation, IsSorted};
 ghost use Rattle.sql_values.specs.declared.column.ColumnType.TheVariants.{Integer};
 ghost use Rattle.sql_values.specs.Stored.{ValueRow};
 ghost use Rattle.sql_values.specs.Stored.{values_of, AreWordsOf};
@@ -102,4 +102,10 @@ pub fn table_text(
 pub fn rows_in_order()
     ensures permutation { (rows : List ValueRow) → IsPermutation rows (in_order rows) }
     ensures ascending { (rows : List ValueRow) → IsSorted row_cmp (in_order rows) }
+{}
+
+/// A law: a table prints the same text in whatever order its rows are given.
+pub fn printed_in_any_order()
+    ensures same { (names : List (List ℕ)) (rows rows' : List ValueRow)
+        → IsPermutation rows rows' → table_text names rows ≡ table_text names rows' }
 {}
