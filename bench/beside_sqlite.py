@@ -13,10 +13,10 @@ PROGRAM = os.path.join(HERE, "..", "crates", "bouquet", "out", "bouquet")
 SEED = 20240527
 
 
-def arguments(text):
+def arguments(text, rows=1_000_000):
     """The words of a benchmark: how many rows, how many runs, and the absolute path of the program."""
     words = argparse.ArgumentParser(description=text, formatter_class=argparse.RawDescriptionHelpFormatter)
-    words.add_argument("--rows", type=int, default=1_000_000)
+    words.add_argument("--rows", type=int, default=rows)
     words.add_argument("--runs", type=int, default=5)
     words.add_argument("--program", default=PROGRAM)
     given = words.parse_args()
