@@ -1,6 +1,7 @@
-// The rows of a result as its block's projection asks for them. Each projected word is copied once, into one vector for
-// all rows, and the rows are lent from there.
-ghost use Rattle.std.specs.Prelude.{◌≡◌, ◌<◌, ◌++◌, All, IfOk, OnOk, length, map};
+// The rows of a result as its block's projection asks for them. Where it asks for every column in its place the rows are
+// lent from the stack. Else each projected word is copied once, into one vector for all rows, and they are lent from there.
+ghost use Rattle.std.specs.Prelude.{◌≡◌, ◌<◌, ◌++◌, ◌↔◌, All, IfOk, IsTrue, OnOk, length, map};
+ghost use Rattle.std.specs.List.{range_with_len};
 ghost use Rattle.query_block.specs.Blocks.{relation_tree, block_tree, IsBlock, IsPlace, kind_of, width_of};
 ghost use Rattle.query_block.specs.Combined.{AreCombinedWords, word_place};
 ghost use Rattle.result_text.specs.Rows.{words_of};
@@ -48,6 +49,33 @@ fn projected_places(alloc: Global, block: &Block) -> Result<Vec<usize>, AllocErr
         places.push(block.offset(at.relation) + at.column as usize)?;
     }
     Ok(places)
+}
+
+// Whether these are the places of all columns, in their order.
+fn are_in_place(places: &[usize], width: usize) -> bool
+    ensures { IsTrue result ↔ (places.now ≡ range_with_len 0 width) }
+{
+    if places.len() != width {
+        return false;
+    }
+    for (column, place) in places.iter().enumerate() {
+        if *place != column {
+            return false;
+        }
+    }
+    true
+}
+
+// Lends the rows of the stack as they stand.
+fn whole_rows(alloc: Global, rows: &RowStack) -> Result<Vec<LentRow<'_>>, AllocError>
+    ensures rows { IfOk result (λ lent. lent.items ≡ rows.now.rows) }
+    ensures wide { All (λ row. length row ≡ rows.now.width) rows.now.rows }
+{
+    let mut lent = Vec::with_capacity(alloc, rows.len() as usize)?;
+    for number in 0..rows.len() {
+        lent.push(LentRow::new(rows.row(number)))?;
+    }
+    Ok(lent)
 }
 
 // Adds the words of a row in these places.
@@ -117,6 +145,10 @@ pub fn print_rows(
 {
     let kinds = projected_kinds(alloc, block)?;
     let places = projected_places(alloc, block)?;
+    if are_in_place(&places, block.width()) {
+        let lent = whole_rows(alloc, rows)?;
+        return table_text(alloc, texts, &kinds, names, &lent);
+    }
     let words = projected_words(alloc, rows, &places)?;
     let lent = projected_rows(alloc, rows, &places, &words)?;
     table_text(alloc, texts, &kinds, names, &lent)
