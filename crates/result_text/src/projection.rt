@@ -1,5 +1,6 @@
-// The rows of a result as its block's projection asks for them. Where it asks for every column in its place the rows are
-// lent from the stack. Else each projected word is copied once, into one vector for all rows, and they are lent from there.
+// The rows of a result as its block's projection asks for them. Where it asks for every column in its place the rows
+// are lent from the stack. Else each projected word is copied once, into one vector for all rows, and they are lent
+// from there.
 ghost use Rattle.std.specs.Prelude.{◌≡◌, ◌<◌, ◌++◌, ◌↔◌, All, IfOk, IsTrue, OnOk, length, map};
 ghost use Rattle.std.specs.List.{range_with_len};
 ghost use Rattle.query_block.specs.Blocks.{relation_tree, block_tree, IsBlock, IsPlace, kind_of, width_of};

@@ -259,21 +259,25 @@ fn relation_of(alloc: Global, kinds: &[ColumnType]) -> Result<Relation, AllocErr
     })
 }
 
-// A block of one relation, which asks for these of its first two columns.
-fn block_of_one(
-    alloc: Global,
-    kinds: &[ColumnType],
-    projection: Vec<ColumnAt>,
-) -> Result<Block, AllocError>
+// A block of one relation, which asks for its second column, its first, and its second once more.
+fn block_of_one(alloc: Global, kinds: &[ColumnType]) -> Result<Block, AllocError>
     requires some { 2 ≤ length kinds.now }
     requires few { length kinds.now ≤ 32 }
-    requires places { All (λ at. (at.relation ≡ 0) × (at.column < 2)) projection }
-    ensures projection { IfOk result (λ block. block.projection ≡ projection) }
+    ensures projection { IfOk result (λ block. length block.projection ≡ 3) }
     ensures width { IfOk result (λ block. width_of (block_tree block) ≡ length kinds.now) }
     ensures columns { IfOk result (λ block.
         flat_map (λ relation. relation.columns) (block_tree block).relations ≡ kinds.now) }
 {
     let relations = vec![in alloc; relation_of(alloc, kinds)?]?;
+    let first = ColumnAt {
+        relation: 0,
+        column: 0,
+    };
+    let second = ColumnAt {
+        relation: 0,
+        column: 1,
+    };
+    let projection = vec![in alloc; second, first, second]?;
     Ok(Block::new(relations, Vec::new(alloc), projection))
 }
 
@@ -298,10 +302,9 @@ fn stack_of(
     Ok(stack)
 }
 
-// The columns are exchanged, and the second stands twice; and every column stands in its place. Rows tie in each column,
-// and two are equal.
+// The columns are exchanged, and the second stands twice. Rows tie in it, and two are equal.
 #[test]
-fn projections_print_as_worked(rt: HostRuntime) -> Result<(), Fail> {
+fn a_projection_prints_as_worked(rt: HostRuntime) -> Result<(), Fail> {
     let mut texts = Texts::new(rt.alloc());
     let _ = texts.add(b"z")?;
     let _ = texts.add(b"a")?;
@@ -309,30 +312,13 @@ fn projections_print_as_worked(rt: HostRuntime) -> Result<(), Fail> {
     let s = Text::new(rt.alloc(), b"S")?;
     let k = Text::new(rt.alloc(), b"K")?;
     let t = Text::new(rt.alloc(), b"T")?;
+    let names = vec![in rt.alloc(); s, k, t]?;
     let kinds = [INTEGER, TEXT];
+    let block = block_of_one(rt.alloc(), &kinds)?;
     let words = [2, 0, 1, 0, 2, 1, 2, 0, NULL, 2, 5, NULL];
     let rows = stack_of(rt.alloc(), &texts, &kinds, &words)?;
-    let first = ColumnAt {
-        relation: 0,
-        column: 0,
-    };
-    let second = ColumnAt {
-        relation: 0,
-        column: 1,
-    };
-
-    let exchanged = vec![in rt.alloc(); second, first, second]?;
-    let block = block_of_one(rt.alloc(), &kinds, exchanged)?;
-    let names = vec![in rt.alloc(); s.clone()?, k.clone()?, t]?;
     let text = print_rows(rt.alloc(), &texts, &block, &names, &rows)?;
     let printed: &[u8] = b"S,K,T\n,5,\na,2,a\n\"m,n\",,\"m,n\"\nz,1,z\nz,2,z\nz,2,z\n";
-    assert!(rt; text.as_slice() == printed, "exchanged");
-
-    let in_place = vec![in rt.alloc(); first, second]?;
-    let block = block_of_one(rt.alloc(), &kinds, in_place)?;
-    let names = vec![in rt.alloc(); k, s]?;
-    let text = print_rows(rt.alloc(), &texts, &block, &names, &rows)?;
-    let printed: &[u8] = b"K,S\n,\"m,n\"\n1,z\n2,a\n2,z\n2,z\n5,\n";
-    assert!(rt; text.as_slice() == printed, "in place");
+    assert!(rt; text.as_slice() == printed);
     Ok(())
 }

@@ -1,11 +1,11 @@
 use Rattle.std.proofs.Common.{◌≡◌, ◌≤◌, ◌<◌, List, [], ◌∷◌, All, ap, arith, length, map, nat_eq, subst, sym}
-use Rattle.std.proofs.lemmas.List.Elements.{All-nil, All-cons, All-weaker}
+use Rattle.std.proofs.lemmas.List.Elements.{All-nil, All-cons}
 use Rattle.std.specs.List.{IsDistinct}
 use Rattle.sql_values.specs.declared.column.ColumnType.{ColumnType}
 use Rattle.query_block.specs.declared.block.Relation.{Relation}
 use Rattle.query_block.specs.declared.edge.ColumnAt.{ColumnAt}
 use Rattle.query_block.specs.Conditions.{filter_tree}
-use Rattle.query_block.specs.Blocks.{FitsColumns, relation_tree, block_tree, relation_at, IsRelation, IsPlace, IsEdge, IsBlock}
+use Rattle.query_block.specs.Blocks.{FitsColumns, relation_tree, block_tree, IsRelation, IsPlace, IsEdge, IsBlock}
 use Rattle.result_text.proofs.tests.block_of_one.Goals as goal
 
 is-relation : (kinds : List ColumnType) (relation : Relation) → 2 ≤ length kinds → length kinds ≤ 32 → relation.columns ≡ kinds → relation.filter ≡ [] → relation.indexes ≡ []
@@ -19,22 +19,30 @@ is-relation kinds relation some few columns filter indexes = record {
   different = subst (IsDistinct nat_eq) (sym indexes) tt;
 }
 
-one-relation : (kinds : List ColumnType) (relation : Relation) (projection : List ColumnAt) → 2 ≤ length kinds → length kinds ≤ 32 → relation.columns ≡ kinds → relation.filter ≡ [] → relation.indexes ≡ []
-    → All (λ (at : ColumnAt). (at.relation ≡ 0) × (at.column < 2)) projection → IsBlock (block_tree (record { relations = relation ∷ []; edges = []; projection = projection }))
-one-relation kinds relation projection some few columns filter indexes places =
+one-relation : (kinds : List ColumnType) (relation : Relation) → 2 ≤ length kinds → length kinds ≤ 32 → relation.columns ≡ kinds → relation.filter ≡ [] → relation.indexes ≡ []
+    → IsBlock (block_tree (record {
+      relations = relation ∷ [];
+      edges = [];
+      projection = record { relation = 0; column = 1 } ∷ record { relation = 0; column = 0 } ∷ record { relation = 0; column = 1 } ∷ [];
+    }))
+one-relation kinds relation some few columns filter indexes =
     let relations = relation_tree relation ∷ [] in
+    let first : ColumnAt = record { relation = 0; column = 0 } in
+    let second : ColumnAt = record { relation = 0; column = 1 } in
+    let is : IsPlace relations second = (omega arith, omega (arith, some, ap length columns)) in
+    let place = All-cons (IsPlace relations) in
     record {
       some = omega arith;
       few = omega arith;
       relations = All-cons IsRelation (relation_tree relation) [] (is-relation kinds relation some few columns filter indexes) (All-nil IsRelation);
       axes = omega arith;
       edges = All-nil (IsEdge relations);
-      projection = All-weaker (λ (at : ColumnAt). (at.relation ≡ 0) × (at.column < 2)) (IsPlace relations)
-          (λ at is. (omega (arith, is.0), omega (arith, some, ap length columns, is.1, ap (λ number. length (relation_at relations number).columns) is.0))) projection places;
+      projection = place second (first ∷ second ∷ []) is
+          (place first (second ∷ []) (omega arith, omega (arith, some, ap length columns)) (place second [] is (All-nil (IsPlace relations))));
     }
 
 pub new-requires-2 : goal.new-requires-2
 new-requires-2 c =
-    rw (c.in_ok-relations.ensures.items, c.new.ensures.items)
-    (one-relation c.args.kinds.now c.in_ok-relation_of.field-0 c.args.projection.items c.requires.some c.requires.few
-    c.in_ok-relation_of.ensures.columns c.in_ok-relation_of.ensures.filter c.in_ok-relation_of.ensures.indexes c.requires.places)
+    rw (c.in_ok-relations.ensures.items, c.new.ensures.items, c.in_ok-projection.ensures.items)
+    (one-relation c.args.kinds.now c.in_ok-relation_of.field-0 c.requires.some c.requires.few
+    c.in_ok-relation_of.ensures.columns c.in_ok-relation_of.ensures.filter c.in_ok-relation_of.ensures.indexes)
