@@ -10,7 +10,7 @@ use Rattle.shell.specs.declared.status.Status.TheVariants as status
 use Rattle.shell.specs.declared.refusal.Refusal.{Refusal}
 use Rattle.sql_parse.specs.Trees.{StatementTree}
 use Rattle.shell.specs.Refusal.{line_of}
-use Rattle.shell.specs.Script.{SessionState, Outcome, Prints, Refuses, Answer, Step, outcome, and_then, script_answer, nothing_made}
+use Rattle.shell.specs.Script.{SessionState, Outcome, Prints, Refuses, Answer, Step, outcome, and_then, script_answer, nothing_made, refused_work}
 use Rattle.shell.specs.Serve.{IsGivenFor, statements_of_steps}
 use Rattle.shell.specs.Due.{CarriesAll}
 use Rattle.shell.proofs.Beginning.{whole_begins}
@@ -91,14 +91,19 @@ abbrev pub text_of : Outcome → List ℕ
 text_of (Prints text work state) = text
 text_of (Refuses why) = line_of why
 
+-- the work that a statement's outcome costs
+abbrev pub cost_of : Outcome → ℕ
+cost_of (Prints text work state) = work
+cost_of (Refuses why) = refused_work why
+
 -- a run that ends at a statement: refused where that is due, with the whole line, and else for another cause
 pub record EndsAt (due : Outcome) (ended : Status) (had got : Option (List ℕ)) (old new : ℕ) : Type 0 where
   pub refused : ended ≡ status.Refused → ((why : Refusal) × (due ≡ Refuses why)) × Appends had got (text_of due)
-  pub unpaid : ended ≡ status.Refused → new ≡ old
+  pub paid : ended ≡ status.Refused → new ≡ old + cost_of due
   pub not_done : ended ≡ status.Done → ⊥
   pub beginning : (n : ℕ) × Appends had got (take n (text_of due))
 
-refused_whole : (due : Outcome) (go : SessionState → Answer) → ((why : Refusal) × (due ≡ Refuses why)) → and_then due go ≡ record { text = text_of due; work = 0; refused = true }
+refused_whole : (due : Outcome) (go : SessionState → Answer) → ((why : Refusal) × (due ≡ Refuses why)) → and_then due go ≡ record { text = text_of due; work = cost_of due; refused = true }
 refused_whole (Prints text work state) go refusal = cc refusal.1
 refused_whole (Refuses why) go refusal = refl
 
@@ -176,7 +181,7 @@ module _ (all : List StatementTree) (i : ℕ) (before mid now : FolderState) (st
           done = λ e. absurd (ends.not_done e);
           refused = λ e.
               let refusal = refused_whole what go (ends.refused e).0 in
-              let due_whole : script_answer nothing_made all_steps ≡ record { text = carried.printed ++ text_of what; work = carried.work + 0; refused = true } = whole ∙ ap (after carried.printed carried.work) refusal in
+              let due_whole : script_answer nothing_made all_steps ≡ record { text = carried.printed ++ text_of what; work = carried.work + cost_of what; refused = true } = whole ∙ ap (after carried.printed carried.work) refusal in
               (ap (λ (a : Answer). a.refused) due_whole, rw due_whole (appends_on had got new carried.printed (text_of what) carried.put (ends.refused e).1));
           beginning = (
             length carried.printed + min ends.beginning.0 (length (text_of what)),
@@ -187,8 +192,8 @@ module _ (all : List StatementTree) (i : ℕ) (before mid now : FolderState) (st
           done = λ e. absurd (ends.not_done e);
           refused = λ e.
               let refusal = refused_whole what go (ends.refused e).0 in
-              let work : (script_answer nothing_made all_steps).work ≡ carried.work + 0 = ap (λ (a : Answer). a.work) (whole ∙ ap (after carried.printed carried.work) refusal) in
-              omega (arith, work, carried.spent, ends.unpaid e);
+              let work : (script_answer nothing_made all_steps).work ≡ carried.work + cost_of what = ap (λ (a : Answer). a.work) (whole ∙ ap (after carried.printed carried.work) refusal) in
+              omega (arith, work, carried.spent, ends.paid e);
         };
       }
 

@@ -11,7 +11,7 @@ use Rattle.shell.specs.declared.stop.Stop.{Stop}
 use Rattle.shell.specs.declared.stop.Stop.TheVariants as stop
 use Rattle.shell.specs.declared.refusal.Refusal.{Refusal}
 use Rattle.shell.specs.Refusal.{line_of}
-use Rattle.shell.specs.Script.{SessionState, Outcome, Prints, Refuses, outcome}
+use Rattle.shell.specs.Script.{SessionState, Outcome, Prints, Refuses, outcome, refused_work}
 use Rattle.outside_io.specs.Files.{FolderState, OnlyReads}
 use Rattle.sql_parse.specs.declared.tree.Statement.{Statement}
 use Rattle.sql_parse.specs.Trees.{StatementTree, statement_tree}
@@ -38,7 +38,7 @@ pub ends_in_part : (due : Outcome) (text : List ℕ) (work : ℕ) (next : Sessio
     → ((n : ℕ) × Appends had got (take n text)) → EndsAt due ended had got old new
 ends_in_part due text work next ended had got old new elsewhere is part = record {
   refused = λ e. absurd (not_refused ended elsewhere e);
-  unpaid = λ e. absurd (not_refused ended elsewhere e);
+  paid = λ e. absurd (not_refused ended elsewhere e);
   not_done = not_done ended elsewhere;
   beginning = (part.0, rw is part.1);
 }
@@ -47,18 +47,18 @@ ends_in_part due text work next ended had got old new elsewhere is part = record
 pub ends_with_nothing : (due : Outcome) (ended : Status) (had : Option (List ℕ)) (old new : ℕ) → EndsElsewhere ended → EndsAt due ended had had old new
 ends_with_nothing due ended had old new elsewhere = record {
   refused = λ e. absurd (not_refused ended elsewhere e);
-  unpaid = λ e. absurd (not_refused ended elsewhere e);
+  paid = λ e. absurd (not_refused ended elsewhere e);
   not_done = not_done ended elsewhere;
   beginning = (0, appends_none had);
 }
 
 -- the line of the refusal that is due was put, whole or in part
-pub ends_refused : (due : Outcome) (why : Refusal) (ended : Status) (had got : Option (List ℕ)) (old new : ℕ) → due ≡ Refuses why → new ≡ old
+pub ends_refused : (due : Outcome) (why : Refusal) (ended : Status) (had got : Option (List ℕ)) (old new : ℕ) → due ≡ Refuses why → new ≡ old + refused_work why
     → (ended ≡ status.Refused → Appends had got (line_of why)) → ((n : ℕ) × Appends had got (take n (line_of why)))
     → (ended ≡ status.Refused) ⊎ ((ended ≡ status.WriteFault) ⊎ (ended ≡ status.NoMemory)) → EndsAt due ended had got old new
-ends_refused due why ended had got old new is unpaid whole part kinds = record {
+ends_refused due why ended had got old new is paid whole part kinds = record {
   refused = λ e. ((why, is), rw is (whole e));
-  unpaid = λ _. unpaid;
+  paid = λ _. rw is paid;
   not_done = not_this kinds;
   beginning = (part.0, rw is part.1);
 }

@@ -1,13 +1,13 @@
 pub mod Beginning
 pub mod Carrying
 pub mod Ends
-pub mod Filtered
 pub mod Given
 pub mod LoadLine
-pub mod OneRelation
+pub mod PlainPlans
 pub mod Queries
 pub mod Reading
+pub mod RowsPrinted
 pub mod Runs
-pub mod ScanFits
 pub mod Scripts
 pub mod TokensFew
+pub mod Widths

@@ -11,7 +11,7 @@ use Rattle.shell.specs.declared.status.Status.{Status}
 use Rattle.shell.specs.declared.status.Status.TheVariants as status
 use Rattle.sql_parse.specs.declared.tree.LoadDef.{LoadDef}
 use Rattle.sql_parse.specs.Trees.{StatementTree}
-use Rattle.shell.specs.Script.{Answer, Outcome, Prints, Refuses, SessionState, Step, at_table, load_file, outcome, script_answer, nothing_made}
+use Rattle.shell.specs.Script.{Answer, Outcome, Prints, Refuses, SessionState, Step, at_table, load_file, outcome, refused_work, script_answer, nothing_made}
 use Rattle.shell.specs.Serve.{Carries, IsGiven, IsGivenFor, IsScript, statements_of_steps}
 use Rattle.shell.specs.Stop.{StopsAt}
 
@@ -43,11 +43,11 @@ pub record LoadsFile (load : LoadDef) (before after : FolderState) (state next :
   pub given : IsGiven before after load.file file
   pub returns : ReturnsFree (at_table state load.table (λ number. load_file state number load.file file)) result next
 
--- what is returned is what is due: a text, whose work was paid, and the state after it; or a refusal, for which
--- nothing was paid
+-- what is returned is what is due: a text, whose work was paid, and the state after it; or a refusal, for which the work
+-- that it prints was paid
 abbrev pub ReturnsDue : Outcome → Result (Vec ℕ Global) Stop → SessionState → (before after : ℕ) → Type 0
 ReturnsDue due (Ok text) state old new = (work : ℕ) × (due ≡ Prints text.items work state) × (new ≡ old + work)
-ReturnsDue due (Err (stop.Refused why)) state old new = (due ≡ Refuses why) × (new ≡ old)
+ReturnsDue due (Err (stop.Refused why)) state old new = (due ≡ Refuses why) × (new ≡ old + refused_work why)
 ReturnsDue due (Err stop.ReadFault) state old new = ⊤
 ReturnsDue due (Err stop.NoMemory) state old new = ⊤
 

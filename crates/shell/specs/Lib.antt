@@ -3,7 +3,6 @@ pub mod Limits
 pub mod PlainPlan
 pub mod Printed
 pub mod Refusal
-pub mod Scan
 pub mod Script
 pub mod Serve
 pub mod Source

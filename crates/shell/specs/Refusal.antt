@@ -84,7 +84,6 @@ not_bound_line bind.NoMemory = error_line []
 
 -- what isn't built yet
 abbrev pub later_word : Later → List ℕ
-later_word later.Select = codes "select"
 later_word later.Statement = codes "statement"
 
 -- the line that a refusal puts
@@ -97,4 +96,5 @@ line_of (refusal.NotBound fault) = not_bound_line fault
 line_of (refusal.AbsentFile name) = error_line (codes "E09 absent " ++ name)
 line_of (refusal.NotLoaded fault) = not_loaded_line fault
 line_of (refusal.PastLimit limit value) = limit_line limit value
+line_of (refusal.PastWork spent) = error_line (codes "E16 " ++ (codes "work" ++ spaced spent))
 line_of (refusal.Later what) = error_line (codes "E00 later " ++ later_word what)

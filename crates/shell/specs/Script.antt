@@ -14,6 +14,7 @@ use Rattle.csv_load.specs.declared.fault.LoadFault.{LoadFault}
 use Rattle.csv_load.specs.Load.{load_due}
 use Rattle.sql_bind.specs.declared.fault.BindFault.{BindFault}
 use Rattle.sql_bind.specs.Binding.{bind_fault, block_of}
+use Rattle.shell.specs.Limits.{max_work}
 use Rattle.shell.specs.PlainPlan.{plain_plan, plain_contour}
 use Rattle.shell.specs.Printed.{answer_text, load_line}
 use Rattle.shell.specs.Refusal.{line_of}
@@ -58,17 +59,14 @@ load_file state number name (Some bytes) =
     if nat_le (length bytes) max_file_bytes then with_loaded state number (load_due state number bytes)
     else Refuses (refusal.PastLimit limit.File (length bytes))
 
--- the answer to a block by the plain plan: the work that it prints is the work that it costs
+-- the answer to a block by the plain plan: the work that it prints is the work that it costs; past the most that a query
+-- may cost it is refused, when that is spent
 abbrev pub answer_block : SessionState → BlockTree → Outcome
 answer_block state block =
     let relations = length block.relations in
     let work = work_of state.tables block (plain_plan relations) in
-    Prints (answer_text state block work (plain_contour relations) (plain_plan relations)) work state
-
--- what comes of a block: one relation is answered, several are to come
-abbrev pub answer_built : SessionState → BlockTree → Outcome
-answer_built state block =
-    if nat_le (length block.relations) 1 then answer_block state block else Refuses (refusal.Later later.Select)
+    if nat_le work max_work then Prints (answer_text state block work (plain_contour relations) (plain_plan relations)) work state
+    else Refuses (refusal.PastWork max_work)
 
 -- what comes of a query that can be bound; else it is refused
 abbrev pub unless_refused : Option BindFault → Outcome → Outcome
@@ -77,7 +75,7 @@ unless_refused None due = due
 
 -- a query
 abbrev pub answer_query : SessionState → QueryTree → Outcome
-answer_query state query = unless_refused (bind_fault state query) (answer_built state (block_of state query))
+answer_query state query = unless_refused (bind_fault state query) (answer_block state (block_of state query))
 
 -- what comes of a statement, with the file that the folder gives under the name that it loads
 abbrev pub outcome : SessionState → StatementTree → Option (List ℕ) → Outcome
@@ -97,18 +95,23 @@ pub record Step : Type 0 where
   pub statement : StatementTree
   pub file : Option (List ℕ)
 
--- a text, the work of all that it prints, and whether a refusal ended it
+-- a text, the work that its lines print, all together, and whether a refusal ended it
 pub record Answer : Type 0 where
   pub text : List ℕ
   pub work : ℕ
   pub refused : Bool
+
+-- the work that was paid when a refusal comes: that which its line prints
+abbrev pub refused_work : Refusal → ℕ
+refused_work (refusal.PastWork spent) = spent
+refused_work why = 0
 
 -- what a statement prints, and then what comes after it
 abbrev pub and_then : Outcome → (SessionState → Answer) → Answer
 and_then (Prints text work state) rest =
     let after = rest state in
     record { text = text ++ after.text; work = work + after.work; refused = after.refused }
-and_then (Refuses why) rest = record { text = line_of why; work = 0; refused = true }
+and_then (Refuses why) rest = record { text = line_of why; work = refused_work why; refused = true }
 
 -- the answer to statements from a state
 abbrev pub script_answer : SessionState → List Step → Answer

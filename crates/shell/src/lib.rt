@@ -7,10 +7,10 @@
 mod book;
 mod columns;
 mod lines;
+mod plan;
 mod program;
 mod query;
 mod refusal;
-mod scan;
 mod script;
 mod session;
 mod source;

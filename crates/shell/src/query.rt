@@ -1,47 +1,90 @@
-// Answers a query of one relation: its budget is granted, its rows are scanned, sorted and printed, and its work is
-// reported. It relies on the meter for what it paid, and never prints a work that wasn't spent.
-ghost use Rattle.std.specs.Prelude.{◌≡◌, ◌≤◌, length, IfOk, OnOk};
-ghost use Rattle.query_block.specs.Blocks.{block_tree};
-ghost use Rattle.plan_tree.specs.Plans.{Scan};
-ghost use Rattle.plan_tree.specs.Work.{work_of};
+// Answers a query: its plan runs under the budget of a query, its rows are sorted and printed, and its work is reported. It
+// relies on the meter for what was paid, and never prints a work that wasn't spent.
+ghost use Rattle.std.specs.Prelude.{◌≡◌, ◌≤◌, IfOk, IsErrOf, length};
+ghost use Rattle.query_block.specs.Blocks.{block_tree, width_of};
+ghost use Rattle.plan_tree.specs.Plans.{plan_tree};
 ghost use Rattle.db_catalog.specs.Fits.{Fits};
+ghost use Rattle.exec_pipe.specs.Executions.{AreRowsOf};
+ghost use Rattle.shell.specs.Due.{ReturnsDue};
 ghost use Rattle.shell.specs.Limits.{max_work};
+ghost use Rattle.shell.specs.PlainPlan.{plain_contour};
 ghost use Rattle.shell.specs.Printed.{answer_text};
+ghost use Rattle.shell.specs.Script.{answer_block};
 
 use crate::columns::header_of;
 use crate::lines;
-use crate::scan::scan;
+use crate::plan::plain_plan;
+use crate::refusal::Refusal;
+use crate::stop::Stop;
 use db_catalog::{Database, Metered};
+use exec_pipe::{Outcome, run_plan};
 use plan_tree::Plan;
 use query_block::Block;
 use result_text::print_rows;
+use row_stack::{RowStack, Space};
 use std::alloc::{AllocError, Global};
 
-/// The most units of work of a query: 2^62.
-pub(crate) const MAX_WORK: u128 = 4611686018427387904;
+// The most units of work of a query: 2^62.
+const MAX_WORK: u128 = 4611686018427387904;
 
-/// What a block of one relation prints, by a meter that has spent nothing. The work that it prints is what it spent.
+// The contour that is reported for so many relations.
+fn plain_contour(relations: usize) -> u128
+    ensures { result ≡ plain_contour relations }
+{
+    if relations <= 1 { 1 } else { 0 }
+}
+
+// What a block prints whose rows a plan found by this work.
+fn print_answer(
+    alloc: Global,
+    database: &Database,
+    block: &Block,
+    plan: &Plan,
+    work: u128,
+    rows: &RowStack,
+) -> Result<Vec<u8>, AllocError>
+    requires fits { Fits database.now (block_tree block.now) }
+    requires rows { AreRowsOf database.now (block_tree block.now) rows.now.rows }
+    requires wide { rows.now.width ≡ width_of (block_tree block.now) }
+    ensures { let tree = block_tree block.now in
+        IfOk result (λ text. text.items ≡ answer_text database.now tree work
+        (plain_contour (length tree.relations)) (plan_tree plan.now)) }
+{
+    let names = header_of(alloc, database, block)?;
+    let mut text = print_rows(alloc, database.texts(), block, &names, rows)?;
+    let count = u128::from(rows.len());
+    let contour = plain_contour(block.relations().len());
+    lines::push_report(alloc, &mut text, count, work, contour, plan)?;
+    Ok(text)
+}
+
+/// What a block prints, by a meter that has spent nothing; the work that it prints is what the meter spent. It is refused
+/// where its plan's work is past the most of a query, and exactly that was spent then.
 pub(crate) fn answer(
     alloc: Global,
     database: &Database,
     meter: &mut Metered<'_>,
     block: &Block,
-) -> Result<Vec<u8>, AllocError>
-    requires one { length block.now.relations ≡ 1 }
+) -> Result<Vec<u8>, Stop>
     requires fits { Fits database.now (block_tree block.now) }
     requires same { meter.old.database ≡ database.now }
     requires unspent { meter.old.account.spent ≡ 0 }
-    ensures text { IfOk result (λ text. text.items ≡ answer_text database.now (block_tree block.now)
-        (work_of database.now.tables (block_tree block.now) (Scan 0)) 1 (Scan 0)) }
-    ensures paid { OnOk result (meter.new.account.spent
-        ≡ work_of database.now.tables (block_tree block.now) (Scan 0)) }
-    ensures within { OnOk result (meter.new.account.spent ≤ max_work) }
+    ensures due { ReturnsDue (answer_block database.now (block_tree block.now)) result database.now
+        0 meter.new.account.spent }
+    ensures within { meter.new.account.spent ≤ max_work }
+    ensures no_fault { IsErrOf result Stop.ReadFault → ⊥ }
 {
-    meter.grant(MAX_WORK);
-    let space = scan(alloc, meter, block)?;
-    let names = header_of(alloc, database, block)?;
-    let mut text = print_rows(alloc, database.texts(), block, &names, &space.result)?;
-    let rows = u128::from(space.result.len());
-    lines::push_report(alloc, &mut text, rows, meter.spent(), 1, &Plan::Scan(0))?;
-    Ok(text)
+    let plan = plain_plan(alloc, block.relations().len() as u8)?;
+    let mut space = Space::new(alloc, block.width());
+    match run_plan(alloc, block, &plan, meter, &mut space, MAX_WORK)? {
+        Outcome::Done => Ok(print_answer(
+            alloc,
+            database,
+            block,
+            &plan,
+            meter.spent(),
+            &space.result,
+        )?),
+        Outcome::Exhausted => Err(Stop::Refused(Refusal::PastWork(meter.spent()))),
+    }
 }

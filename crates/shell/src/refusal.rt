@@ -14,9 +14,7 @@ use std::alloc::{AllocError, Global};
 /// What isn't built yet.
 #[derive(Clone, Copy, Debug, PartialEq, Eq)]
 pub(crate) enum Later {
-    /// A query of several tables.
-    Select,
-    /// Another statement.
+    /// The statement.
     Statement,
 }
 
@@ -39,6 +37,8 @@ pub(crate) enum Refusal {
     NotLoaded(LoadFault),
     /// A quantity is past its limit, with this value.
     PastLimit(LimitName, u128),
+    /// The work of a query is past the most that one may cost, and so many units were spent on it.
+    PastWork(u128),
     /// It isn't built yet.
     Later(Later),
 }
@@ -100,7 +100,6 @@ fn later_word(what: Later) -> &'static str
     ensures { result.now ≡ later_word what }
 {
     match what {
-        Later::Select => "select",
         Later::Statement => "statement",
     }
 }
@@ -220,6 +219,7 @@ pub(crate) fn refusal_line(alloc: Global, refusal: &Refusal) -> Result<Vec<u8>, 
         Refusal::AbsentFile(name) => error_line(alloc, "E09 absent ", name.bytes()),
         Refusal::NotLoaded(fault) => not_loaded_line(alloc, fault),
         Refusal::PastLimit(limit, value) => limit_line(alloc, *limit, *value),
+        Refusal::PastWork(spent) => number_line(alloc, "E16 ", "work", *spent),
         Refusal::Later(what) => error_line(alloc, "E00 later ", later_word(*what).as_bytes()),
     }
 }

@@ -21,8 +21,6 @@ const TEXT: &[u8] =
 
 const USAGE: &[u8] = b"usage: bouquet [--max-work N] [--demo N]\n";
 
-const LATER_SELECT: &[u8] = b"error E00 later select\n";
-
 const LATER_STATEMENT: &[u8] = b"error E00 later statement\n";
 
 // The calls of each kind that are to fail, by their numbers from 1.
@@ -346,11 +344,11 @@ static CASES: [Case<'static>; 50] = [
         text: b"-- load rows=4\nN,S,N\n,a,\n1,c,1\n2,b,2\n-- rows=3 work=16 runs=1 contour=1 plan=S0\n",
     },
     Case {
-        name: "two tables",
+        name: "two tables without rows",
         script: b"CREATE TABLE A (K INTEGER, X INTEGER); CREATE TABLE B (K INTEGER, Y INTEGER); SELECT * FROM A, B",
         file: ROWS,
-        status: Status::Refused,
-        text: LATER_SELECT,
+        status: Status::Done,
+        text: b"K,X,K,Y\n-- rows=0 work=2 runs=1 contour=0 plan=N(S0,S1)\n",
     },
     Case {
         name: "no column of this name",
@@ -804,5 +802,50 @@ fn a_quiet_run_meets_no_fault(rt: HostRuntime) -> Result<(), Fail> {
         &mut Quiet,
     );
     assert_eq!(rt; ended, Status::Done);
+    Ok(())
+}
+
+// Three tables of three rows each, and what their loads print.
+const TABLES: &[u8] = b"CREATE TABLE A (K INTEGER, X INTEGER); CREATE TABLE B (Y INTEGER, V INTEGER); \
+    CREATE TABLE T (ID INTEGER, BOSS INTEGER); \
+    LOAD 'a.csv' INTO A; LOAD 'b.csv' INTO B; LOAD 't.csv' INTO T; ";
+
+const LOADS: &[u8] = b"-- load rows=3\n-- load rows=3\n-- load rows=3\n";
+
+const NINE_ROWS: &[u8] = b"K,X,Y,V\n1,7,7,1\n1,7,7,2\n1,7,7,3\n2,7,7,1\n2,7,7,2\n2,7,7,3\n\
+    3,7,7,1\n3,7,7,2\n3,7,7,3\n-- rows=9 work=51 runs=1 contour=0 plan=N(S0,S1)\n";
+
+#[test]
+fn queries_over_several_tables(rt: HostRuntime) -> Result<(), Fail> {
+    let alloc = rt.alloc();
+    let cases = [
+        (b"SELECT * FROM A, B".as_slice(), NINE_ROWS),
+        (
+            b"SELECT * FROM A, B WHERE A.X = B.Y".as_slice(),
+            NINE_ROWS,
+        ),
+        (
+            b"SELECT P.ID, Q.ID FROM T P, T Q WHERE P.BOSS = Q.ID".as_slice(),
+            b"ID,ID\n2,1\n3,1\n-- rows=2 work=44 runs=1 contour=0 plan=N(S0,S1)\n".as_slice(),
+        ),
+        (
+            b"SELECT V, K, ID FROM A, B, T WHERE A.K = B.V AND B.V = T.ID AND BOSS IS NOT NULL"
+                .as_slice(),
+            b"V,K,ID\n2,2,2\n3,3,3\n-- rows=2 work=69 runs=1 contour=0 plan=N(N(S0,S1),S2)\n"
+                .as_slice(),
+        ),
+    ];
+    for (query, text) in cases {
+        let mut source =
+            MemorySource::new(repeated(alloc, TABLES, query, 1, b"")?, Vec::new(alloc));
+        let mut folder = MemoryFolder::new(alloc, Vec::new(alloc));
+        folder.add("a.csv", b"K,X\n1,7\n2,7\n3,7\n")?;
+        folder.add("b.csv", b"Y,V\n7,1\n7,2\n7,3\n")?;
+        folder.add("t.csv", b"ID,BOSS\n1,\n2,1\n3,1\n")?;
+        let mut sink = MemorySink::new(alloc, Vec::new(alloc));
+        let ended = serve(alloc, &[], &mut source, &mut folder, &mut sink);
+        assert_eq!(rt; ended, Status::Done);
+        assert_eq!(rt; sink.bytes(), repeated(alloc, LOADS, text, 1, b"")?.as_slice());
+    }
     Ok(())
 }
