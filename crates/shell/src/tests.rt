@@ -806,7 +806,8 @@ fn a_quiet_run_meets_no_fault(rt: HostRuntime) -> Result<(), Fail> {
 }
 
 // Three tables of three rows each, and what their loads print.
-const TABLES: &[u8] = b"CREATE TABLE A (K INTEGER, X INTEGER); CREATE TABLE B (Y INTEGER, V INTEGER); \
+const TABLES: &[u8] =
+    b"CREATE TABLE A (K INTEGER, X INTEGER); CREATE TABLE B (Y INTEGER, V INTEGER); \
     CREATE TABLE T (ID INTEGER, BOSS INTEGER); \
     LOAD 'a.csv' INTO A; LOAD 'b.csv' INTO B; LOAD 't.csv' INTO T; ";
 
@@ -820,24 +821,21 @@ fn queries_over_several_tables(rt: HostRuntime) -> Result<(), Fail> {
     let alloc = rt.alloc();
     let cases = [
         (b"SELECT * FROM A, B".as_slice(), NINE_ROWS),
-        (
-            b"SELECT * FROM A, B WHERE A.X = B.Y".as_slice(),
-            NINE_ROWS,
-        ),
+        (b"SELECT * FROM A, B WHERE A.X = B.Y".as_slice(), NINE_ROWS),
         (
             b"SELECT P.ID, Q.ID FROM T P, T Q WHERE P.BOSS = Q.ID".as_slice(),
             b"ID,ID\n2,1\n3,1\n-- rows=2 work=44 runs=1 contour=0 plan=N(S0,S1)\n".as_slice(),
         ),
         (
-            b"SELECT V, K, ID FROM A, B, T WHERE A.K = B.V AND B.V = T.ID AND BOSS IS NOT NULL"
-                .as_slice(),
-            b"V,K,ID\n2,2,2\n3,3,3\n-- rows=2 work=69 runs=1 contour=0 plan=N(N(S0,S1),S2)\n"
-                .as_slice(),
+            b"SELECT V, K, ID FROM A, B, T WHERE A.K = B.V AND B.V = T.ID AND BOSS IS NOT NULL".as_slice(),
+            b"V,K,ID\n2,2,2\n3,3,3\n-- rows=2 work=69 runs=1 contour=0 plan=N(N(S0,S1),S2)\n".as_slice(),
         ),
     ];
     for (query, text) in cases {
-        let mut source =
-            MemorySource::new(repeated(alloc, TABLES, query, 1, b"")?, Vec::new(alloc));
+        let mut source = MemorySource::new(
+            repeated(alloc, TABLES, query, 1, b"")?,
+            Vec::new(alloc),
+        );
         let mut folder = MemoryFolder::new(alloc, Vec::new(alloc));
         folder.add("a.csv", b"K,X\n1,7\n2,7\n3,7\n")?;
         folder.add("b.csv", b"Y,V\n7,1\n7,2\n7,3\n")?;
@@ -845,7 +843,10 @@ fn queries_over_several_tables(rt: HostRuntime) -> Result<(), Fail> {
         let mut sink = MemorySink::new(alloc, Vec::new(alloc));
         let ended = serve(alloc, &[], &mut source, &mut folder, &mut sink);
         assert_eq!(rt; ended, Status::Done);
-        assert_eq!(rt; sink.bytes(), repeated(alloc, LOADS, text, 1, b"")?.as_slice());
+        assert_eq!(rt;
+            sink.bytes(),
+            repeated(alloc, LOADS, text, 1, b"")?.as_slice()
+        );
     }
     Ok(())
 }
