@@ -1,7 +1,7 @@
 // Values as they are compared, lent: no text is copied, and a stored text is read only where its bytes decide.
 ghost use Rattle.std.specs.Prelude.{◌≡◌, IsSome};
 ghost use Rattle.std.specs.Cmp.Lexicographic.{slice_cmp};
-ghost use Rattle.std.specs.Ordering.{nat_cmp};
+ghost use Rattle.std.specs.Ordering.{int_cmp, nat_cmp};
 ghost use Rattle.sql_values.specs.Dictionary.{text_of};
 ghost use Rattle.sql_values.specs.Truth.{holds, comparison, AreComparable};
 ghost use Rattle.query_block.specs.Cells.{cell_value, text_at, IsCell};
@@ -42,7 +42,22 @@ fn holds_of_codes(op: Op, a: i64, b: i64, texts: &Texts) -> bool
     }
 }
 
+// Whether an operator holds of two numbers.
+fn holds_of_numbers(op: Op, a: i64, b: i64) -> bool
+    ensures { result ≡ holds op (int_cmp a b) }
+{
+    match op {
+        Op::Eq => a == b,
+        Op::Ne => a != b,
+        Op::Lt => a < b,
+        Op::Le => a <= b,
+        Op::Gt => a > b,
+        Op::Ge => a >= b,
+    }
+}
+
 /// What a comparison of two cells comes to (SQL-92, 8.2).
+#[inline(always)]
 pub(crate) fn compare_cells(op: Op, a: Cell<'_>, b: Cell<'_>, texts: &Texts) -> Truth
     requires left { IsCell texts.now a }
     requires right { IsCell texts.now b }
@@ -52,7 +67,7 @@ pub(crate) fn compare_cells(op: Op, a: Cell<'_>, b: Cell<'_>, texts: &Texts) -> 
     match a {
         Cell::Null => Truth::Unknown,
         Cell::Int(a) => match b {
-            Cell::Int(b) => certain(holds(op, a.cmp(&b))),
+            Cell::Int(b) => certain(holds_of_numbers(op, a, b)),
             _ => Truth::Unknown,
         },
         Cell::Code(a) => match b {

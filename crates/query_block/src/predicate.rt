@@ -13,6 +13,7 @@ use crate::row::Row;
 use sql_values::{ColumnType, NULL_WORD, Op, Texts, Truth, Value, and, or};
 
 // The cell of a word.
+#[inline(always)]
 fn cell_of<'a>(kind: ColumnType, word: i64, texts: &Texts) -> Cell<'a>
     requires { IsWord texts.now kind word }
     ensures is { IsCell texts.now result }
@@ -28,6 +29,7 @@ fn cell_of<'a>(kind: ColumnType, word: i64, texts: &Texts) -> Cell<'a>
 }
 
 // The cell of a column.
+#[inline(always)]
 fn column_cell<'a>(column: u8, row: &Row<'_>) -> Cell<'a>
     requires row { IsRow row.now }
     requires column { column < length row.now.columns.now }
@@ -39,6 +41,7 @@ fn column_cell<'a>(column: u8, row: &Row<'_>) -> Cell<'a>
 }
 
 // The cell of an operand.
+#[inline(always)]
 fn operand_cell<'a>(operand: &'a Operand, row: &Row<'_>) -> Cell<'a>
     requires row { IsRow row.now }
     requires operand { IsOperand row.now.columns.now operand.now }
@@ -57,6 +60,7 @@ fn operand_cell<'a>(operand: &'a Operand, row: &Row<'_>) -> Cell<'a>
 }
 
 // Compares a cell with an operand.
+#[inline(always)]
 fn compare_with(op: Op, left: Cell<'_>, right: &Operand, row: &Row<'_>) -> Truth
     requires row { IsRow row.now }
     requires left { IsCell row.now.texts.now left }
