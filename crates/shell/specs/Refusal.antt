@@ -43,6 +43,10 @@ limit_line limit value = error_line (codes "E12 limit " ++ (limit_word limit ++ 
 abbrev pub no_table_line : List ℕ → List ℕ
 no_table_line name = error_line (codes "E03 table " ++ name)
 
+-- there is no such column
+abbrev pub no_column_line : List ℕ → List ℕ
+no_column_line name = error_line (codes "E04 column " ++ name)
+
 -- the name stands already
 abbrev pub duplicate_line : List ℕ → List ℕ
 duplicate_line name = error_line (codes "E06 duplicate " ++ name)
@@ -74,7 +78,7 @@ not_loaded_line load.NoMemory = error_line []
 -- a query that can't be bound; out of memory refuses nothing
 abbrev pub not_bound_line : BindFault → List ℕ
 not_bound_line (bind.UnknownTable name) = no_table_line name
-not_bound_line (bind.UnknownColumn name) = error_line (codes "E04 column " ++ name)
+not_bound_line (bind.UnknownColumn name) = no_column_line name
 not_bound_line (bind.Ambiguous name) = error_line (codes "E05 ambiguous " ++ name)
 not_bound_line (bind.DuplicateAlias name) = duplicate_line name
 not_bound_line (bind.TypeMismatch predicate) = error_line (codes "E07 " ++ (codes "type" ++ spaced predicate))
@@ -91,6 +95,7 @@ abbrev pub line_of : Refusal → List ℕ
 line_of (refusal.NoToken fault) = no_token_line fault
 line_of (refusal.NoStatement place) = error_line (codes "E02 " ++ (codes "syntax" ++ spaced place))
 line_of (refusal.NoTable name) = no_table_line name
+line_of (refusal.NoColumn name) = no_column_line name
 line_of (refusal.NotMade fault) = not_made_line fault
 line_of (refusal.NotBound fault) = not_bound_line fault
 line_of (refusal.AbsentFile name) = error_line (codes "E09 absent " ++ name)

@@ -1,15 +1,18 @@
 -- The answer to a script: its statements one after another, up to and with the first that is refused.
-use Rattle.std.specs.Prelude.{ℕ, ◌+◌, nat_le, Bool, true, false, List, [], ◌∷◌, ◌++◌, length, Option, Some, None, Result, Ok, Err, if◌then◌else◌}
+use Rattle.std.specs.Prelude.{ℕ, ◌+◌, nat_le, map, position, Bool, true, false, List, [], ◌∷◌, ◌++◌, length, Option, Some, None, Result, Ok, Err, if◌then◌else◌}
+use Rattle.std.specs.Str.{bytes_eq}
 use Rattle.sql_values.specs.Limits.{max_file_bytes}
+use Rattle.sql_values.specs.declared.column.ColumnDef.{ColumnDef}
 use Rattle.sql_values.specs.declared.limit.LimitName.TheVariants as limit
 use Rattle.sql_values.specs.Stored.{ValueRow}
 use Rattle.query_block.specs.Blocks.{BlockTree}
 use Rattle.plan_tree.specs.Work.{work_of}
+use Rattle.sql_parse.specs.declared.tree.IndexDef.{IndexDef}
 use Rattle.sql_parse.specs.declared.tree.TableDef.{TableDef}
 use Rattle.sql_parse.specs.Trees.{QueryTree, StatementTree, CreateTable, CreateIndex, Load, Select, Compile, Run, Explain, SaveFile, OpenFile, Audit}
 use Rattle.db_catalog.specs.declared.fault.DbFault.{DbFault}
-use Rattle.db_catalog.specs.Database.{DatabaseState, new_table, table_number, with_table, with_rows}
-use Rattle.db_catalog.specs.Refused.{creation_fault}
+use Rattle.db_catalog.specs.Database.{DatabaseState, new_table, table_at, table_number, with_index, with_table, with_rows}
+use Rattle.db_catalog.specs.Refused.{creation_fault, index_fault}
 use Rattle.csv_load.specs.declared.fault.LoadFault.{LoadFault}
 use Rattle.csv_load.specs.Load.{load_due}
 use Rattle.sql_bind.specs.declared.fault.BindFault.{BindFault}
@@ -47,6 +50,26 @@ at_number name go (Some number) = go number
 abbrev pub at_table : SessionState → List ℕ → (ℕ → Outcome) → Outcome
 at_table state name go = at_number name go (table_number state name)
 
+-- the number of the column of this name, where there is one
+abbrev pub column_number : List ColumnDef → List ℕ → Option ℕ
+column_number columns name = position (bytes_eq name) (map (λ column. column.name) columns)
+
+-- an index made, where nothing speaks against it
+abbrev pub indexed : SessionState → List ℕ → (table column : ℕ) → Option DbFault → Outcome
+indexed state name table column None = Prints [] 0 (with_index state name table column)
+indexed state name table column (Some fault) = Refuses (refusal.NotMade fault)
+
+-- what comes of the statement at the column of this number, where the name has one; else it is refused
+abbrev pub at_column : List ℕ → (ℕ → Outcome) → Option ℕ → Outcome
+at_column name go None = Refuses (refusal.NoColumn name)
+at_column name go (Some number) = go number
+
+-- an index of a column of the table of this number
+abbrev pub make_index : SessionState → IndexDef → (table : ℕ) → Outcome
+make_index state index table =
+    at_column index.column (λ column. indexed state index.name table column (index_fault state index.name table column))
+    (column_number (table_at state table).columns index.column)
+
 -- the rows of a file appended to the table of this number
 abbrev pub with_loaded : SessionState → ℕ → Result (List ValueRow) LoadFault → Outcome
 with_loaded state number (Ok rows) = Prints (load_line (length rows)) 0 (with_rows state number rows)
@@ -80,9 +103,9 @@ answer_query state query = unless_refused (bind_fault state query) (answer_block
 -- what comes of a statement, with the file that the folder gives under the name that it loads
 abbrev pub outcome : SessionState → StatementTree → Option (List ℕ) → Outcome
 outcome state (CreateTable table) file = make_table state table
+outcome state (CreateIndex index) file = at_table state index.table (λ table. make_index state index table)
 outcome state (Load load) file = at_table state load.table (λ number. load_file state number load.file file)
 outcome state (Select query) file = answer_query state query
-outcome state (CreateIndex index) file = Refuses (refusal.Later later.Statement)
 outcome state (Compile name levels threshold query) file = Refuses (refusal.Later later.Statement)
 outcome state (Run name) file = Refuses (refusal.Later later.Statement)
 outcome state (Explain name) file = Refuses (refusal.Later later.Statement)

@@ -7,6 +7,7 @@
 mod book;
 mod columns;
 mod lines;
+mod named;
 mod plan;
 mod program;
 mod query;

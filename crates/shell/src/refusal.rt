@@ -1,6 +1,6 @@
 // Why a script or a statement is refused: each refusal is a value, and becomes its line here alone.
 ghost use Rattle.std.specs.Prelude.{◌≡◌, ◌++◌, IfOk, OnOk, codes, decimal};
-ghost use Rattle.shell.specs.Refusal.{line_of, error_line, limit_line, no_table_line, duplicate_line, not_made_line, not_bound_line, field_line, fields_line, not_loaded_line, no_token_line, token_fault_word, later_word};
+ghost use Rattle.shell.specs.Refusal.{line_of, error_line, limit_line, no_table_line, no_column_line, duplicate_line, not_made_line, not_bound_line, field_line, fields_line, not_loaded_line, no_token_line, token_fault_word, later_word};
 
 use csv_load::LoadFault;
 use db_catalog::DbFault;
@@ -27,7 +27,9 @@ pub(crate) enum Refusal {
     NoStatement(usize),
     /// There is no table of this name.
     NoTable(Name),
-    /// The database refuses a table.
+    /// The table has no column of this name.
+    NoColumn(Name),
+    /// The database refuses a table or an index.
     NotMade(DbFault),
     /// The query can't be bound.
     NotBound(BindFault),
@@ -111,6 +113,13 @@ fn no_table_line(alloc: Global, name: &[u8]) -> Result<Vec<u8>, AllocError>
     error_line(alloc, "E03 table ", name)
 }
 
+// There is no column of this name.
+fn no_column_line(alloc: Global, name: &[u8]) -> Result<Vec<u8>, AllocError>
+    ensures { IfOk result (λ line. line.items ≡ no_column_line name.now) }
+{
+    error_line(alloc, "E04 column ", name)
+}
+
 // This name stands already.
 fn duplicate_line(alloc: Global, name: &[u8]) -> Result<Vec<u8>, AllocError>
     ensures { IfOk result (λ line. line.items ≡ duplicate_line name.now) }
@@ -135,7 +144,7 @@ fn not_bound_line(alloc: Global, fault: &BindFault) -> Result<Vec<u8>, AllocErro
 {
     match fault {
         BindFault::UnknownTable { name } => no_table_line(alloc, name.bytes()),
-        BindFault::UnknownColumn { name } => error_line(alloc, "E04 column ", name.bytes()),
+        BindFault::UnknownColumn { name } => no_column_line(alloc, name.bytes()),
         BindFault::Ambiguous { name } => error_line(alloc, "E05 ambiguous ", name.bytes()),
         BindFault::DuplicateAlias { name } => duplicate_line(alloc, name.bytes()),
         BindFault::TypeMismatch { predicate } => {
@@ -214,6 +223,7 @@ pub(crate) fn refusal_line(alloc: Global, refusal: &Refusal) -> Result<Vec<u8>, 
         Refusal::NoToken(fault) => no_token_line(alloc, fault),
         Refusal::NoStatement(place) => number_line(alloc, "E02 ", "syntax", *place as u128),
         Refusal::NoTable(name) => no_table_line(alloc, name.bytes()),
+        Refusal::NoColumn(name) => no_column_line(alloc, name.bytes()),
         Refusal::NotMade(fault) => not_made_line(alloc, fault),
         Refusal::NotBound(fault) => not_bound_line(alloc, fault),
         Refusal::AbsentFile(name) => error_line(alloc, "E09 absent ", name.bytes()),

@@ -8,19 +8,20 @@ ghost use Rattle.sql_parse.specs.Counts.{of_condition, predicates_in, predicates
 ghost use Rattle.sql_values.specs.Limits.{max_script_bytes};
 ghost use Rattle.shell.specs.Limits.{max_work};
 ghost use Rattle.csv_load.specs.Load.{load_due};
-ghost use Rattle.shell.specs.Script.{Refuses, nothing_made, answer_query, at_table, make_table, with_loaded};
+ghost use Rattle.shell.specs.Script.{Refuses, nothing_made, answer_query, at_table, make_index, make_table, with_loaded};
 ghost use Rattle.shell.specs.Stop.{StopsAt};
 ghost use Rattle.shell.specs.Due.{ReadsFile, ReturnsDue, ReturnsFree, LoadsFile, IsCarriedOut};
 
 use crate::book::Book;
 use crate::lines;
+use crate::named::{column_of, no_column, no_table};
 use crate::query::answer;
 use crate::refusal::{Later, Refusal};
 use crate::stop::Stop;
 use db_catalog::{Database, Metered};
 use outside_io::{FileFault, Folder};
 use sql_bind::bind;
-use sql_parse::{LoadDef, Name, Query, Statement, TableDef};
+use sql_parse::{IndexDef, LoadDef, Query, Statement, TableDef};
 use sql_values::{LimitName, Text};
 use std::alloc::Global;
 use std::marker::Model;
@@ -46,17 +47,6 @@ fn absent_file(name: &Text) -> Stop
 {
     match name.clone() {
         Ok(name) => Stop::Refused(Refusal::AbsentFile(name)),
-        Err(_) => Stop::NoMemory,
-    }
-}
-
-// There is no table of this name.
-fn no_table(name: &Name) -> Stop
-    ensures refusal { StopsAt (Refuses (Refusal.NoTable name.now)) result }
-    ensures no_fault { result ≡ Stop.ReadFault → ⊥ }
-{
-    match name.clone() {
-        Ok(name) => Stop::Refused(Refusal::NoTable(name)),
         Err(_) => Stop::NoMemory,
     }
 }
@@ -121,6 +111,24 @@ impl Session {
     {
         self.database
             .create_table(table.name.bytes(), table.columns.as_slice())?;
+        Ok(Vec::new(alloc))
+    }
+
+    // Makes an index, which prints nothing.
+    fn create_index(&mut self, alloc: Global, index: &IndexDef) -> Result<Vec<u8>, Stop>
+        ensures due { ReturnsFree (at_table self.old index.now.table
+            (λ table. make_index self.old index.now table)) result self.new }
+        ensures no_fault { IsErrOf result Stop.ReadFault → ⊥ }
+        ensures unchanged { OnErr result (self.new ≡ self.old) }
+    {
+        let Some(table) = self.database.table_of(index.table.bytes()) else {
+            return Err(no_table(&index.table));
+        };
+        let Some(column) = column_of(self.database.columns(table), &index.column) else {
+            return Err(no_column(&index.column));
+        };
+        self.database
+            .create_index(index.name.bytes(), table, column)?;
         Ok(Vec::new(alloc))
     }
 
@@ -200,9 +208,9 @@ impl Session {
     {
         match statement {
             Statement::CreateTable(table) => self.create(alloc, table),
+            Statement::CreateIndex(index) => self.create_index(alloc, index),
             Statement::Load(load) => self.load(alloc, load, folder),
             Statement::Select(query) => self.select(alloc, query, book),
-            Statement::CreateIndex(_) => Err(later(Later::Statement)),
             Statement::Compile(_) => Err(later(Later::Statement)),
             Statement::Run(_) => Err(later(Later::Statement)),
             Statement::Explain(_) => Err(later(Later::Statement)),

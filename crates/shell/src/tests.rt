@@ -97,7 +97,7 @@ struct Case<'a> {
     text: &'a [u8],
 }
 
-static CASES: [Case<'static>; 50] = [
+static CASES: [Case<'static>; 54] = [
     Case {
         name: "nothing",
         script: b"",
@@ -400,11 +400,39 @@ static CASES: [Case<'static>; 50] = [
         text: b"error E12 limit axes 7\n",
     },
     Case {
-        name: "an index",
+        name: "an index of no table",
         script: b"CREATE INDEX I ON T (A)",
         file: ROWS,
         status: Status::Refused,
-        text: LATER_STATEMENT,
+        text: b"error E03 table T\n",
+    },
+    Case {
+        name: "an index of no column",
+        script: b"CREATE TABLE T (A INTEGER, B INTEGER); CREATE INDEX I ON T (C)",
+        file: ROWS,
+        status: Status::Refused,
+        text: b"error E04 column C\n",
+    },
+    Case {
+        name: "the name of an index twice",
+        script: b"CREATE TABLE T (A INTEGER, B INTEGER); CREATE INDEX I ON T (A); CREATE INDEX I ON T (A)",
+        file: ROWS,
+        status: Status::Refused,
+        text: b"error E06 duplicate I\n",
+    },
+    Case {
+        name: "a column indexed twice",
+        script: b"CREATE TABLE T (A INTEGER, B INTEGER); CREATE INDEX I ON T (A); CREATE INDEX J ON T (A)",
+        file: ROWS,
+        status: Status::Refused,
+        text: b"error E06 duplicate A\n",
+    },
+    Case {
+        name: "indexes before and between loads",
+        script: b"CREATE TABLE T (A INTEGER, B INTEGER); CREATE INDEX I ON T (B); LOAD 't.csv' INTO T; CREATE INDEX J ON T (A); LOAD 't.csv' INTO T; SELECT * FROM T",
+        file: ROWS,
+        status: Status::Done,
+        text: b"-- load rows=3\n-- load rows=3\nA,B\n,5\n,5\n1,1\n1,1\n2,\n2,\n-- rows=6 work=21 runs=1 contour=1 plan=S0\n",
     },
     Case {
         name: "COMPILE",
