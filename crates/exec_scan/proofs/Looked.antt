@@ -19,9 +19,10 @@ use Rattle.exec_scan.proofs.Parts.{size}
 
 -- a refusal while more is due than may be paid
 pub refused : {T : Type 0} (old new : Left) (before after : Account) (result : Result T Exhausted) (fault : Exhausted) → IsErrAnd result (λ x. x ≡ fault)
-    → after.spent ≡ after.limit → before.limit < before.spent + old.due → after.limit ≡ before.limit → PaysDue old new before after result
-refused old new before after (Ok x) fault is spent more limit = absurd is
-refused old new before after (Err x) fault is spent more limit = record { paid = tt; refused = (spent, more); limit = limit }
+    → after.spent ≡ after.limit → before.limit < before.spent + old.due → after.limit ≡ before.limit → before.spent ≤ after.spent → PaysDue old new before after result
+refused old new before after (Ok x) fault is spent more limit more_spent = absurd is
+refused old new before after (Err x) fault is spent more limit more_spent =
+    record { paid = tt; refused = (spent, more); limit = limit; never_falls = more_spent }
 
 pub of_relation : (block : BlockTree) (before after : TableScanState) → Moves before after → IsOfRelation block before → IsOfRelation block after
 of_relation block before after moves is =
