@@ -5,7 +5,7 @@ ghost use Rattle.std.specs.List.Sorted.{IsPermutation};
 ghost use Rattle.work_ledger.specs.Account.{Pays};
 ghost use Rattle.work_ledger.specs.Charges.{node_charge};
 ghost use Rattle.btree_index.specs.Height.{height_of};
-ghost use Rattle.btree_index.specs.Entries.{IsInOrder, IsOn, entries_left, first_row, is_within, next_charge};
+ghost use Rattle.btree_index.specs.Entries.{HaveWords, IsInOrder, IsOn, entries_left, first_row, is_within, next_charge};
 
 use std::alloc::{AllocError, Global};
 use std::marker::Model;
@@ -54,6 +54,15 @@ fn height_for(entries: u64) -> u32
     height
 }
 
+// What the type of entries says of the word of each is known of all after it. It does nothing.
+fn know_words(entries: &[(i64, u64)])
+    ensures { HaveWords entries.now }
+{
+    for place in 0..entries.len() {
+        let _word = entries[place].0;
+    }
+}
+
 #[tactic(auto, using(crate::proofs::OfCursors::of_cursors))]
 impl Index {
     /// The index of these entries, each a word and the number of its row.
@@ -63,6 +72,7 @@ impl Index {
     {
         let mut sorted = Vec::from_slice(alloc, entries)?;
         sorted.sort_unstable();
+        know_words(&sorted);
         let height = height_for(sorted.len() as u64);
         Ok(Index {
             entries: sorted,
@@ -78,6 +88,7 @@ impl Index {
         let mut sorted = Vec::from_slice(alloc, &self.entries)?;
         sorted.extend_from_slice(more)?;
         sorted.sort()?;
+        know_words(&sorted);
         let height = height_for(sorted.len() as u64);
         Ok(Index {
             entries: sorted,
@@ -105,6 +116,7 @@ impl Index {
         ensures range { IfOk result
             (λ cursor. entries_left self.now cursor ≡ filter (is_within from to) self.now) }
         ensures placed { IfOk result (λ cursor. IsOn self.now cursor) }
+        ensures words { HaveWords self.now }
         ensures pays { Pays (node_charge * height_of (length self.now)) ledger.old ledger.new result }
     {
         ledger.pay(charge::NODE * self.height as u128)?;
