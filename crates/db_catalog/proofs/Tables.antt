@@ -13,7 +13,7 @@ use Rattle.sql_values.specs.Words.{IsWord}
 use Rattle.sql_values.specs.Stored.{StandsFor, IsRowOf, AreWords, row_of}
 use Rattle.sql_values.proofs.Stored.{StandsFor-row_of}
 use Rattle.db_catalog.specs.declared.table.Table.{Table}
-use Rattle.db_catalog.specs.Database.{DatabaseState, new_table, table_at, row_at, table_number, IsRowAt}
+use Rattle.db_catalog.specs.Database.{DatabaseState, new_table, table_at, row_at, table_number, IsRowAt, StandAsWords}
 use Rattle.db_catalog.specs.Indexes.{entries_from, ordered, index_at, kept_index}
 use Rattle.db_catalog.specs.Kept.{MeanRows, IsWide, HasWords, HasColumn, stored_table, IsKept, AreKept}
 use Rattle.db_catalog.proofs.OfIndexes.{entries_seen}
@@ -127,3 +127,12 @@ pub index_seen : (names texts : List (List ℕ)) (tables : List Table) (number c
 index_seen names texts tables number column table kept there is =
     ap (λ t. ordered (entries_from texts column 0 t.rows)) (table_at-database_of texts tables number table there is)
     ∙ ap ordered (entries_seen texts table.columns.items column 0 table.heap.rows kept.distinct_texts (kept_at names texts tables number table kept there is).rows)
+
+-- each row of a table that is seen stands as words
+pub rows_stand : (names texts : List (List ℕ)) (tables : List Table) (number : ℕ) → AreKept names texts tables → number < length tables → StandAsWords (database_of texts tables) number
+rows_stand names texts tables number kept there i within =
+    let (table, (at, is)) = some_at tables number there in
+    let count = ap (λ t. length t.rows) (table_at-database_of texts tables number table there is) in
+    let here : i < length table.heap.rows = omega (arith, within, count, length-map table.heap.rows (row_of texts table.columns.items)) in
+    let (words, (row, read)) = some_at table.heap.rows i here in
+    (words, row_is_seen names texts tables number i table words kept there is row)

@@ -1,5 +1,5 @@
 -- What is seen of a database, and what its calls make of it.
-use Rattle.std.specs.Prelude.{◌≡◌, ℕ, ◌*◌, ◌/◌, List, [], ◌∷◌, ◌++◌, Option, All, length, map, position, slice_index_or, slice_set, ℤ}
+use Rattle.std.specs.Prelude.{◌≡◌, ℕ, ◌<◌, ◌*◌, ◌/◌, List, [], ◌∷◌, ◌++◌, Option, All, length, map, position, slice_index_or, slice_set, ℤ}
 use Rattle.std.specs.Str.{bytes_eq}
 use Rattle.sql_values.specs.declared.column.ColumnDef.{ColumnDef}
 use Rattle.sql_values.specs.Dictionary.{with_texts}
@@ -60,6 +60,11 @@ abbrev pub IsRowAt : DatabaseState → ℕ → ℕ → List ℤ → Type 0
 IsRowAt database number i words =
     let table = table_at database number in
     StandsFor database.texts table.columns words (row_at table i)
+
+-- each row of the table of this number stands in it as words
+abbrev pub StandAsWords : DatabaseState → (number : ℕ) → Type 0
+StandAsWords database number =
+    (i : ℕ) → i < length (table_at database number).rows → (words : List ℤ) × IsRowAt database number i words
 
 -- values that follow one another, as rows of these columns
 abbrev pub rows_in : List ColumnDef → List Value → List ValueRow

@@ -6,9 +6,9 @@ ghost use Rattle.std.specs.Prelude.{IsSomeAnd, slice_get, filter, drop};
 ghost use Rattle.std.specs.List.{IsDistinct};
 ghost use Rattle.std.specs.Str.{bytes_eq};
 ghost use Rattle.sql_values.specs.Limits.{max_tables, max_columns, max_rows};
-ghost use Rattle.btree_index.specs.Entries.{IsOn, entries_left, first_row, is_within, next_charge};
+ghost use Rattle.btree_index.specs.Entries.{HaveWords, IsOn, entries_left, first_row, is_within, next_charge};
 ghost use Rattle.db_catalog.specs.Database.{with_table, with_rows, with_index, new_table, rows_in};
-ghost use Rattle.db_catalog.specs.Database.{table_at, table_number, FillRows, IsRowAt};
+ghost use Rattle.db_catalog.specs.Database.{table_at, table_number, FillRows, IsRowAt, StandAsWords};
 ghost use Rattle.db_catalog.specs.Meter.{table_pages, page_rows, HasSlot, IsRowIn};
 ghost use Rattle.work_ledger.specs.Account.{Pays};
 ghost use Rattle.work_ledger.specs.Charges.{page_charge, row_charge, fetch_charge, node_charge};
@@ -436,6 +436,8 @@ impl Database {
         ensures range { IfOk result (λ cursor. entries_left (index_at self.now table column) cursor
             ≡ filter (is_within from to) (index_at self.now table column)) }
         ensures placed { IfOk result (λ cursor. IsOn (index_at self.now table column) cursor) }
+        ensures words { HaveWords (index_at self.now table column) }
+        ensures rows { StandAsWords self.now table }
         ensures pays { Pays (node_charge * index_height self.now table column) ledger.old ledger.new result }
     {
         self.tables[table as usize]

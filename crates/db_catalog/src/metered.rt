@@ -2,11 +2,11 @@
 // rows for as long as the database is lent.
 ghost use Rattle.std.specs.Prelude.{◌≡◌, ◌+◌, ◌*◌, ◌<◌, ◌≤◌, ◌^◌, length, filter, drop, Contains};
 ghost use Rattle.std.specs.Prelude.{IfOk, IfSome, OnOk, OnErr};
-ghost use Rattle.btree_index.specs.Entries.{IsOn, entries_left, first_row, is_within, next_charge};
+ghost use Rattle.btree_index.specs.Entries.{HaveWords, IsOn, entries_left, first_row, is_within, next_charge};
 ghost use Rattle.work_ledger.specs.Account.{IsInBounds};
 ghost use Rattle.work_ledger.specs.Charges.{page_charge, row_charge, fetch_charge, node_charge};
 ghost use Rattle.sql_values.specs.Limits.{max_columns, max_rows};
-ghost use Rattle.db_catalog.specs.Database.{table_at, IsRowAt};
+ghost use Rattle.db_catalog.specs.Database.{table_at, IsRowAt, StandAsWords};
 ghost use Rattle.db_catalog.specs.Indexes.{index_at, index_height};
 ghost use Rattle.db_catalog.specs.Meter.{Reads, HasSlot, table_pages, page_rows, IsRowIn};
 
@@ -155,7 +155,7 @@ impl<'d> Metered<'d> {
     }
 
     /// Descends in the index of a column to the entries with words from `from` to `to`, both included, which pays for each
-    /// level. There are none where `from` is greater than `to`, and none for NULL.
+    /// level. There are none where `from` is greater than `to`, and none for NULL. What the entries and the rows are is told.
     pub fn seek(&mut self, table: u32, column: u8, from: i64, to: i64) -> Result<Cursor, Exhausted>
         requires there { table < length self.old.database.tables }
         requires indexed { Contains (table_at self.old.database table).indexed column }
@@ -164,6 +164,8 @@ impl<'d> Metered<'d> {
             ≡ filter (is_within from to) (index_at self.old.database table column)) }
         ensures placed { IfOk result (λ cursor.
             IsOn (index_at self.old.database table column) cursor) }
+        ensures words { HaveWords (index_at self.old.database table column) }
+        ensures rows { StandAsWords self.old.database table }
         ensures reads { Reads (node_charge * index_height self.old.database table column)
             self.old self.new result }
     {

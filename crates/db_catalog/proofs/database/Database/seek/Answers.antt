@@ -3,11 +3,12 @@ use Rattle.std.proofs.lemmas.Int.{to_z-of_z}
 use Rattle.std.proofs.lemmas.List.Sorted.{length_permutation}
 use Rattle.work_ledger.specs.Account.{Pays}
 use Rattle.work_ledger.specs.Charges.{node_charge}
-use Rattle.btree_index.specs.Entries.{IsOn, entries_left, is_within}
+use Rattle.btree_index.specs.Entries.{HaveWords, IsOn, entries_left, is_within}
 use Rattle.btree_index.specs.Height.{height_of}
+use Rattle.db_catalog.specs.Database.{StandAsWords}
 use Rattle.db_catalog.specs.Indexes.{column_entries, index_at}
 use Rattle.db_catalog.proofs.EntryOrder.{ordered_same}
-use Rattle.db_catalog.proofs.Tables.{is_kept, index_seen}
+use Rattle.db_catalog.proofs.Tables.{is_kept, index_seen, rows_stand}
 use Rattle.db_catalog.proofs.database.Database.seek.Goals as goal
 
 -- the index is the one that is seen
@@ -32,3 +33,11 @@ returns-clause-pays c =
     let entries = column_entries c.args.self.now c.args.table c.args.column in
     subst (λ n. Pays (node_charge * height_of n) c.args.ledger.now c.seek.new.ledger c.seek.result)
     (ap length (seen c) ∙ length_permutation entries (index_at c.args.self.now c.args.table c.args.column) (ordered_same entries)) c.seek.ensures.pays
+
+pub returns-clause-words : goal.returns-clause-words
+returns-clause-words c = subst HaveWords (seen c) c.seek.ensures.words
+
+pub returns-clause-rows : goal.returns-clause-rows
+returns-clause-rows c =
+    let there : c.args.table < length c.self.inside.tables.items = is_kept _ _ _ _ c.self.view_is c.requires.there in
+    subst (λ db. StandAsWords db c.args.table) c.self.view_is (rows_stand _ _ c.self.inside.tables.items _ c.self.invariant there)
