@@ -3,3 +3,5 @@ pub mod Parts
 pub mod Relations
 pub mod Looked
 pub mod Written
+pub mod Ranges
+pub mod Narrowing
