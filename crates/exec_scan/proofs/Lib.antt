@@ -5,3 +5,8 @@ pub mod Looked
 pub mod Written
 pub mod Ranges
 pub mod Narrowing
+pub mod IndexEntries
+pub mod ReadRows
+pub mod IndexedRows
+pub mod Usable
+pub mod IndexLeft

@@ -13,7 +13,7 @@ use Rattle.db_catalog.specs.Database.{DatabaseState, table_at}
 use Rattle.db_catalog.specs.Fits.{Fits, FitsTable}
 use Rattle.plan_tree.specs.Left.{Left, PaysDue}
 use Rattle.exec_scan.specs.State.{TableScanState}
-use Rattle.exec_scan.specs.Scanning.{rows_ahead, placed, table_scan_left, look_due, LooksAt, Moves, IsOfRelation}
+use Rattle.exec_scan.specs.Scanning.{rows_ahead, placed, table_scan_left, look_due, LooksAt, Moves, AreOfRelation, IsOfRelation}
 use Rattle.exec_scan.proofs.Relations.{relation_words, relation_values}
 use Rattle.exec_scan.proofs.Parts.{size}
 
@@ -26,12 +26,12 @@ refused old new before after (Err x) fault is spent more limit more_spent =
 
 pub of_relation : (block : BlockTree) (before after : TableScanState) → Moves before after → IsOfRelation block before → IsOfRelation block after
 of_relation block before after moves is =
-    subst (IsOfRelation block) (sym moves) (record { exists = is.exists; table = is.table; columns = is.columns; offset = is.offset })
+    subst (IsOfRelation block) (sym moves) (record { exists = is.exists; table_is = is.table_is; columns_are = is.columns_are; offset_is = is.offset_is })
 
 -- the relation's words lie inside a row
-pub inside : (block : BlockTree) (scan : TableScanState) → IsOfRelation block scan → scan.offset + scan.columns ≤ width_of block
-inside block scan is =
-    omega (arith, is.offset, is.columns, sum_by_more_le size block.relations scan.relation (record { table = 0; columns = []; filter = []; indexes = [] }) is.exists)
+pub inside : (block : BlockTree) (relation table columns offset : ℕ) → AreOfRelation block relation table columns offset → offset + columns ≤ width_of block
+inside block relation table columns offset is =
+    omega (arith, is.offset_is, is.columns_are, sum_by_more_le size block.relations relation (record { table = 0; columns = []; filter = []; indexes = [] }) is.exists)
 
 -- what is left before and after, where the row comes or passes by
 pub record Leaves (tables : List StoredTable) (block : BlockTree) (before after : TableScanState) (row : ValueRow) (comes : Bool) : Type 0 where
@@ -57,7 +57,7 @@ counted x xs false = omega arith
 module _ (database : DatabaseState) (block : BlockTree) (before after : TableScanState) (words : List ℤ) (fits : Fits database block)
     (is : IsOfRelation block before) (moves : Moves before after) (looks : LooksAt database before after words) where
   stands : StandsFor database.texts (table_at database (relation_at block.relations before.relation).table).columns words looks.0
-  stands = subst (λ (table : ℕ). StandsFor database.texts (table_at database table).columns words looks.0) is.table looks.2
+  stands = subst (λ (table : ℕ). StandsFor database.texts (table_at database table).columns words looks.0) is.table_is looks.2
 
   own_fits : FitsTable database (relation_at block.relations before.relation)
   own_fits = All-get_or (FitsTable database) block.relations before.relation _ is.exists fits
@@ -94,6 +94,6 @@ module _ (database : DatabaseState) (block : BlockTree) (before after : TableSca
         row = looks.0;
         are = are;
         values = relation_values database own own_fits words looks.0 stands;
-        wide = length-words database.texts own.columns words are ∙ sym is.columns ∙ sym (ap (λ (scan : TableScanState). scan.columns) moves);
+        wide = length-words database.texts own.columns words are ∙ sym is.columns_are ∙ sym (ap (λ (scan : TableScanState). scan.columns) moves);
         leaves = leaves_by;
       })

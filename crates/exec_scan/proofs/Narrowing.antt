@@ -165,9 +165,9 @@ by-no-code texts kind l old missing text (value.Text t) stored some = by (bytes_
         ∙ ap (λ b. is_in old own && b) (sym (true-certain (is_eq (slice_cmp nat_cmp t l)) ∙ is_eq-slice_cmp t l ∙ e))
 
 -- a comparison of another column narrows nothing
-apart : (range sides true_of : Bool) → sides ≡ false → (not (range && sides) || true_of) ≡ true
-apart true sides true_of none = ap (λ b. not b || true_of) none
-apart false sides true_of none = refl
+apart : (range sides met : Bool) → sides ≡ false → (not (range && sides) || met) ≡ true
+apart true sides met none = ap (λ b. not b || met) none
+apart false sides met none = refl
 
 apart-column : (column of : ℕ) → (of ≡ column → ⊥) → nat_eq column of ≡ false
 apart-column column of other = grind (arith, nat_tests)

@@ -6,6 +6,7 @@ use Rattle.sql_values.specs.declared.column.ColumnDef.{ColumnDef}
 use Rattle.sql_values.specs.Words.{value_of}
 use Rattle.sql_values.specs.Stored.{ValueRow, StandsFor, row_of, values_of, AreWords, AreWordsOf}
 use Rattle.query_block.specs.declared.block.Relation.{Relation}
+use Rattle.query_block.specs.Shape.{BlockShape}
 use Rattle.query_block.specs.Blocks.{RelationTree, relation_tree, relation_at}
 use Rattle.db_catalog.specs.Database.{DatabaseState, table_at}
 use Rattle.db_catalog.specs.Fits.{FitsTable}
@@ -15,6 +16,13 @@ pub relation_seen : (relations : List Relation) (number : ℕ) (relation : Relat
     → relation_at (map relation_tree relations) number ≡ relation_tree relation
 relation_seen relations number relation there is =
     get_or-map relation_tree relations number relation (record { table = 0; columns = []; filter = []; indexes = [] }) there ∙ ap relation_tree (sym is)
+
+-- the relation that is read, as it is seen
+pub own_relation : (block : BlockShape) (relation : Relation) (number other : ℕ) → relation ≡ get_or block.relations number relation → number ≡ other → other < length (map relation_tree block.relations)
+    → relation_at (map relation_tree block.relations) other ≡ relation_tree relation
+own_relation block relation number other is same there =
+    let below : number < length block.relations = subst (λ n. n < length block.relations) (sym same) (simp length-map at there) in
+    ap (relation_at (map relation_tree block.relations)) (sym same) ∙ relation_seen block.relations number relation below is
 
 -- so what is so of each relation of a block is so of that one
 pub of_each : (P : RelationTree → Type 0) (relations : List Relation) (number : ℕ) (relation : Relation) → number < length relations → relation ≡ get_or relations number relation

@@ -2,8 +2,7 @@
 use Rattle.std.proofs.Common.{◌≡◌, ℕ, ℤ, ◌+◌, ◌≤◌, List, ◌++◌, length, take, drop, sym, ap, subst, ◌∙◌, arith, length-append, length-drop}
 use Rattle.std.proofs.lemmas.List.{take_at, drop_at, drop-drop, length-take-le}
 use Rattle.query_block.specs.Blocks.{BlockTree, relation_at, offset_of, width_of}
-use Rattle.exec_scan.specs.State.{TableScanState}
-use Rattle.exec_scan.specs.Scanning.{IsOfRelation, KeepsOthers}
+use Rattle.exec_scan.specs.Scanning.{AreOfRelation, KeepsOthers}
 use Rattle.exec_scan.proofs.Looked.{inside}
 
 record Written (offset columns : ℕ) (row old new : List ℤ) : Type 0 where
@@ -32,18 +31,18 @@ pub record WrittenOf (block : BlockTree) (relation : ℕ) (row old new : List �
   pub stand : take (length (relation_at block.relations relation).columns) (drop (offset_of block relation) new) ≡ row
   pub long : length new ≡ width_of block
 
-pub written_of : (block : BlockTree) (relation : ℕ) (scan : TableScanState) (row old new : List ℤ) → IsOfRelation block scan → scan.relation ≡ relation
-    → length old ≡ width_of block → length row ≡ scan.columns → new ≡ take scan.offset old ++ (row ++ drop (scan.offset + scan.columns) old)
+pub written_of : (block : BlockTree) (relation number table columns offset : ℕ) (row old new : List ℤ) → AreOfRelation block number table columns offset → number ≡ relation
+    → length old ≡ width_of block → length row ≡ columns → new ≡ take offset old ++ (row ++ drop (offset + columns) old)
     → WrittenOf block relation row old new
-written_of block relation scan row old new of same long wide is =
-    let columns : scan.columns ≡ length (relation_at block.relations relation).columns = of.columns ∙ ap (λ n. length (relation_at block.relations n).columns) same in
-    let offset : scan.offset ≡ offset_of block relation = of.offset ∙ ap (offset_of block) same in
-    let done = written scan.offset scan.columns row old new (omega (arith, inside block scan of, long)) wide is in
+written_of block relation number table columns offset row old new of same long wide is =
+    let columns_are : columns ≡ length (relation_at block.relations relation).columns = of.columns_are ∙ ap (λ n. length (relation_at block.relations n).columns) same in
+    let offset_is : offset ≡ offset_of block relation = of.offset_is ∙ ap (offset_of block) same in
+    let done = written offset columns row old new (omega (arith, inside block number table columns offset of, long)) wide is in
     record {
       others = record {
-        before = subst (λ (n : ℕ). take n new ≡ take n old) offset done.before;
-        behind = subst (λ (n : ℕ). drop n new ≡ drop n old) (λ i. offset i + columns i) done.behind;
+        before = subst (λ (n : ℕ). take n new ≡ take n old) offset_is done.before;
+        behind = subst (λ (n : ℕ). drop n new ≡ drop n old) (λ i. offset_is i + columns_are i) done.behind;
       };
-      stand = (λ i. take (sym columns i) (drop (sym offset i) new)) ∙ done.stand;
+      stand = (λ i. take (sym columns_are i) (drop (sym offset_is i) new)) ∙ done.stand;
       long = done.long ∙ long;
     }

@@ -1,3 +1,4 @@
 pub mod State
 pub mod Scanning
 pub mod Ranges
+pub mod IndexScanning

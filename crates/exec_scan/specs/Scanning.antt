@@ -59,12 +59,15 @@ pub record IsInTable (database : DatabaseState) (scan : TableScanState) : Type 0
       ≡ min (scan.opened * rows_per_page scan.columns) (length (table_at database scan.table).rows)
   pub slot : scan.slot ≤ scan.slots
 
--- the table, the columns and their place are those of a relation of the block
-pub record IsOfRelation (block : BlockTree) (scan : TableScanState) : Type 0 where
-  pub exists : scan.relation < length block.relations
-  pub table : scan.table ≡ (relation_at block.relations scan.relation).table
-  pub columns : scan.columns ≡ length (relation_at block.relations scan.relation).columns
-  pub offset : scan.offset ≡ offset_of block scan.relation
+-- the table, the number of columns and their place are those of a relation of the block
+pub record AreOfRelation (block : BlockTree) (relation table columns offset : ℕ) : Type 0 where
+  pub exists : relation < length block.relations
+  pub table_is : table ≡ (relation_at block.relations relation).table
+  pub columns_are : columns ≡ length (relation_at block.relations relation).columns
+  pub offset_is : offset ≡ offset_of block relation
+
+abbrev pub IsOfRelation : BlockTree → TableScanState → Type 0
+IsOfRelation block scan = AreOfRelation block scan.relation scan.table scan.columns scan.offset
 
 -- a scan of a relation of the block over the tables of the database
 abbrev pub IsScanOver : DatabaseState → BlockTree → ScanState → Type 0

@@ -6,6 +6,7 @@
 //! It never takes memory, never copies a row that isn't given, and never reads a row unpaid.
 #![tactic(auto)]
 
+mod index_scan;
 mod range;
 mod scan_op;
 mod table_scan;
