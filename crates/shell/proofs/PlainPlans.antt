@@ -6,7 +6,7 @@ use Rattle.std.proofs.lemmas.List.Folds.{list_any-append}
 use Rattle.query_block.specs.Blocks.{BlockTree}
 use Rattle.plan_tree.specs.Plans.{PlanTree, Scan, Nest, leaves_of, has_leaf}
 use Rattle.plan_tree.specs.Enumerated.{IsSubPlan, IsPlan}
-use Rattle.exec_pipe.specs.Pipelines.{IsOfScansAndLoops}
+use Rattle.exec_pipe.specs.Pipelines.{IsRunnable}
 use Rattle.shell.specs.PlainPlan.{nested_plan, plain_plan}
 
 -- a relation more is joined to those before it
@@ -17,7 +17,7 @@ plain_more (suc further) some =
     let here : suc further - 1 ≡ further = omega arith in
     ap nested_plan next ∙ ap (λ (n : ℕ). Nest (nested_plan n) (Scan (suc further))) (sym here)
 
-pub of_loops : (further : ℕ) → IsOfScansAndLoops (nested_plan further)
+pub of_loops : (further : ℕ) → IsRunnable (nested_plan further)
 of_loops zero = tt
 of_loops (suc further) = (of_loops further, tt)
 

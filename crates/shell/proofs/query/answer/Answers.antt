@@ -4,7 +4,7 @@ use Rattle.std.proofs.lemmas.List.{length-map}
 use Rattle.query_block.specs.Blocks.{block_tree, relation_tree}
 use Rattle.plan_tree.specs.Enumerated.{IsPlan}
 use Rattle.plan_tree.specs.Plans.{PlanTree, plan_tree}
-use Rattle.exec_pipe.specs.Pipelines.{IsOfScansAndLoops}
+use Rattle.exec_pipe.specs.Pipelines.{IsRunnable}
 use Rattle.shell.specs.PlainPlan.{plain_plan}
 use Rattle.shell.proofs.PlainPlans.{is_plan, of_loops}
 use Rattle.shell.proofs.Widths.{width_some}
@@ -27,4 +27,4 @@ run_plan-requires-clause-kinds c =
     let few = c.relations.ensures.block.few in
     let same : length c.relations.result.now ≡ length block.relations = omega (arith, few, ap length c.relations.ensures.relations, length-map c.args.block.now.relations relation_tree) in
     let is : plan_tree c.in_ok-plan.plan ≡ plain_plan (length block.relations) = c.in_ok-plan.ensures ∙ ap plain_plan same in
-    subst IsOfScansAndLoops (sym is) (of_loops (length block.relations - 1))
+    subst IsRunnable (sym is) (of_loops (length block.relations - 1))
