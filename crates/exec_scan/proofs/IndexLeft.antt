@@ -1,5 +1,5 @@
 -- What a scan by an index has left before it descends: the rows of its relation, and the leaf's line of the table of work.
-use Rattle.std.proofs.Common.{◌≡◌, ℕ, ◌+◌, ◌*◌, ◌<◌, Bool, true, false, not, ◌&&◌, List, [], ◌∷◌, length, filter, map, flat_map, get_or, None, Option, refl, sym, ap, subst, ◌∙◌, arith}
+use Rattle.std.proofs.Common.{◌≡◌, ℕ, ◌+◌, ◌*◌, Bool, true, false, not, ◌&&◌, List, [], length, filter, map, flat_map, get_or, None, Option, refl, sym, ap, subst, ◌∙◌, arith}
 use Rattle.std.specs.Prelude.{count_by}
 use Rattle.std.specs.List.Sorted.{IsPermutation}
 use Rattle.std.proofs.lemmas.List.{length-map}
@@ -10,7 +10,7 @@ use Rattle.sql_values.specs.Stored.{ValueRow}
 use Rattle.sql_values.specs.Truth.{is_null}
 use Rattle.query_block.specs.Truth.{value_at}
 use Rattle.query_block.specs.Blocks.{BlockTree, relation_at, IsBlock}
-use Rattle.query_block.specs.Meaning.{Combination, meets_filter, rows_at, rows_of}
+use Rattle.query_block.specs.Meaning.{meets_filter, rows_at, rows_of}
 use Rattle.plan_tree.specs.Plans.{Scan, IndexScan, has_leaf}
 use Rattle.plan_tree.specs.Usable.{is_usable}
 use Rattle.plan_tree.specs.Enumerated.{HasUsable}
@@ -18,13 +18,13 @@ use Rattle.plan_tree.specs.Work.{height_in, matches_in, work_of}
 use Rattle.btree_index.specs.declared.index.Cursor.{Cursor}
 use Rattle.btree_index.specs.Entries.{IndexEntry}
 use Rattle.btree_index.specs.Height.{height_of}
-use Rattle.db_catalog.specs.Database.{DatabaseState, table_at, row_at}
-use Rattle.db_catalog.specs.Indexes.{column_entries, index_at, index_height, ordered}
+use Rattle.db_catalog.specs.Database.{DatabaseState, table_at}
+use Rattle.db_catalog.specs.Indexes.{column_entries, index_height, ordered}
 use Rattle.exec_scan.specs.State.{IndexScanState}
 use Rattle.exec_scan.specs.Scanning.{AreOfRelation, placed}
 use Rattle.exec_scan.specs.IndexScanning.{entries_to, entries_ahead, descent_due, index_scan_left, indexed_rows}
 use Rattle.exec_scan.proofs.LeafRows.{leaf_rows}
-use Rattle.exec_scan.proofs.IndexedRows.{if_some, picked, chosen, picks, chooses, all-picked, all-chosen, of-entries, of-ordered}
+use Rattle.exec_scan.proofs.IndexedRows.{picked, chosen, picks, chooses, all-picked, all-chosen, of-entries, of-ordered}
 use Rattle.exec_scan.proofs.Narrowing.{and-true}
 use Rattle.exec_scan.proofs.Usable.{meets-part, meets-some}
 

@@ -1,14 +1,12 @@
 -- The rows of a column's index: those of the table in which the column isn't NULL, in another order.
-use Rattle.std.proofs.Common.{◌≡◌, ℕ, zero, suc, ◌+◌, ◌*◌, ◌<◌, Bool, true, false, cond, not, ◌&&◌, ◌||◌, IsTrue, List, [], ◌∷◌, ◌++◌, length, filter, map, flat_map, drop, get_or, append_assoc, append-nil, length-append, refl, sym, ap, subst, ◌∙◌, arith}
-use Rattle.std.specs.Prelude.{if◌then◌else◌, count_by}
-use Rattle.std.specs.List.{list_any}
+use Rattle.std.proofs.Common.{◌≡◌, ℕ, ◌+◌, Bool, true, false, cond, not, ◌&&◌, List, [], ◌∷◌, ◌++◌, filter, map, flat_map, drop, get_or, append_assoc, append-nil, refl, sym, ap, subst, ◌∙◌}
+use Rattle.std.specs.Prelude.{if◌then◌else◌}
 use Rattle.std.specs.Ordering.{is_gt}
 use Rattle.std.specs.List.Sorted.{IsPermutation}
 use Rattle.std.proofs.lemmas.List.Concat.{flat_map-cons}
 use Rattle.std.proofs.lemmas.Grind.{flat_map-append}
 use Rattle.sql_values.specs.Words.{word_of}
-use Rattle.std.proofs.lemmas.List.Sorted.{IsPermutation-refl, IsPermutation-trans, IsPermutation-append_left, IsPermutation-append_right, IsPermutation-append_comm, length_permutation}
-use Rattle.sql_values.specs.declared.op.Op.{Op}
+use Rattle.std.proofs.lemmas.List.Sorted.{IsPermutation-refl, IsPermutation-trans, IsPermutation-append_left, IsPermutation-append_right, IsPermutation-append_comm}
 use Rattle.sql_values.specs.declared.value.Value.{Value}
 use Rattle.sql_values.specs.declared.value.Value.TheVariants as value
 use Rattle.sql_values.specs.Stored.{ValueRow}
@@ -16,7 +14,7 @@ use Rattle.sql_values.specs.Truth.{is_null}
 use Rattle.query_block.specs.Truth.{value_at}
 use Rattle.btree_index.specs.Entries.{IndexEntry, entry_order}
 use Rattle.db_catalog.specs.Indexes.{value_entry, entries_from, placed, ordered}
-use Rattle.exec_scan.proofs.IndexEntries.{Front, front}
+use Rattle.exec_scan.proofs.IndexEntries.{front}
 
 -- a part moves past the one before it
 past : {X : Type 0} (a b c : List X) → IsPermutation (a ++ (b ++ c)) (b ++ (a ++ c))

@@ -1,6 +1,7 @@
 pub mod LeafRows
 pub mod Parts
 pub mod Relations
+pub mod StoredValues
 pub mod Looked
 pub mod Written
 pub mod Ranges

@@ -1,5 +1,5 @@
 -- What a range has of the words of a column, once a conjunct is looked at.
-use Rattle.std.proofs.Common.{◌≡◌, ℕ, suc, ◌+◌, ◌<◌, ℤ, pos, negsuc, Bool, true, false, not, cond, ◌&&◌, ◌||◌, IsTrue, List, [], ◌∷◌, All, length, map, filter, drop, get_or, nat_eq, nat_cmp, Option, Some, None, option_map, ◌-◌, ◌^◌, SFits, w64, refl, sym, ap, subst, ◌∙◌, arith}
+use Rattle.std.proofs.Common.{◌≡◌, ℕ, suc, ◌+◌, ◌<◌, ℤ, pos, negsuc, Bool, true, false, not, cond, ◌&&◌, ◌||◌, List, ◌∷◌, length, map, filter, drop, get_or, nat_eq, nat_cmp, Some, None, option_map, ◌-◌, ◌^◌, SFits, w64, refl, sym, ap, ◌∙◌, arith}
 use Rattle.std.specs.Prelude.{int_le, FitsSigned, if◌then◌else◌}
 use Rattle.std.specs.List.{position_or_len}
 use Rattle.std.specs.Ordering.{int_cmp, int_eq, is_eq, ordering_reverse}
@@ -17,8 +17,7 @@ use Rattle.sql_values.specs.declared.op.Op.{Op}
 use Rattle.sql_values.specs.declared.op.Op.TheVariants.{Eq, Ne, Lt, Le, Gt, Ge}
 use Rattle.sql_values.specs.declared.column.ColumnType.{ColumnType}
 use Rattle.sql_values.specs.declared.column.ColumnType.TheVariants.{Integer, Varchar}
-use Rattle.sql_values.specs.declared.truth.Truth.{Truth}
-use Rattle.sql_values.specs.declared.truth.Truth.TheVariants.{True, False, Unknown}
+use Rattle.sql_values.specs.declared.truth.Truth.TheVariants.{Unknown}
 use Rattle.sql_values.specs.declared.value.Value.{Value}
 use Rattle.sql_values.specs.declared.value.Value.TheVariants as value
 use Rattle.sql_values.specs.Order.{value_cmp}

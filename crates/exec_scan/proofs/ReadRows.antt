@@ -1,5 +1,5 @@
 -- A row that a scan by an index has read: what its words stand for, and what is left then.
-use Rattle.std.proofs.Common.{◌≡◌, ℕ, ℤ, ◌+◌, ◌<◌, Bool, true, false, cond, List, [], ◌∷◌, filter, length, map, refl, sym, ap, subst, ◌∙◌, arith}
+use Rattle.std.proofs.Common.{◌≡◌, ℕ, ℤ, ◌+◌, Bool, true, false, cond, List, ◌∷◌, filter, length, map, refl, sym, ap, subst, ◌∙◌, arith}
 use Rattle.std.proofs.lemmas.List.Elements.{All-get_or}
 use Rattle.sql_values.specs.Stored.{ValueRow, AreWordsOf, StandsFor, values_of}
 use Rattle.query_block.specs.Shape.{BlockShape}
@@ -11,7 +11,7 @@ use Rattle.db_catalog.specs.Database.{DatabaseState, table_at}
 use Rattle.db_catalog.specs.Fits.{Fits, FitsTable}
 use Rattle.plan_tree.specs.Left.{Left, GivesFirst}
 use Rattle.exec_scan.specs.State.{IndexScanState}
-use Rattle.exec_scan.specs.Scanning.{AreOfRelation, placed}
+use Rattle.exec_scan.specs.Scanning.{placed}
 use Rattle.exec_scan.specs.IndexScanning.{IsInIndex, MovesOn, ReadsNext, index_scan_left, indexed_rows, read_due}
 use Rattle.exec_scan.proofs.Relations.{relation_words, relation_values}
 

@@ -1,10 +1,10 @@
 -- A row that meets a filter with a conjunct that an index on a column can use has a value in the column.
-use Rattle.std.proofs.Common.{◌≡◌, ℕ, Bool, true, false, cond, not, ◌&&◌, ◌||◌, List, [], ◌∷◌, filter, nat_eq, refl, sym, ap, subst, ◌∙◌, arith}
+use Rattle.std.proofs.Common.{◌≡◌, ℕ, Bool, true, false, cond, not, ◌&&◌, ◌||◌, List, [], ◌∷◌, filter, nat_eq, refl, sym, ap, ◌∙◌, arith}
 use Rattle.std.specs.Prelude.{if◌then◌else◌}
 use Rattle.std.specs.List.{list_any}
 use Rattle.std.proofs.lemmas.Bool.Decides.{nat_tests}
 use Rattle.sql_values.specs.declared.op.Op.{Op}
-use Rattle.sql_values.specs.declared.op.Op.TheVariants.{Le, Ge}
+use Rattle.sql_values.specs.declared.op.Op.TheVariants.{Ge}
 use Rattle.sql_values.specs.declared.column.ColumnType.{ColumnType}
 use Rattle.sql_values.specs.declared.truth.Truth.{Truth}
 use Rattle.sql_values.specs.declared.truth.Truth.TheVariants.{True, False, Unknown}
@@ -12,13 +12,12 @@ use Rattle.sql_values.specs.declared.value.Value.{Value}
 use Rattle.sql_values.specs.Order.{value_cmp}
 use Rattle.sql_values.specs.Stored.{ValueRow}
 use Rattle.sql_values.specs.Truth.{comparison, certain, holds, is_null, truth_and}
-use Rattle.query_block.specs.declared.condition.Operand.{Operand}
 use Rattle.query_block.specs.declared.condition.Operand.TheVariants.{Column, Literal}
 use Rattle.query_block.specs.Conditions.{FilterTree, Compare, Between, OneOf, IsNull, Not, And, Or}
 use Rattle.query_block.specs.Truth.{value_at, operand_value, truth_of}
 use Rattle.query_block.specs.Blocks.{kind_at, holds_texts}
 use Rattle.query_block.specs.Meaning.{is_true, meets_filter}
-use Rattle.plan_tree.specs.Usable.{is_usable, is_range, is_column, is_literal}
+use Rattle.plan_tree.specs.Usable.{is_usable, is_range, is_literal}
 
 and-left : (a b : Bool) → (a && b) ≡ true → a ≡ true
 and-left true b is = refl

@@ -1,10 +1,7 @@
 -- What a scan by an index has left of the entries of the index, and what is always so of one.
-use Rattle.std.specs.Prelude.{◌≡◌, ℕ, ℤ, ◌+◌, ◌*◌, ◌<◌, Bool, List, [], ◌∷◌, All, Contains, Option, Some, None, MatchOption, length, map, filter, drop}
-use Rattle.sql_values.specs.declared.column.ColumnType.{ColumnType}
+use Rattle.std.specs.Prelude.{◌≡◌, ℕ, ℤ, ◌+◌, ◌*◌, ◌<◌, Bool, List, [], ◌∷◌, Contains, Option, Some, None, MatchOption, length, map, filter}
 use Rattle.sql_values.specs.Stored.{StandsFor, ValueRow}
-use Rattle.query_block.specs.Conditions.{FilterTree}
-use Rattle.query_block.specs.Truth.{value_at}
-use Rattle.query_block.specs.Blocks.{RelationTree, BlockTree, kind_at, relation_at}
+use Rattle.query_block.specs.Blocks.{BlockTree, relation_at}
 use Rattle.query_block.specs.Meaning.{meets_filter}
 use Rattle.plan_tree.specs.Usable.{is_usable}
 use Rattle.plan_tree.specs.Left.{Left}
@@ -14,7 +11,6 @@ use Rattle.db_catalog.specs.Database.{DatabaseState, table_at, row_at}
 use Rattle.db_catalog.specs.Indexes.{index_at, index_height}
 use Rattle.exec_scan.specs.State.{IndexScanState}
 use Rattle.exec_scan.specs.Scanning.{AreOfRelation, placed}
-use Rattle.exec_scan.specs.Ranges.{IsStored}
 
 -- whether the row of an entry meets every conjunct that an index on the column can use
 abbrev pub is_wanted : DatabaseState → BlockTree → (relation table column : ℕ) → IndexEntry → Bool
@@ -55,18 +51,11 @@ index_scan_left database block scan =
       due = read_due database block scan + length kept;
     }
 
--- each value of a column of the table may stand in a column of this kind
-abbrev pub AreStored : DatabaseState → ColumnType → (table column : ℕ) → Type 0
-AreStored database kind table column =
-    All (λ row. IsStored database.texts kind (value_at row column)) (table_at database table).rows
-
--- the table is there and has an index on the column, on whose entries the cursor stands; what it holds in the column is of
--- the column's kind
+-- the table is there and has an index on the column, on whose entries the cursor stands
 pub record IsInIndex (database : DatabaseState) (block : BlockTree) (scan : IndexScanState) : Type 0 where
   pub there : scan.table < length database.tables
   pub indexed : Contains (table_at database scan.table).indexed scan.column
   pub numbers : AreOfRelation block scan.relation scan.table scan.columns scan.offset
-  pub stored : AreStored database (kind_at (relation_at block.relations scan.relation).columns scan.column) scan.table scan.column
   pub cursor : MatchOption scan.cursor (Unit {0}) (λ cursor. IsOn (index_at database scan.table scan.column) cursor)
 
 -- only where it is in its index changes

@@ -1,7 +1,7 @@
 -- What is seen of an operator that runs a leaf of a plan.
 use Rattle.std.specs.Prelude.{ℕ, Option}
 use Rattle.btree_index.specs.declared.index.Cursor.{Cursor}
-use Rattle.plan_tree.specs.Plans.{PlanTree, Scan, IndexScan}
+use Rattle.plan_tree.specs.Plans.{PlanTree, Scan}
 
 -- a scan of a whole table: which relation of the block it reads, and the number of its table; where the relation's words
 -- begin in a row of all relations, and how many they are; how many pages the table has, and how many of them are opened;

@@ -1,4 +1,4 @@
-use Rattle.std.proofs.Common.{SFits, w64, sym, ap, ◌&&◌, subst, ◌||◌, rules}
+use Rattle.std.proofs.Common.{SFits, w64, sym, ◌&&◌, subst, ◌||◌, rules}
 use Rattle.std.proofs.lemmas.Int.{to_z-of_z}
 use Rattle.sql_values.specs.declared.value.Value.{Value}
 use Rattle.sql_values.specs.declared.value.Value.TheVariants as value

@@ -31,6 +31,6 @@ returns-clause-entries c =
     entries_to database block s.relation s.table s.column (Some cursor) ≡ entries_to database block s.relation s.table s.column None)) c.self.view_is
     (IfOk-map c.seek.result
     (λ cursor led.
-    descended database block scan cursor c.range_of-range.result c.texts.result.now c.as_slice.result.now c.relations.ensures.block at c.texts.ensures
+    descended database block scan cursor c.range_of-range.result c.texts.result.now c.as_slice.result.now c.relations.ensures.block c.requires.fits at c.seek.ensures.words c.seek.ensures.rows c.texts.ensures
     (ap (map filter_tree) c.as_slice.ensures ∙ sym (ap (λ (r : RelationTree). r.filter) own)) c.range_of-range.ensures led)
     left)

@@ -1,4 +1,4 @@
-use Rattle.std.proofs.Common.{◌≡◌, ℕ, ◌<◌, ◌≤◌, true, false, List, ◌∷◌, length, map, ap, sym, subst, ◌∙◌, arith, true≢false}
+use Rattle.std.proofs.Common.{◌≡◌, ℕ, ◌<◌, ◌≤◌, true, false, ◌∷◌, length, map, ap, sym, subst, ◌∙◌, arith, true≢false}
 use Rattle.sql_values.specs.Stored.{AreWordsOf, values_of}
 use Rattle.query_block.specs.Conditions.{filter_tree}
 use Rattle.query_block.specs.Blocks.{RelationTree, block_tree}
