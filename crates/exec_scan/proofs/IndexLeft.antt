@@ -5,7 +5,7 @@ use Rattle.std.specs.List.Sorted.{IsPermutation}
 use Rattle.std.proofs.lemmas.List.{length-map}
 use Rattle.std.proofs.lemmas.List.Concat.{flat_map_single}
 use Rattle.std.proofs.lemmas.List.Sums.{length-filter}
-use Rattle.std.proofs.lemmas.List.Sorted.{length_permutation}
+use Rattle.std.proofs.lemmas.List.Sorted.{IsPermutation-sym, length_permutation}
 use Rattle.sql_values.specs.Stored.{ValueRow}
 use Rattle.sql_values.specs.Truth.{is_null}
 use Rattle.query_block.specs.Truth.{value_at}
@@ -21,7 +21,7 @@ use Rattle.btree_index.specs.Height.{height_of}
 use Rattle.db_catalog.specs.Database.{DatabaseState, table_at}
 use Rattle.db_catalog.specs.Indexes.{column_entries, index_height, ordered}
 use Rattle.exec_scan.specs.State.{IndexScanState}
-use Rattle.exec_scan.specs.Scanning.{AreOfRelation, placed}
+use Rattle.exec_scan.specs.Places.{AreOfRelation, placed}
 use Rattle.exec_scan.specs.IndexScanning.{entries_to, entries_ahead, descent_due, index_scan_left, indexed_rows}
 use Rattle.exec_scan.proofs.LeafRows.{leaf_rows}
 use Rattle.exec_scan.proofs.IndexedRows.{picked, chosen, picks, chooses, all-picked, all-chosen, of-entries, of-ordered}
@@ -67,11 +67,14 @@ module _ (database : DatabaseState) (block : BlockTree) (scan : IndexScanState) 
       ∙ ap (λ (all : List ValueRow). map (placed block.relations scan.relation) (filter kept all)) rows-are
       ∙ sym (leaf_rows database.tables block scan.relation numbers.exists is.edges)
 
-  pub starts-rest : IsPermutation (rows_of database.tables block (has_leaf (Scan scan.relation))) (index_scan_left database block scan).rest
-  starts-rest =
+  rest-of : IsPermutation (rows_of database.tables block (has_leaf (Scan scan.relation))) (index_scan_left database block scan).rest
+  rest-of =
       subst (λ xs. IsPermutation xs (index_scan_left database block scan).rest) whole
       (subst (λ ys. IsPermutation (flat_map (λ (e : IndexEntry). picked wanted kept (placed block.relations scan.relation) (row_of_entry e)) entries) ys) (sym rest-is)
       (of-ordered (λ (e : IndexEntry). picked wanted kept (placed block.relations scan.relation) (row_of_entry e)) entries))
+
+  pub starts-rest : IsPermutation (index_scan_left database block scan).rest (rows_of database.tables block (has_leaf (Scan scan.relation)))
+  starts-rest = IsPermutation-sym _ _ rest-of
 
   matches : length (entries_ahead database block scan) ≡ matches_in database.tables (relation_at block.relations scan.relation) scan.column
   matches =
@@ -97,5 +100,5 @@ module _ (database : DatabaseState) (block : BlockTree) (scan : IndexScanState) 
       let descent : descent_due height scan.cursor ≡ 2 * height = ap (descent_due height) first in
       let levels : height ≡ height_in database.tables (relation_at block.relations scan.relation) scan.column = ap height_of all-entries in
       let out : length (filter kept (indexed_rows database block scan)) ≡ length (rows_of database.tables block (has_leaf (Scan scan.relation))) =
-      sym (length-map (filter kept (indexed_rows database block scan)) (placed block.relations scan.relation)) ∙ length_permutation _ _ starts-rest in
+      sym (length-map (filter kept (indexed_rows database block scan)) (placed block.relations scan.relation)) ∙ length_permutation _ _ rest-of in
       omega (arith, descent, levels, out, matches)

@@ -9,7 +9,7 @@ use Rattle.query_block.specs.declared.edge.Edge.{Edge}
 use Rattle.query_block.specs.Blocks.{RelationTree, BlockTree, relation_at, IsEdge}
 use Rattle.query_block.specs.Meaning.{Combination, choices, product, rows_at, rows_of, meets_filter, meets_filters, meets_edge, meets_edges, is_inside}
 use Rattle.plan_tree.specs.Plans.{Scan, has_leaf}
-use Rattle.exec_scan.specs.Scanning.{placed}
+use Rattle.exec_scan.specs.Places.{placed}
 
 -- the row without values for each relation
 abbrev pub nothing : List RelationTree → Combination

@@ -2,6 +2,7 @@ pub mod LeafRows
 pub mod Parts
 pub mod Relations
 pub mod StoredValues
+pub mod TableLeft
 pub mod Looked
 pub mod Written
 pub mod Ranges

@@ -13,7 +13,8 @@ use Rattle.db_catalog.specs.Database.{DatabaseState, table_at}
 use Rattle.db_catalog.specs.Fits.{Fits, FitsTable}
 use Rattle.plan_tree.specs.Left.{Left, PaysDue}
 use Rattle.exec_scan.specs.State.{TableScanState}
-use Rattle.exec_scan.specs.Scanning.{rows_ahead, placed, table_scan_left, look_due, LooksAt, Moves, AreOfRelation, IsOfRelation}
+use Rattle.exec_scan.specs.Places.{placed, AreOfRelation}
+use Rattle.exec_scan.specs.TableScanning.{rows_ahead, table_scan_left, look_due, LooksAt, Moves, IsOfRelation}
 use Rattle.exec_scan.proofs.Relations.{relation_words, relation_values}
 use Rattle.exec_scan.proofs.Parts.{size}
 

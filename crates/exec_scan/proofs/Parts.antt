@@ -7,7 +7,7 @@ use Rattle.query_block.specs.Blocks.{RelationTree, relation_at}
 use Rattle.query_block.specs.Combined.{combination_of, part_of}
 use Rattle.plan_tree.specs.Plans.{Scan, has_leaf}
 use Rattle.plan_tree.specs.Left.{ArePartWords, IsPart}
-use Rattle.exec_scan.specs.Scanning.{placed}
+use Rattle.exec_scan.specs.Places.{placed}
 use Rattle.exec_scan.proofs.LeafRows.{nothing, in_leaf, off_leaf, before_leaf}
 
 abbrev pub size : RelationTree → ℕ

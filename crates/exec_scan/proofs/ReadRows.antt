@@ -11,7 +11,7 @@ use Rattle.db_catalog.specs.Database.{DatabaseState, table_at}
 use Rattle.db_catalog.specs.Fits.{Fits, FitsTable}
 use Rattle.plan_tree.specs.Left.{Left, GivesFirst}
 use Rattle.exec_scan.specs.State.{IndexScanState}
-use Rattle.exec_scan.specs.Scanning.{placed}
+use Rattle.exec_scan.specs.Places.{placed}
 use Rattle.exec_scan.specs.IndexScanning.{IsInIndex, MovesOn, ReadsNext, index_scan_left, indexed_rows, read_due}
 use Rattle.exec_scan.proofs.Relations.{relation_words, relation_values}
 

@@ -7,9 +7,10 @@ use Rattle.sql_values.specs.Words.{value_of}
 use Rattle.sql_values.specs.Stored.{ValueRow, StandsFor, row_of, values_of, AreWords, AreWordsOf}
 use Rattle.query_block.specs.declared.block.Relation.{Relation}
 use Rattle.query_block.specs.Shape.{BlockShape}
-use Rattle.query_block.specs.Blocks.{RelationTree, relation_tree, relation_at}
+use Rattle.query_block.specs.Blocks.{RelationTree, BlockTree, relation_tree, relation_at, offset_of}
 use Rattle.db_catalog.specs.Database.{DatabaseState, table_at}
 use Rattle.db_catalog.specs.Fits.{FitsTable}
+use Rattle.exec_scan.specs.Places.{AreOfRelation}
 
 -- the relation of this number is what is seen of the one that is kept there
 pub relation_seen : (relations : List Relation) (number : ℕ) (relation : Relation) → number < length relations → relation ≡ get_or relations number relation
@@ -31,6 +32,16 @@ of_each P relations number relation there is all =
     let none : RelationTree = record { table = 0; columns = []; filter = []; indexes = [] } in
     let below : number < length (map relation_tree relations) = simp length-map there in
     subst P (relation_seen relations number relation there is) (All-get_or P (map relation_tree relations) number none below all)
+
+-- the numbers that are kept are those of the relation
+pub numbers-of : (block : BlockTree) (number : ℕ) (relation : RelationTree) {columns offset : ℕ} → relation_at block.relations number ≡ relation → number < length block.relations
+    → columns ≡ length relation.columns → offset ≡ offset_of block number → AreOfRelation block number relation.table columns offset
+numbers-of block number relation own exists columns offset = record {
+  exists = exists;
+  table_is = ap (λ (r : RelationTree). r.table) (sym own);
+  columns_are = columns ∙ ap (λ (r : RelationTree). length r.columns) (sym own);
+  offset_is = offset;
+}
 
 -- the values of a stored table's row, by the kinds of its columns
 pub values_by_kind : (texts : List (List ℕ)) (columns : List ColumnDef) (words : List ℤ) → values_of texts (map (λ column. column.kind) columns) words ≡ row_of texts columns words

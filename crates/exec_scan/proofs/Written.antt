@@ -2,7 +2,7 @@
 use Rattle.std.proofs.Common.{◌≡◌, ℕ, ℤ, ◌+◌, ◌≤◌, List, ◌++◌, length, take, drop, sym, ap, subst, ◌∙◌, arith, length-append, length-drop}
 use Rattle.std.proofs.lemmas.List.{take_at, drop_at, drop-drop, length-take-le}
 use Rattle.query_block.specs.Blocks.{BlockTree, relation_at, offset_of, width_of}
-use Rattle.exec_scan.specs.Scanning.{AreOfRelation, KeepsOthers}
+use Rattle.exec_scan.specs.Places.{AreOfRelation, KeepsOthers}
 use Rattle.exec_scan.proofs.Looked.{inside}
 
 record Written (offset columns : ℕ) (row old new : List ℤ) : Type 0 where

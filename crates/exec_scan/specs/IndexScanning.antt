@@ -10,7 +10,7 @@ use Rattle.btree_index.specs.Entries.{IndexEntry, IsOn, entries_left}
 use Rattle.db_catalog.specs.Database.{DatabaseState, table_at, row_at}
 use Rattle.db_catalog.specs.Indexes.{index_at, index_height}
 use Rattle.exec_scan.specs.State.{IndexScanState}
-use Rattle.exec_scan.specs.Scanning.{AreOfRelation, placed}
+use Rattle.exec_scan.specs.Places.{AreOfRelation, placed}
 
 -- whether the row of an entry meets every conjunct that an index on the column can use
 abbrev pub is_wanted : DatabaseState → BlockTree → (relation table column : ℕ) → IndexEntry → Bool

@@ -1,98 +1,27 @@
--- What a scan has left of the rows of its table, and what is always so of one.
-use Rattle.std.specs.Prelude.{◌≡◌, ℕ, ℤ, ◌+◌, ◌-◌, ◌*◌, ◌<◌, ◌≤◌, min, List, [], ◌∷◌, length, map, filter, take, drop, slice_set}
-use Rattle.sql_values.specs.Limits.{max_columns}
-use Rattle.heap_pages.specs.Rows.{rows_per_page, row_number}
-use Rattle.sql_values.specs.Stored.{StoredTable, ValueRow, StandsFor}
-use Rattle.query_block.specs.Blocks.{RelationTree, BlockTree, relation_at, offset_of}
-use Rattle.query_block.specs.Meaning.{Combination, meets_filter, rows_at}
+-- What the operator of a leaf has left of the rows of its relation, and what is always so of one.
 use Rattle.plan_tree.specs.Plans.{PlanTree, Scan, IndexScan, Nest, Hash, Merge, IndexLoop}
 use Rattle.plan_tree.specs.Left.{Left}
-use Rattle.db_catalog.specs.Database.{DatabaseState, table_at}
-use Rattle.db_catalog.specs.Meter.{table_pages}
-use Rattle.exec_scan.specs.State.{TableScanState, ScanState, OfTable}
+use Rattle.query_block.specs.Blocks.{BlockTree}
+use Rattle.db_catalog.specs.Database.{DatabaseState}
+use Rattle.exec_scan.specs.State.{ScanState, OfTable, OfIndex}
+use Rattle.exec_scan.specs.TableScanning.{table_scan_left, IsInTable, IsOfRelation}
+use Rattle.exec_scan.specs.IndexScanning.{index_scan_left, IsInIndex}
 
--- the plan is the scan of a relation
-abbrev pub IsScan : PlanTree → Type 0
-IsScan (Scan relation) = Unit {0}
-IsScan (IndexScan relation column) = ⊥
-IsScan (Nest left right) = ⊥
-IsScan (Hash edge left right) = ⊥
-IsScan (Merge edge left right) = ⊥
-IsScan (IndexLoop edge left relation) = ⊥
+-- the plan is the scan of a relation, by whatever its rows are found
+abbrev pub IsLeaf : PlanTree → Type 0
+IsLeaf (Scan relation) = Unit {0}
+IsLeaf (IndexScan relation column) = Unit {0}
+IsLeaf (Nest left right) = ⊥
+IsLeaf (Hash edge left right) = ⊥
+IsLeaf (Merge edge left right) = ⊥
+IsLeaf (IndexLoop edge left relation) = ⊥
 
--- the rows of the table that aren't looked at yet
-abbrev pub rows_ahead : List StoredTable → TableScanState → List ValueRow
-rows_ahead tables scan = drop (row_number scan.columns scan.page scan.slot) (rows_at tables scan.table)
-
--- the work of looking at them, with the pages that aren't opened yet
-abbrev pub look_due : List StoredTable → TableScanState → ℕ
-look_due tables scan = 8 * (scan.pages - scan.opened) + length (rows_ahead tables scan)
-
--- a row in the place of its relation; of the others, the row without values
-abbrev pub placed : List RelationTree → (number : ℕ) → ValueRow → Combination
-placed relations number row = slice_set (map (λ _. []) relations) number row
-
--- of the rows ahead, those come that meet the relation's filter; 8 is due for each page that isn't opened, 1 for each row
--- ahead, and 1 for each row to come
-abbrev pub table_scan_left : List StoredTable → BlockTree → TableScanState → Left
-table_scan_left tables block scan =
-    let kept = filter (meets_filter (relation_at block.relations scan.relation).filter) (rows_ahead tables scan) in
-    record {
-      rest = map (placed block.relations scan.relation) kept;
-      due = look_due tables scan + length kept;
-    }
-
-abbrev pub scan_left : List StoredTable → BlockTree → ScanState → Left
-scan_left tables block (OfTable scan) = table_scan_left tables block scan
-
--- the table is there and has so many columns and pages; the page at hand is the last that is opened, and its rows are the
--- last on the opened pages
-pub record IsInTable (database : DatabaseState) (scan : TableScanState) : Type 0 where
-  pub there : scan.table < length database.tables
-  pub columns : scan.columns ≡ length (table_at database scan.table).columns
-  pub some : 1 ≤ scan.columns
-  pub few : scan.columns ≤ max_columns
-  pub pages : scan.pages ≡ table_pages database scan.table
-  pub opened : scan.opened ≤ scan.pages
-  pub page : scan.page ≡ scan.opened - 1
-  pub rows : row_number scan.columns scan.page scan.slots
-      ≡ min (scan.opened * rows_per_page scan.columns) (length (table_at database scan.table).rows)
-  pub slot : scan.slot ≤ scan.slots
-
--- the table, the number of columns and their place are those of a relation of the block
-pub record AreOfRelation (block : BlockTree) (relation table columns offset : ℕ) : Type 0 where
-  pub exists : relation < length block.relations
-  pub table_is : table ≡ (relation_at block.relations relation).table
-  pub columns_are : columns ≡ length (relation_at block.relations relation).columns
-  pub offset_is : offset ≡ offset_of block relation
-
-abbrev pub IsOfRelation : BlockTree → TableScanState → Type 0
-IsOfRelation block scan = AreOfRelation block scan.relation scan.table scan.columns scan.offset
+-- the rows still to come, and the work still to be paid
+abbrev pub scan_left : DatabaseState → BlockTree → ScanState → Left
+scan_left database block (OfTable scan) = table_scan_left database.tables block scan
+scan_left database block (OfIndex scan) = index_scan_left database block scan
 
 -- a scan of a relation of the block over the tables of the database
 abbrev pub IsScanOver : DatabaseState → BlockTree → ScanState → Type 0
 IsScanOver database block (OfTable scan) = IsInTable database scan × IsOfRelation block scan
-
--- only where it is in its table changes
-abbrev pub Moves : (old new : TableScanState) → Type 0
-Moves old new = new ≡ record old { opened = new.opened; page = new.page; slots = new.slots; slot = new.slot }
-
--- what looking at rows has left: no row comes of it alone
-abbrev pub look_left : List StoredTable → TableScanState → Left
-look_left tables scan = record { rest = []; due = look_due tables scan }
-
--- the words are those of the first row ahead, which then is no longer ahead
-abbrev pub LooksAt : DatabaseState → (old new : TableScanState) → List ℤ → Type 0
-LooksAt database old new words =
-    (row : ValueRow) × (rows_ahead database.tables old ≡ row ∷ rows_ahead database.tables new)
-    × StandsFor database.texts (table_at database old.table).columns words row
-
--- no row is ahead, and no page is left to be opened
-abbrev pub IsAtEnd : DatabaseState → TableScanState → Type 0
-IsAtEnd database scan = (rows_ahead database.tables scan ≡ []) × (look_due database.tables scan ≡ 0)
-
--- the words of the other relations in a row of all stay as they are
-pub record KeepsOthers (block : BlockTree) (relation : ℕ) (old new : List ℤ) : Type 0 where
-  pub before : take (offset_of block relation) new ≡ take (offset_of block relation) old
-  pub behind : let past = offset_of block relation + length (relation_at block.relations relation).columns in
-      drop past new ≡ drop past old
+IsScanOver database block (OfIndex scan) = IsInIndex database block scan

@@ -1,7 +1,7 @@
 -- What is seen of an operator that runs a leaf of a plan.
 use Rattle.std.specs.Prelude.{ℕ, Option}
 use Rattle.btree_index.specs.declared.index.Cursor.{Cursor}
-use Rattle.plan_tree.specs.Plans.{PlanTree, Scan}
+use Rattle.plan_tree.specs.Plans.{PlanTree, Scan, IndexScan}
 
 -- a scan of a whole table: which relation of the block it reads, and the number of its table; where the relation's words
 -- begin in a row of all relations, and how many they are; how many pages the table has, and how many of them are opened;
@@ -31,11 +31,14 @@ pub record IndexScanState : Type 0 where
 -- by what the rows of the leaf are found
 pub data ScanState : Type 0 where
   OfTable : TableScanState → ScanState
+  OfIndex : IndexScanState → ScanState
 
 -- the leaf that it runs
 abbrev pub leaf_of : ScanState → PlanTree
 leaf_of (OfTable scan) = Scan scan.relation
+leaf_of (OfIndex scan) = IndexScan scan.relation scan.column
 
 -- the relation that it reads
 abbrev pub relation_of : ScanState → ℕ
 relation_of (OfTable scan) = scan.relation
+relation_of (OfIndex scan) = scan.relation

@@ -4,7 +4,7 @@ use Rattle.query_block.specs.Conditions.{filter_tree}
 use Rattle.query_block.specs.Blocks.{RelationTree, block_tree}
 use Rattle.query_block.specs.Meaning.{meets_filter}
 use Rattle.exec_scan.specs.State.{IndexScanState}
-use Rattle.exec_scan.specs.Scanning.{placed, KeepsOthers}
+use Rattle.exec_scan.specs.Places.{placed, KeepsOthers}
 use Rattle.exec_scan.specs.IndexScanning.{IsInIndex, index_scan_left, read_due}
 use Rattle.exec_scan.proofs.Relations.{own_relation}
 use Rattle.exec_scan.proofs.ReadRows.{read_of}
