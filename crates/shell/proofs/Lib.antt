@@ -1,5 +1,6 @@
 pub mod Beginning
 pub mod Carrying
+pub mod NamedColumns
 pub mod Ends
 pub mod Given
 pub mod LoadLine

@@ -37,8 +37,10 @@ pub(crate) fn column_of(columns: &[ColumnDef], name: &Name) -> Option<u8>
     ensures number { result ≡ column_number columns.now name.now }
     ensures there { IfSome result (λ number. number < length columns.now) }
 {
-    let number = columns
-        .iter()
-        .position(|column| column.name.bytes() == name.bytes())?;
-    Some(number as u8)
+    for number in 0..columns.len() {
+        if name.bytes() == columns[number].name.bytes() {
+            return Some(number as u8);
+        }
+    }
+    None
 }
