@@ -14,4 +14,6 @@ mod table_scan;
 pub use scan_op::ScanOp;
 
 #[cfg(test)]
+mod index_tests;
+#[cfg(test)]
 mod tests;
