@@ -42,10 +42,10 @@ front all rest first x d is =
     record { there = there; here = cc; rest_is = cc }
 
 -- what is so of each entry
-record IsEntry (texts : List (List ℕ)) (column : ℕ) (rows : List ValueRow) (entry : IndexEntry) : Type 0 where
-  there : entry.1 < length rows
-  some : is_null (value_at (get_or rows entry.1 []) column) ≡ false
-  word : word_of texts (value_at (get_or rows entry.1 []) column) ≡ entry.0
+pub record IsEntry (texts : List (List ℕ)) (column : ℕ) (rows : List ValueRow) (entry : IndexEntry) : Type 0 where
+  pub there : entry.1 < length rows
+  pub some : is_null (value_at (get_or rows entry.1 []) column) ≡ false
+  pub word : word_of texts (value_at (get_or rows entry.1 []) column) ≡ entry.0
 
 -- the entry of a row's value
 of-value : (texts : List (List ℕ)) (column : ℕ) (rows : List ValueRow) (number : ℕ) (v : Value) → number < length rows → value_at (get_or rows number []) column ≡ v
@@ -65,13 +65,13 @@ are-entries texts column all first (row ∷ rows) is =
     (are-entries texts column all (first + 1) rows at.rest_is)
 
 -- so of the entries of an index
-indexed : (database : DatabaseState) (table column : ℕ) → All (IsEntry database.texts column (table_at database table).rows) (index_at database table column)
+pub indexed : (database : DatabaseState) (table column : ℕ) → All (IsEntry database.texts column (table_at database table).rows) (index_at database table column)
 indexed database table column =
     All-permutation (IsEntry database.texts column (table_at database table).rows) (column_entries database table column) (index_at database table column)
     (ordered_same (column_entries database table column))
     (are-entries database.texts column (table_at database table).rows 0 (table_at database table).rows refl)
 
-filter-same : {X : Type 0} (p q : X → Bool) (xs : List X) → All (λ x. p x ≡ q x) xs → filter p xs ≡ filter q xs
+pub filter-same : {X : Type 0} (p q : X → Bool) (xs : List X) → All (λ x. p x ≡ q x) xs → filter p xs ≡ filter q xs
 filter-same p q [] same = refl
 filter-same p q (x ∷ xs) same =
     (λ i. cond (All-head (λ x. p x ≡ q x) x xs same i) (x ∷ filter-same p q xs (All-tail (λ x. p x ≡ q x) x xs same) i) (filter-same p q xs (All-tail (λ x. p x ≡ q x) x xs same) i))
