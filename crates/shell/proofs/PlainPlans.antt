@@ -1,4 +1,4 @@
--- The plain plan of a block is a plan of it, of scans and nested loops alone.
+-- The plain plan of a block is a plan of it.
 use Rattle.std.proofs.Common.{◌≡◌, inl, inr, ℕ, zero, suc, ◌+◌, ◌-◌, ◌<◌, ◌≤◌, Bool, true, false, ◌||◌, [], ◌∷◌, length, nat_eq, refl, sym, ap, ap₂, ◌∙◌, arith}
 use Rattle.std.specs.List.{list_any}
 use Rattle.std.proofs.lemmas.Bool.{cases_lt, ne_eqb, eq-eqb}
@@ -6,7 +6,6 @@ use Rattle.std.proofs.lemmas.List.Folds.{list_any-append}
 use Rattle.query_block.specs.Blocks.{BlockTree}
 use Rattle.plan_tree.specs.Plans.{PlanTree, Scan, Nest, leaves_of, has_leaf}
 use Rattle.plan_tree.specs.Enumerated.{IsSubPlan, IsPlan}
-use Rattle.exec_pipe.specs.Pipelines.{IsRunnable}
 use Rattle.shell.specs.PlainPlan.{nested_plan, plain_plan}
 
 -- a relation more is joined to those before it
@@ -16,10 +15,6 @@ plain_more (suc further) some =
     let next : suc further + 1 - 1 ≡ suc further = omega arith in
     let here : suc further - 1 ≡ further = omega arith in
     ap nested_plan next ∙ ap (λ (n : ℕ). Nest (nested_plan n) (Scan (suc further))) (sym here)
-
-pub of_loops : (further : ℕ) → IsRunnable (nested_plan further)
-of_loops zero = tt
-of_loops (suc further) = (of_loops further, tt)
 
 -- later relations aren't joined yet
 apart : (further relation : ℕ) → further < relation → list_any (has_leaf (Scan relation)) (leaves_of (nested_plan further)) ≡ false

@@ -1,12 +1,11 @@
--- The plan that runs is a plan of the block, of scans and nested loops.
+-- The plan that runs is a plan of the block.
 use Rattle.std.proofs.Common.{◌≡◌, ◌∙◌, ◌-◌, ℕ, length, ap, subst, sym, arith}
 use Rattle.std.proofs.lemmas.List.{length-map}
 use Rattle.query_block.specs.Blocks.{block_tree, relation_tree}
 use Rattle.plan_tree.specs.Enumerated.{IsPlan}
 use Rattle.plan_tree.specs.Plans.{PlanTree, plan_tree}
-use Rattle.exec_pipe.specs.Pipelines.{IsRunnable}
 use Rattle.shell.specs.PlainPlan.{plain_plan}
-use Rattle.shell.proofs.PlainPlans.{is_plan, of_loops}
+use Rattle.shell.proofs.PlainPlans.{is_plan}
 use Rattle.shell.proofs.Widths.{width_some}
 use Rattle.shell.proofs.query.answer.Goals as goal
 
@@ -20,11 +19,3 @@ run_plan-requires-clause-plan c =
     let same : length c.relations.result.now ≡ length block.relations = omega (arith, few, ap length c.relations.ensures.relations, length-map c.args.block.now.relations relation_tree) in
     let is : plan_tree c.in_ok-plan.plan ≡ plain_plan (length block.relations) = c.in_ok-plan.ensures ∙ ap plain_plan same in
     subst (IsPlan block) (sym is) (is_plan block c.relations.ensures.block.some)
-
-pub run_plan-requires-clause-kinds : goal.run_plan-requires-clause-kinds
-run_plan-requires-clause-kinds c =
-    let block = block_tree c.args.block.now in
-    let few = c.relations.ensures.block.few in
-    let same : length c.relations.result.now ≡ length block.relations = omega (arith, few, ap length c.relations.ensures.relations, length-map c.args.block.now.relations relation_tree) in
-    let is : plan_tree c.in_ok-plan.plan ≡ plain_plan (length block.relations) = c.in_ok-plan.ensures ∙ ap plain_plan same in
-    subst IsRunnable (sym is) (of_loops (length block.relations - 1))
