@@ -1,5 +1,5 @@
 // What no clause says: that a table is printed where memory is ample, and the printed texts of worked tables.
-ghost use Rattle.std.specs.Prelude.{◌≡◌, ◌≤◌, [], All, IfOk, IsTrue, flat_map, length};
+ghost use Rattle.std.specs.Prelude.{◌≡◌, ◌≤◌, [], ◌∷◌, All, IfOk, IsTrue, flat_map, if◌then◌else◌, length};
 ghost use Rattle.sql_values.specs.Words.{IsWord};
 ghost use Rattle.sql_values.specs.Stored.{AreWordsOf};
 ghost use Rattle.query_block.specs.Blocks.{block_tree, width_of};
@@ -259,16 +259,12 @@ fn relation_of(alloc: Global, kinds: &[ColumnType]) -> Result<Relation, AllocErr
     })
 }
 
-// A block of one relation, which asks for its second column, its first, and its second once more.
-fn block_of_one(alloc: Global, kinds: &[ColumnType]) -> Result<Block, AllocError>
-    requires some { 2 ≤ length kinds.now }
-    requires few { length kinds.now ≤ 32 }
-    ensures projection { IfOk result (λ block. length block.projection ≡ 3) }
-    ensures width { IfOk result (λ block. width_of (block_tree block) ≡ length kinds.now) }
-    ensures columns { IfOk result (λ block.
-        flat_map (λ relation. relation.columns) (block_tree block).relations ≡ kinds.now) }
+// The two columns in their places; or the second, the first, and the second once more.
+fn asked(alloc: Global, in_place: bool) -> Result<Vec<ColumnAt>, AllocError>
+    ensures { IfOk result (λ places. places.items ≡ (
+        if in_place then record { relation = 0; column = 0 } ∷ record { relation = 0; column = 1 } ∷ []
+        else record { relation = 0; column = 1 } ∷ record { relation = 0; column = 0 } ∷ record { relation = 0; column = 1 } ∷ [])) }
 {
-    let relations = vec![in alloc; relation_of(alloc, kinds)?]?;
     let first = ColumnAt {
         relation: 0,
         column: 0,
@@ -277,7 +273,26 @@ fn block_of_one(alloc: Global, kinds: &[ColumnType]) -> Result<Block, AllocError
         relation: 0,
         column: 1,
     };
-    let projection = vec![in alloc; second, first, second]?;
+    if in_place {
+        Ok(vec![in alloc; first, second]?)
+    } else {
+        Ok(vec![in alloc; second, first, second]?)
+    }
+}
+
+// A block of one relation, which asks for these columns.
+fn block_of_one(alloc: Global, kinds: &[ColumnType], in_place: bool) -> Result<Block, AllocError>
+    requires some { 2 ≤ length kinds.now }
+    requires few { length kinds.now ≤ 32 }
+    ensures projection { IfOk result (λ block. block.projection ≡ (
+        if in_place then record { relation = 0; column = 0 } ∷ record { relation = 0; column = 1 } ∷ []
+        else record { relation = 0; column = 1 } ∷ record { relation = 0; column = 0 } ∷ record { relation = 0; column = 1 } ∷ [])) }
+    ensures width { IfOk result (λ block. width_of (block_tree block) ≡ length kinds.now) }
+    ensures columns { IfOk result (λ block.
+        flat_map (λ relation. relation.columns) (block_tree block).relations ≡ kinds.now) }
+{
+    let relations = vec![in alloc; relation_of(alloc, kinds)?]?;
+    let projection = asked(alloc, in_place)?;
     Ok(Block::new(relations, Vec::new(alloc), projection))
 }
 
@@ -302,23 +317,34 @@ fn stack_of(
     Ok(stack)
 }
 
-// The columns are exchanged, and the second stands twice. Rows tie in it, and two are equal.
-#[test]
-fn a_projection_prints_as_worked(rt: HostRuntime) -> Result<(), Fail> {
-    let mut texts = Texts::new(rt.alloc());
+// The rows printed by the columns in their places, or by the other three. Rows tie in S, and two are equal.
+fn text_of(alloc: Global, in_place: bool) -> Result<Vec<u8>, Fail> {
+    let mut texts = Texts::new(alloc);
     let _ = texts.add(b"z")?;
     let _ = texts.add(b"a")?;
     let _ = texts.add(b"m,n")?;
-    let s = Text::new(rt.alloc(), b"S")?;
-    let k = Text::new(rt.alloc(), b"K")?;
-    let t = Text::new(rt.alloc(), b"T")?;
-    let names = vec![in rt.alloc(); s, k, t]?;
+    let s = Text::new(alloc, b"S")?;
+    let k = Text::new(alloc, b"K")?;
+    let t = Text::new(alloc, b"T")?;
+    let names = if in_place {
+        vec![in alloc; k, s]?
+    } else {
+        vec![in alloc; s, k, t]?
+    };
     let kinds = [INTEGER, TEXT];
-    let block = block_of_one(rt.alloc(), &kinds)?;
+    let block = block_of_one(alloc, &kinds, in_place)?;
     let words = [2, 0, 1, 0, 2, 1, 2, 0, NULL, 2, 5, NULL];
-    let rows = stack_of(rt.alloc(), &texts, &kinds, &words)?;
-    let text = print_rows(rt.alloc(), &texts, &block, &names, &rows)?;
-    let printed: &[u8] = b"S,K,T\n,5,\na,2,a\n\"m,n\",,\"m,n\"\nz,1,z\nz,2,z\nz,2,z\n";
-    assert!(rt; text.as_slice() == printed);
+    let rows = stack_of(alloc, &texts, &kinds, &words)?;
+    Ok(print_rows(alloc, &texts, &block, &names, &rows)?)
+}
+
+#[test]
+fn projections_print_as_worked(rt: HostRuntime) -> Result<(), Fail> {
+    let in_place: &[u8] = b"K,S\n,\"m,n\"\n1,z\n2,a\n2,z\n2,z\n5,\n";
+    let others: &[u8] = b"S,K,T\n,5,\na,2,a\n\"m,n\",,\"m,n\"\nz,1,z\nz,2,z\nz,2,z\n";
+    for (is_in_place, printed) in [(true, in_place), (false, others)] {
+        let text = text_of(rt.alloc(), is_in_place)?;
+        assert!(rt; text.as_slice() == printed, "{}", is_in_place);
+    }
     Ok(())
 }
