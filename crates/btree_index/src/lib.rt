@@ -7,6 +7,3 @@
 mod index;
 
 pub use index::{Cursor, Index};
-
-#[cfg(test)]
-mod tests;

@@ -8,4 +8,3 @@ pub mod Parts
 pub mod Members
 pub mod Enumerated
 pub mod Least
-mod Tested

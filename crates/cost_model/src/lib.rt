@@ -18,6 +18,3 @@ pub use law::{
     costs_grow_with_selectivity, optimal_costs_are_least,
 };
 pub use stats::{CountName, IndexStats, RelationStats, Stale, Stats};
-
-#[cfg(test)]
-mod tests;

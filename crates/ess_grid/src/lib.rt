@@ -18,6 +18,3 @@ pub use law::{
     points_run_from_bottom_to_top, selectivities_grow_to_the_whole,
 };
 pub use point::{Point, below};
-
-#[cfg(test)]
-mod tests;

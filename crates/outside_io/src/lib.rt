@@ -30,6 +30,3 @@ pub use sink::Sink;
 pub use source::Source;
 pub use sql_values::MAX_FILE_BYTES;
 pub use writer_sink::{StdSink, WriterSink};
-
-#[cfg(test)]
-mod tests;

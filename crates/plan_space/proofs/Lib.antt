@@ -5,4 +5,3 @@ pub mod Filled
 pub mod Pairs
 pub mod Considered
 pub mod Sums
-mod Tested

@@ -3,4 +3,3 @@ pub mod Table
 pub mod Pricing
 pub mod Prices
 pub mod Steps
-pub mod Tested

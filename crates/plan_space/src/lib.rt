@@ -18,6 +18,3 @@ mod steps;
 mod table;
 
 pub use search::best;
-
-#[cfg(test)]
-mod tests;

@@ -1,4 +1,3 @@
 pub mod Indexes
 pub mod PlanOrder
 pub mod Sets
-mod Tested

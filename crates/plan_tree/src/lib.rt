@@ -19,6 +19,3 @@ pub use order::{plan_order, plan_order_is_total};
 pub use plan::Plan;
 pub use rules::is_plan;
 pub use text::plan_text;
-
-#[cfg(test)]
-mod tests;

@@ -3,4 +3,3 @@ pub mod Words
 pub mod Equality
 pub mod Chains
 pub mod Combined
-mod Tested

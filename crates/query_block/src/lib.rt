@@ -18,6 +18,3 @@ pub use block::{Block, Relation};
 pub use condition::{Condition, Operand};
 pub use edge::{ColumnAt, Edge};
 pub use evaluate::{meets_filter, truth};
-
-#[cfg(test)]
-mod tests;

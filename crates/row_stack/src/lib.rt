@@ -11,6 +11,3 @@ mod stack;
 
 pub use space::Space;
 pub use stack::RowStack;
-
-#[cfg(test)]
-mod tests;

@@ -16,6 +16,3 @@ pub use fault::StatsFault;
 pub use law::counts_fit_their_block;
 pub use staleness::fresh;
 pub use stats::stats_of;
-
-#[cfg(test)]
-mod tests;

@@ -8,20 +8,3 @@ pub mod charge;
 mod ledger;
 
 pub use ledger::{Exhausted, Ledger};
-
-#[cfg(test)]
-mod tests {
-    use super::*;
-
-    #[test]
-    fn a_payment_that_does_not_fit_spends_what_is_left(rt: HostRuntime) {
-        let mut ledger = Ledger::new();
-        ledger.grant(10);
-        assert_eq!(rt; ledger.pay(10), Ok(()), "all that was granted may be paid");
-        ledger.grant(5);
-        assert_eq!(rt; ledger.pay(3), Ok(()));
-        assert_eq!(rt; ledger.pay(3), Err(Exhausted));
-        assert_eq!(rt; ledger.spent(), 15);
-        assert_eq!(rt; ledger.limit(), 15);
-    }
-}
