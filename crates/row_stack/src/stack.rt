@@ -1,7 +1,7 @@
 // The stack: the words of all rows in one vector, whose memory is kept when rows are released. It relies on nothing.
 ghost use Rattle.std.specs.Prelude.{max, ◌≡◌, ◌+◌, ◌-◌, ◌*◌, ◌^◌, ◌<◌, ◌≤◌, [], ◌∷◌, ◌++◌, take, drop, length, Some, slice_get, IsOk, OnOk, OnErr, IfOk};
 ghost use Rattle.row_stack.specs.Limits.{max_width};
-ghost use Rattle.row_stack.specs.Stack.{room_of, new_stack, IsRowStack};
+ghost use Rattle.row_stack.specs.Stack.{room_of, new_stack, grown_by, IsRowStack};
 
 use std::alloc::{AllocError, Global};
 use std::marker::Model;
@@ -77,7 +77,7 @@ impl RowStack {
     }
 
     /// Puts a row at the end and returns its place, from 0. Where a row is spare it takes no memory and can't fail.
-    /// Else it takes memory for as many rows as there are. Out of memory the stack is as it was.
+    /// Else it takes memory for as many rows as there are, at least 16. Out of memory the stack is as it was.
     pub fn push(&mut self, row: &[i64]) -> Result<u64, AllocError>
         requires { length row.now ≡ self.old.width }
         ensures place { IfOk result (λ place. place ≡ length self.old.rows) }
@@ -90,7 +90,7 @@ impl RowStack {
 
         // With none.
         ensures doubles { self.old.spare ≡ 0
-            → OnOk result (2 * length self.old.rows ≤ room_of self.new) }
+            → OnOk result (self.new.spare + 1 ≡ grown_by (length self.old.rows)) }
 
         // Whatever the answer.
         ensures unchanged { OnErr result (self.new ≡ self.old) }
@@ -125,10 +125,10 @@ impl RowStack {
     #[cold]
     #[inline(never)]
     fn grow(&mut self) -> Result<(), AllocError>
+        requires { self.old.spare ≡ 0 }
         ensures rows { self.new.rows ≡ self.old.rows }
         ensures width { self.new.width ≡ self.old.width }
-        ensures some { OnOk result (1 ≤ self.new.spare) }
-        ensures doubles { OnOk result (length self.old.rows ≤ self.new.spare) }
+        ensures spare { OnOk result (self.new.spare ≡ grown_by (length self.old.rows)) }
         ensures unchanged { OnErr result (self.new ≡ self.old) }
     {
         self.reserve(self.rows.max(FIRST_ROWS))
