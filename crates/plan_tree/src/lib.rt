@@ -19,3 +19,4 @@ pub use order::{plan_order, plan_order_is_total};
 pub use plan::Plan;
 pub use rules::is_plan;
 pub use text::plan_text;
+pub use usable::{has_usable, is_usable};

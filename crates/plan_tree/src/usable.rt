@@ -48,8 +48,8 @@ fn is_range(kind: ColumnType, op: Op) -> bool
     }
 }
 
-/// Whether an index on a column can use a conjunct.
-pub(crate) fn is_usable(columns: &[ColumnType], column: u8, conjunct: &Condition) -> bool
+/// Whether an index on a column can use a conjunct: the column compared with a literal, or an INTEGER column between two.
+pub fn is_usable(columns: &[ColumnType], column: u8, conjunct: &Condition) -> bool
     requires { column < length columns.now }
     ensures { result ≡ is_usable columns.now column (filter_tree conjunct.now) }
 {
@@ -72,7 +72,7 @@ pub(crate) fn is_usable(columns: &[ColumnType], column: u8, conjunct: &Condition
 }
 
 /// Whether an index on a column can use some conjunct of a filter.
-pub(crate) fn has_usable(columns: &[ColumnType], column: u8, filter: &[Condition]) -> bool
+pub fn has_usable(columns: &[ColumnType], column: u8, filter: &[Condition]) -> bool
     requires { column < length columns.now }
     ensures { result ≡ list_any (is_usable columns.now column) (map filter_tree filter.now) }
 {

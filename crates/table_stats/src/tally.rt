@@ -9,8 +9,9 @@ ghost use Rattle.query_block.specs.Meaning.{meets_filter};
 ghost use Rattle.btree_index.specs.Height.{height_of};
 ghost use Rattle.table_stats.specs.Tallies.{IsTally, counted, meets_usable, tally_of, tally_stats};
 
-use crate::usable::{has_usable, meets_usable};
+use crate::usable::meets_usable;
 use cost_model::IndexStats;
+use plan_tree::has_usable;
 use query_block::Relation;
 use sql_values::{NULL_WORD, Texts};
 use std::alloc::{AllocError, Global};
