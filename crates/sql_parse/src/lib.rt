@@ -29,8 +29,3 @@ pub use tree::{
     AuditDef, ColRef, CompileDef, Cond, FileDef, IndexDef, Item, LoadDef, Name, OpenDef, Query,
     Statement, TableDef, Term,
 };
-
-#[cfg(test)]
-mod canonical_tests;
-#[cfg(test)]
-mod tests;
