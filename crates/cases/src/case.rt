@@ -70,3 +70,15 @@ pub(crate) fn status_of(word: &str) -> Option<Status> {
         _ => None,
     }
 }
+
+/// The name of a status.
+pub(crate) fn name_of(status: Status) -> &'static str {
+    match status {
+        Status::Done => "Done",
+        Status::Refused => "Refused",
+        Status::BadWords => "BadWords",
+        Status::ReadFault => "ReadFault",
+        Status::WriteFault => "WriteFault",
+        Status::NoMemory => "NoMemory",
+    }
+}

@@ -1,15 +1,17 @@
 // Runs a case in memory, and says what differs.
-use crate::case::{Case, File};
+use crate::case::{Case, File, name_of};
 use crate::content::put_lines;
 use outside_io::{MemoryFolder, MemorySink, MemorySource};
 use shell::{Status, serve};
 use std::alloc::{AllocError, Global};
 
 fn put_status(out: &mut String, found: Status, wanted: Status) -> Result<(), AllocError> {
-    if found == wanted {
+    if found.number() == wanted.number() {
         return Ok(());
     }
-    writeln!(out, "status {found:?}, and not {wanted:?}")
+    let found = name_of(found);
+    let wanted = name_of(wanted);
+    writeln!(out, "status {found}, and not {wanted}")
 }
 
 // The bytes that were found, and those that were wanted, where these differ.
