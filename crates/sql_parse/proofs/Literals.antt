@@ -1,5 +1,5 @@
 -- No literal of a condition that is read is NULL.
-use Rattle.std.proofs.Common.{◌≡◌, ℕ, zero, suc, ◌⊎◌, inl, inr, List, [], ◌∷◌, Option, Some, None, IfSome, subst, sym}
+use Rattle.std.proofs.Common.{ℕ, zero, suc, ◌⊎◌, inl, inr, List, [], ◌∷◌, Option, Some, None, IfSome, subst, sym}
 use Rattle.sql_values.specs.declared.value.Value.TheVariants as value
 use Rattle.sql_parse.specs.declared.mark.Mark.{Mark}
 use Rattle.sql_parse.specs.declared.mark.Mark.TheVariants as m
@@ -8,7 +8,7 @@ use Rattle.sql_parse.specs.declared.tree.Term.TheVariants as term
 use Rattle.sql_parse.specs.Limits.{nesting_limit}
 use Rattle.sql_parse.specs.Lexemes.{Lexeme}
 use Rattle.sql_parse.specs.Trees.{ConditionTree, Compare, Between, OneOf, IsNull, Not, And, Or, operands}
-use Rattle.sql_parse.specs.Grammar.{Rule, Separated, IsOperand, IsPredicate, IsFactor, IsChain, IsConjunction, IsDisjunction, IsGroup, IsWhere}
+use Rattle.sql_parse.specs.Grammar.{Rule, Separated, IsOperand, IsPredicate, IsFactor, IsConjunction, IsDisjunction, IsGroup, IsWhere}
 use Rattle.sql_parse.specs.WellFormed.{IsNotNull, AreNotNull, IsWellFormedCondition, AreWellFormedConditions}
 
 -- what is written by a rule has no NULL

@@ -167,6 +167,9 @@ fn group<'s>(
     }
     let inside = piece.expect(Mark::OpenParen)?;
     let (tree, rest) = chain(alloc, inside, Connective::Or, nesting - 1)?;
-    let rest = rest.expect(Mark::CloseParen)?;
+    let Some(rest) = rest.after(Mark::CloseParen) else {
+        drop(tree);
+        return Err(ReadFault::NotAStatement);
+    };
     Ok((tree, rest))
 }

@@ -1,6 +1,6 @@
 // Statements: each by the keyword that it begins with.
 
-ghost use Rattle.std.specs.Prelude.{Option};
+ghost use Rattle.std.specs.Prelude.{Option, Some, None, length, ◌==◌, if◌then◌else◌};
 ghost use Rattle.sql_parse.specs.Trees.{statement_tree};
 ghost use Rattle.sql_parse.specs.declared.mark.Mark.TheVariants.{Comma};
 ghost use Rattle.sql_parse.specs.Reading.{Gives, GivesValue, GivesStatement, number_at, option_at, load_at, compile_at, save_at, open_at, audit_at, statement_at, statement_of};
@@ -133,15 +133,22 @@ fn statement<'s>(alloc: Global, piece: Piece<'s>) -> Result<(Statement, Piece<'s
     Ok((Statement::Select(query), rest))
 }
 
+// A value after which no token is left.
+fn only<T: Drop>(value: T, rest: Piece) -> Result<T, ReadFault>
+    ensures { GivesValue result (if length rest.entry == 0 then Some value else None) }
+{
+    if rest.len() == 0 {
+        Ok(value)
+    } else {
+        Err(ReadFault::NotAStatement)
+    }
+}
+
 // The statement of a whole piece.
 #[tactic(auto, unfolding(crate::specs::Reading::statement_of))]
 pub(crate) fn whole_statement(alloc: Global, piece: Piece) -> Result<Statement, ReadFault>
     ensures { Gives statement_tree result (statement_of piece.entry) }
 {
     let (statement, rest) = statement(alloc, piece)?;
-    if rest.len() == 0 {
-        Ok(statement)
-    } else {
-        Err(ReadFault::NotAStatement)
-    }
+    only(statement, rest)
 }

@@ -6,7 +6,7 @@ use Rattle.sql_parse.specs.declared.mark.Mark.{Mark}
 use Rattle.sql_parse.specs.Trees.{condition_tree}
 use Rattle.sql_parse.specs.Reading.{after_mark, separator_of, node_of, part_at, group_at}
 use Rattle.sql_parse.proofs.Lists.{list_with_first-first, list_with_first-end, more_at-end, more_at-zero, list_with_first-next, list_with_first-fails}
-use Rattle.sql_parse.proofs.Chains.{none_if, chain_at-one, chain_at-many, chain_at-fails, as_tree, as_tree-fails, group_at-fails}
+use Rattle.sql_parse.proofs.Chains.{none_if, chain_at-one, chain_at-many, chain_at-fails, as_tree, as_tree-fails}
 use Rattle.sql_parse.proofs.condition.+condition.Goals as goal
 
 pub chain-returns-in_err-first : goal.chain-returns-in_err-first
@@ -71,9 +71,3 @@ parts-returns t c =
     let over : c.len-turn-end.result - c.loop-turn._turn ≡ 0 = omega arith in
     list_with_first-end (condition_tree c.args.first) part (separator_of c.args.connective) c.args.piece (map condition_tree c.loop-turn.parts.items) _ c.loop-turn.rest
     (more_at-zero part (separator_of c.args.connective) _ c.loop-turn.rest over) c.loop-turn.invariant
-
-pub group-returns-in_err-rest : goal.group-returns-in_err-rest
-group-returns-in_err-rest t c =
-    let p = err_from_is_err_and c.from_residual-in_err-rest.result c.from_residual-in_err-rest.ensures.1 in
-    rw (p.1, p.2) (group_at-fails c.args.nesting c.args.piece c.in_ok-inside.inside c.in_ok-tree.rest (condition_tree c.in_ok-tree.tree) _ (omega arith)
-    c.in_ok-inside.ensures c.in_ok-tree.ensures c.in_err-rest.ensures)
