@@ -1,6 +1,6 @@
 -- How a run ends at a statement.
 use Rattle.std.proofs.Common.{◌≡◌, ◌⊎◌, inl, inr, ℕ, ◌+◌, ◌<◌, List, length, map, take, get_or, Option, refl, sym, ap, ◌∙◌, arith}
-use Rattle.std.specs.Prelude.{Vec, Result, Ok, Err}
+use Rattle.std.specs.Prelude.{Vec, Result, Ok, Err, OnOk, OnErr, IfErr}
 use Rattle.std.specs.declared.alloc.Global.{Global}
 use Rattle.std.specs.Io.KnownBytes.{Appends}
 use Rattle.std.proofs.Math.ListN.{get_or-map}
@@ -16,7 +16,7 @@ use Rattle.outside_io.specs.Files.{FolderState, OnlyReads}
 use Rattle.sql_parse.specs.declared.tree.Statement.{Statement}
 use Rattle.sql_parse.specs.Trees.{StatementTree, statement_tree}
 use Rattle.shell.specs.Serve.{IsGivenFor}
-use Rattle.shell.specs.Due.{IsCarriedOut, CarriesAll}
+use Rattle.shell.specs.Due.{IsCarriedOut, Puts, CarriesAll}
 use Rattle.shell.proofs.Carrying.{EndsAt, IsCarried, appends_none, carried_on, carried_to}
 
 -- the run ended for a cause that isn't the script's
@@ -112,6 +112,20 @@ module _ (statements : List Statement) (i : ℕ) (before mid now : FolderState) 
   put_at text new out put =
       carried_on all i before mid now state next tree out.file had got old paid inside (tree_at statements i statement is) first.files first.misses.never_falls last.misses.never_falls carried out.given new due text.items out.returns.0 out.returns.1 put out.returns.2
 
+  -- the run ended there
+  pub ended_at : (T : Type 0) (returned : Result (Vec ℕ Global) Stop) (ended : Status) (new : Option (List ℕ)) → IsCarriedOut tree mid now state next paid due returned
+      → Puts {T = T} returned (Err ended) got new → CarriesAll all before now ended had new old due
+  ended_at T (Ok text) ended new out puts = unput_at text ended new out (inr puts.0) puts.1
+  ended_at T (Err (stop.Refused why)) ended new out puts = refused_at why ended new out puts.0 puts.1 puts.2
+  ended_at T (Err stop.ReadFault) ended new out puts = rw puts.1 (stopped_at (Err stop.ReadFault) ended out (inl puts.0))
+  ended_at T (Err stop.NoMemory) ended new out puts = rw puts.1 (stopped_at (Err stop.NoMemory) ended out (inr (inr puts.0)))
+
+  -- the run goes on behind it
+  pub on_at : {T : Type 0} (returned : Result (Vec ℕ Global) Stop) (done : T) (new : Option (List ℕ)) → IsCarriedOut tree mid now state next paid due returned
+      → Puts returned (Ok done) got new → IsCarried all (i + 1) before now next had new old due
+  on_at (Ok text) done new out puts = put_at text new out puts
+  on_at (Err why) done new out puts = absurd puts
+
 -- reading on
 pub reads_on : (before mid now : FolderState) (failed : Type 0) → OnlyReads ⊥ ⊥ before mid → OnlyReads failed ⊥ mid now → OnlyReads ⊥ ⊥ before now
 reads_on before mid now failed first last = record {
@@ -128,3 +142,20 @@ reads_none state failed not_failed = record {
   write_faults = refl;
   misses = record { rose = λ none. absurd none; never_falls = omega arith };
 }
+
+pub reads_last : (before mid now : FolderState) (failed fails : Type 0) → (fails → failed) → OnlyReads ⊥ ⊥ before mid → OnlyReads failed ⊥ mid now → OnlyReads fails ⊥ before now
+reads_last before mid now failed fails so first last = record {
+  files = last.files ∙ first.files;
+  read_faults = record {
+    rose = λ is. let rose = last.read_faults.rose (so is) in omega (arith, first.read_faults.never_falls, rose);
+    never_falls = omega (arith, first.read_faults.never_falls, last.read_faults.never_falls);
+  };
+  write_faults = last.write_faults ∙ first.write_faults;
+  misses = record { rose = λ none. absurd none; never_falls = omega (arith, first.misses.never_falls, last.misses.never_falls) };
+}
+
+-- a text was put
+pub puts_text : {T : Type 0} (text : Vec ℕ Global) (result : Result T Status) (had got : Option (List ℕ)) → OnOk result (Appends had got text.items) → OnErr result ((n : ℕ) × Appends had got (take n text.items))
+    → IfErr result (λ ended. (ended ≡ status.WriteFault) ⊎ (ended ≡ status.NoMemory)) → Puts (Ok text) result had got
+puts_text text (Ok done) had got whole part kinds = whole
+puts_text text (Err ended) had got whole part kinds = (kinds, part)

@@ -1,6 +1,7 @@
 -- What statements return and do, held against what is due to them.
-use Rattle.std.specs.Prelude.{◌≡◌, ℕ, ◌+◌, ⊤, All, Result, Ok, Err, Vec, List, Option, Some, length, ◌≤◌}
+use Rattle.std.specs.Prelude.{◌≡◌, ◌⊎◌, ℕ, ◌+◌, ⊤, take, All, Result, Ok, Err, Vec, List, Option, Some, length, ◌≤◌}
 use Rattle.std.specs.declared.alloc.Global.{Global}
+use Rattle.std.specs.Io.KnownBytes.{Appends}
 use Rattle.sql_values.specs.Limits.{max_file_bytes}
 use Rattle.outside_io.specs.Files.{FolderState}
 use Rattle.shell.specs.declared.stop.Stop.{Stop}
@@ -11,6 +12,7 @@ use Rattle.shell.specs.declared.status.Status.{Status}
 use Rattle.shell.specs.declared.status.Status.TheVariants as status
 use Rattle.sql_parse.specs.declared.tree.LoadDef.{LoadDef}
 use Rattle.sql_parse.specs.Trees.{StatementTree}
+use Rattle.shell.specs.Refusal.{line_of}
 use Rattle.shell.specs.Script.{Answer, Outcome, Prints, Refuses, SessionState, Step, at_table, load_file, outcome, refused_work, script_answer, nothing_made}
 use Rattle.shell.specs.Serve.{Carries, IsGiven, IsGivenFor, IsScript, statements_of_steps}
 use Rattle.shell.specs.Stop.{StopsAt}
@@ -56,6 +58,25 @@ pub record IsCarriedOut (statement : StatementTree) (before after : FolderState)
   pub file : Option (List ℕ)
   pub given : IsGivenFor before after statement file
   pub returns : ReturnsDue (outcome state statement file) result next old new
+
+-- what a statement returned was put: its text; or the run ends there, behind a text in part, the line of a refusal in
+-- whole or in part, or nothing
+abbrev pub Puts : {T : Type 0} → Result (Vec ℕ Global) Stop → Result T Status → (had got : Option (List ℕ)) → Type 0
+Puts (Ok text) (Ok done) had got = Appends had got text.items
+Puts (Ok text) (Err ended) had got =
+    ((ended ≡ status.WriteFault) ⊎ (ended ≡ status.NoMemory)) × ((n : ℕ) × Appends had got (take n text.items))
+Puts (Err why) (Ok done) had got = ⊥
+Puts (Err (stop.Refused why)) (Err ended) had got =
+    (ended ≡ status.Refused → Appends had got (line_of why)) × ((n : ℕ) × Appends had got (take n (line_of why)))
+    × ((ended ≡ status.Refused) ⊎ ((ended ≡ status.WriteFault) ⊎ (ended ≡ status.NoMemory)))
+Puts (Err stop.ReadFault) (Err ended) had got = (ended ≡ status.ReadFault) × (got ≡ had)
+Puts (Err stop.NoMemory) (Err ended) had got = (ended ≡ status.NoMemory) × (got ≡ had)
+
+-- a statement was carried out, and what it returned was put
+pub record CarriesOne {T : Type 0} (statement : StatementTree) (before after : FolderState) (state next : SessionState) (old new : ℕ) (result : Result T Status) (had got : Option (List ℕ)) : Type 0 where
+  pub returned : Result (Vec ℕ Global) Stop
+  pub out : IsCarriedOut statement before after state next old new returned
+  pub puts : Puts returned result had got
 
 -- where the run ended as the answer does, exactly the answer's work was paid
 pub record PaysFor (answer : Answer) (ended : Status) (old new : ℕ) : Type 0 where

@@ -20,6 +20,3 @@ mod stop;
 
 pub use program::{one_answer_is_due, serve};
 pub use status::Status;
-
-#[cfg(test)]
-mod tests;

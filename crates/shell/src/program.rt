@@ -1,6 +1,6 @@
 // The call that does all that the program does. It relies on the session for what a statement prints, and never looks at what
 // a file or an answer holds.
-ghost use Rattle.std.specs.Prelude.{◌≡◌, ◌≢◌, ◌⊎◌, ℕ, ◌+◌, ◌≤◌, List, [], length, map, take, All, Some, Err, IsSome, OnOk, OnErr, IfErr, IfSome, IsErrOf};
+ghost use Rattle.std.specs.Prelude.{◌≡◌, ◌≢◌, ◌⊎◌, ℕ, ◌+◌, ◌^◌, ◌≤◌, List, [], length, map, take, All, Some, Err, IsSome, OnOk, OnErr, IfErr, IfSome, IsErrOf};
 ghost use Rattle.std.specs.Io.KnownBytes.{Appends};
 ghost use Rattle.outside_io.specs.Count.{Rose, HasCause};
 ghost use Rattle.outside_io.specs.Files.{FolderState, OnlyReads};
@@ -8,11 +8,12 @@ ghost use Rattle.sql_values.specs.Limits.{max_script_bytes};
 ghost use Rattle.sql_parse.specs.Trees.{statement_tree};
 ghost use Rattle.sql_parse.specs.WellFormed.{IsWellFormed};
 ghost use Rattle.sql_parse.specs.Counts.{predicates_of};
+ghost use Rattle.shell.specs.Limits.{max_work};
 ghost use Rattle.shell.specs.Printed.{usage_line};
 ghost use Rattle.shell.specs.Refusal.{line_of};
 ghost use Rattle.shell.specs.declared.refusal.Refusal.{Refusal};
 ghost use Rattle.shell.specs.Script.{Answer};
-ghost use Rattle.shell.specs.Due.{CarriesAll};
+ghost use Rattle.shell.specs.Due.{CarriesAll, CarriesOne};
 ghost use Rattle.shell.specs.Serve.{IsScript, IsAnswer, Serves, RefusesWords, IsDecided};
 ghost use Rattle.shell.specs.Source.{TakesAtMost};
 
@@ -68,6 +69,36 @@ fn put_refusal<K: Sink>(alloc: Global, sink: &mut K, refusal: &Refusal) -> Statu
     }
 }
 
+// Carries a statement out and puts what it prints; where the run ends there, returns how.
+fn carry_out_one<F: Folder, K: Sink>(
+    alloc: Global,
+    session: &mut Session,
+    statement: &Statement,
+    folder: &mut F,
+    sink: &mut K,
+    book: &mut Book,
+) -> Result<(), Status>
+    requires well_formed { IsWellFormed (statement_tree statement.now) }
+    requires predicates { predicates_of (statement_tree statement.now) ≤ max_script_bytes }
+    requires room { book.old + max_work ≤ 2 ^ 126 }
+    ensures carries { CarriesOne (statement_tree statement.now)
+        (F.state folder.old) (F.state folder.new) session.old session.new book.old book.new
+        result (K.got sink.old) (K.got sink.new) }
+    ensures kinds { IfErr result (λ ended. ended ≢ Status.BadWords) }
+    ensures within { book.new ≤ book.old + max_work }
+    ensures folder { OnlyReads (IsErrOf result Status.ReadFault) ⊥
+        (F.state folder.old) (F.state folder.new) }
+    ensures sink { HasCause (IsErrOf result Status.WriteFault)
+        (K.faults sink.old) (K.faults sink.new) }
+{
+    match session.carry_out(alloc, statement, folder, book) {
+        Ok(text) => put_text(sink, &text),
+        Err(Stop::Refused(refusal)) => Err(put_refusal(alloc, sink, &refusal)),
+        Err(Stop::ReadFault) => Err(Status::ReadFault),
+        Err(Stop::NoMemory) => Err(Status::NoMemory),
+    }
+}
+
 // Carries the statements out, one after another, up to and with the first that is refused.
 fn carry_out_all<F: Folder, K: Sink>(
     alloc: Global,
@@ -89,13 +120,7 @@ fn carry_out_all<F: Folder, K: Sink>(
 {
     let mut session = Session::new(alloc);
     for statement in statements {
-        let text = match session.carry_out(alloc, statement, folder, book) {
-            Ok(text) => text,
-            Err(Stop::Refused(refusal)) => return put_refusal(alloc, sink, &refusal),
-            Err(Stop::ReadFault) => return Status::ReadFault,
-            Err(Stop::NoMemory) => return Status::NoMemory,
-        };
-        match put_text(sink, &text) {
+        match carry_out_one(alloc, &mut session, statement, folder, sink, book) {
             Ok(()) => {}
             Err(ended) => return ended,
         }

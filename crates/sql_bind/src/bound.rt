@@ -2,12 +2,13 @@
 ghost use Rattle.std.specs.Prelude.{◌≡◌, ◌≤◌, All, IfOk, length, map};
 ghost use Rattle.sql_values.specs.Limits.{max_relations, max_columns};
 ghost use Rattle.query_block.specs.Conditions.{filter_tree, chain};
-ghost use Rattle.sql_parse.specs.Trees.{condition_tree, operands};
+ghost use Rattle.sql_parse.specs.Trees.{Between, Compare, OneOf, condition_tree, operands};
 ghost use Rattle.sql_bind.specs.Conjuncts.{bound_operand, bound_condition, bound_conditions, negated_if};
 
 use crate::names::{NamedTable, place_of};
 use query_block::{Condition, Operand};
 use sql_parse::{Cond, Term};
+use sql_values::Op;
 use std::alloc::{AllocError, Global};
 
 fn bound_operand(tables: &[NamedTable<'_>], term: &Term) -> Result<Operand, AllocError>
@@ -51,6 +52,58 @@ fn negated_if(alloc: Global, negated: bool, condition: Condition) -> Result<Cond
     Ok(Condition::Not(inner))
 }
 
+fn bound_compare(
+    tables: &[NamedTable<'_>],
+    op: Op,
+    left: &Term,
+    right: &Term,
+) -> Result<Condition, AllocError>
+    requires few { length tables.now ≤ max_relations }
+    requires narrow { All (λ table. length table.columns ≤ max_columns) tables.now }
+    ensures { IfOk result
+        (λ bound. filter_tree bound ≡ bound_condition tables.now (Compare op left.now right.now)) }
+{
+    let left = bound_operand(tables, left)?;
+    let right = bound_operand(tables, right)?;
+    Ok(Condition::Compare(op, left, right))
+}
+
+fn bound_between(
+    alloc: Global,
+    tables: &[NamedTable<'_>],
+    negated: bool,
+    of: &Term,
+    low: &Term,
+    high: &Term,
+) -> Result<Condition, AllocError>
+    requires few { length tables.now ≤ max_relations }
+    requires narrow { All (λ table. length table.columns ≤ max_columns) tables.now }
+    ensures { IfOk result (λ bound.
+        filter_tree bound ≡ bound_condition tables.now (Between negated of.now low.now high.now)) }
+{
+    let of = bound_operand(tables, of)?;
+    let low = bound_operand(tables, low)?;
+    let high = bound_operand(tables, high)?;
+    negated_if(alloc, negated, Condition::Between(of, low, high))
+}
+
+fn bound_one_of(
+    alloc: Global,
+    tables: &[NamedTable<'_>],
+    negated: bool,
+    of: &Term,
+    terms: &[Term],
+) -> Result<Condition, AllocError>
+    requires few { length tables.now ≤ max_relations }
+    requires narrow { All (λ table. length table.columns ≤ max_columns) tables.now }
+    ensures { IfOk result (λ bound.
+        filter_tree bound ≡ bound_condition tables.now (OneOf negated of.now terms.now)) }
+{
+    let of = bound_operand(tables, of)?;
+    let operands = bound_operands(alloc, tables, terms)?;
+    negated_if(alloc, negated, Condition::OneOf(of, operands))
+}
+
 /// The condition with its columns by number.
 #[cycle(bound)]
 pub(crate) fn bound_condition(
@@ -64,21 +117,12 @@ pub(crate) fn bound_condition(
         (λ bound. filter_tree bound ≡ bound_condition tables.now (condition_tree condition.now)) }
 {
     match condition {
-        Cond::Compare(op, left, right) => {
-            let left = bound_operand(tables, left)?;
-            let right = bound_operand(tables, right)?;
-            Ok(Condition::Compare(*op, left, right))
-        }
+        Cond::Compare(op, left, right) => bound_compare(tables, *op, left, right),
         Cond::Between(negated, of, low, high) => {
-            let of = bound_operand(tables, of)?;
-            let low = bound_operand(tables, low)?;
-            let high = bound_operand(tables, high)?;
-            negated_if(alloc, *negated, Condition::Between(of, low, high))
+            bound_between(alloc, tables, *negated, of, low, high)
         }
         Cond::OneOf(negated, of, terms) => {
-            let of = bound_operand(tables, of)?;
-            let operands = bound_operands(alloc, tables, terms.as_slice())?;
-            negated_if(alloc, *negated, Condition::OneOf(of, operands))
+            bound_one_of(alloc, tables, *negated, of, terms.as_slice())
         }
         Cond::IsNull(negated, column) => {
             let column = place_of(tables, column).column;
@@ -86,8 +130,7 @@ pub(crate) fn bound_condition(
         }
         Cond::Not(inner) => {
             let inner = bound_condition(alloc, tables, inner)?;
-            let inner = Box::new(alloc, inner)?;
-            Ok(Condition::Not(inner))
+            negated_if(alloc, true, inner)
         }
         Cond::And(parts) => {
             let parts = bound_conditions(alloc, tables, parts.as_slice())?;

@@ -3,7 +3,7 @@ ghost use Rattle.std.specs.Prelude.{◌≡◌, ◌≢◌, ◌≤◌, ◌<◌, []
 ghost use Rattle.sql_values.specs.Limits.{max_columns};
 ghost use Rattle.sql_values.specs.Dictionary.{has_text};
 ghost use Rattle.db_catalog.specs.Database.{table_number};
-ghost use Rattle.sql_bind.specs.Binding.{named_tables, past, table_fault, from_fault};
+ghost use Rattle.sql_bind.specs.Binding.{named_table, named_tables, past, table_fault, from_fault};
 ghost use Rattle.sql_bind.specs.Refused.{Refuses, IsNamed};
 
 use crate::fault::BindFault;
@@ -71,6 +71,20 @@ fn number_of(database: &Database, item: &Item) -> Result<u32, BindFault>
     }
 }
 
+// An item as the table that it names, of which this is the number.
+fn named_table<'q>(database: &'q Database, item: &'q Item, number: u32) -> NamedTable<'q>
+    requires there { table_number database.now item.now.table ≡ Some number }
+    ensures table { result ≡ named_table database.now item.now }
+    ensures named { IsNamed result }
+{
+    NamedTable {
+        alias: item.alias.bytes(),
+        number,
+        columns: database.columns(number),
+        indexed: database.indexes(number),
+    }
+}
+
 // The tables of FROM, of which there are few.
 pub(crate) fn named_tables<'q>(
     alloc: Global,
@@ -89,12 +103,7 @@ pub(crate) fn named_tables<'q>(
         if has_alias(&items[..i], &items[i].alias) {
             return Err(duplicate_alias(&items[i].alias));
         }
-        tables.push(NamedTable {
-            alias: items[i].alias.bytes(),
-            number,
-            columns: database.columns(number),
-            indexed: database.indexes(number),
-        })?;
+        tables.push(named_table(database, &items[i], number))?;
     }
     Ok(tables)
 }

@@ -16,6 +16,3 @@ mod reach;
 
 pub use binding::bind;
 pub use fault::BindFault;
-
-#[cfg(test)]
-mod tests;
