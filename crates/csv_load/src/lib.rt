@@ -15,6 +15,3 @@ mod text;
 
 pub use fault::LoadFault;
 pub use loading::load;
-
-#[cfg(test)]
-mod tests;

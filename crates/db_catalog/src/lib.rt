@@ -24,6 +24,3 @@ pub use fault::DbFault;
 pub use fits::blocks_fit_as_a_database_grows;
 pub use indexes::an_index_is_its_column_in_order;
 pub use metered::Metered;
-
-#[cfg(test)]
-mod tests;

@@ -20,6 +20,3 @@ mod ties;
 pub use projection::print_rows;
 pub use row::LentRow;
 pub use table::{printed_in_any_order, rows_in_order, table_text};
-
-#[cfg(test)]
-mod tests;
