@@ -12,7 +12,7 @@ ghost use Rattle.shell.specs.Limits.{max_work};
 ghost use Rattle.shell.specs.Printed.{usage_line};
 ghost use Rattle.shell.specs.Refusal.{line_of};
 ghost use Rattle.shell.specs.declared.refusal.Refusal.{Refusal};
-ghost use Rattle.shell.specs.Script.{Answer};
+ghost use Rattle.shell.specs.Script.{Answer, nothing_made};
 ghost use Rattle.shell.specs.Due.{CarriesAll, CarriesOne};
 ghost use Rattle.shell.specs.Serve.{IsScript, IsAnswer, Serves, RefusesWords, IsDecided};
 ghost use Rattle.shell.specs.Source.{TakesAtMost};
@@ -100,6 +100,36 @@ fn carry_out_one<F: Folder, K: Sink>(
 }
 
 // Carries the statements out, one after another, up to and with the first that is refused.
+fn carry_out_each<F: Folder, K: Sink>(
+    alloc: Global,
+    session: &mut Session,
+    statements: &[Statement],
+    folder: &mut F,
+    sink: &mut K,
+    book: &mut Book,
+) -> Status
+    requires well_formed { All (λ statement. IsWellFormed (statement_tree statement)) statements.now }
+    requires predicates { All (λ statement.
+        predicates_of (statement_tree statement) ≤ max_script_bytes) statements.now }
+    requires fresh { session.old ≡ nothing_made }
+    requires unpaid { book.old ≡ 0 }
+    ensures carries { CarriesAll (map statement_tree statements.now) (F.state folder.old) (F.state folder.new) result
+        (K.got sink.old) (K.got sink.new) book.old book.new }
+    ensures kinds { result ≢ Status.BadWords }
+    ensures folder { OnlyReads (result ≡ Status.ReadFault) ⊥
+        (F.state folder.old) (F.state folder.new) }
+    ensures sink { HasCause (result ≡ Status.WriteFault) (K.faults sink.old) (K.faults sink.new) }
+{
+    for statement in statements {
+        match carry_out_one(alloc, session, statement, folder, sink, book) {
+            Ok(()) => {}
+            Err(ended) => return ended,
+        }
+    }
+    Status::Done
+}
+
+// The same from the beginning.
 fn carry_out_all<F: Folder, K: Sink>(
     alloc: Global,
     statements: &[Statement],
@@ -119,13 +149,7 @@ fn carry_out_all<F: Folder, K: Sink>(
     ensures sink { HasCause (result ≡ Status.WriteFault) (K.faults sink.old) (K.faults sink.new) }
 {
     let mut session = Session::new(alloc);
-    for statement in statements {
-        match carry_out_one(alloc, &mut session, statement, folder, sink, book) {
-            Ok(()) => {}
-            Err(ended) => return ended,
-        }
-    }
-    Status::Done
+    carry_out_each(alloc, &mut session, statements, folder, sink, book)
 }
 
 // Puts the usage line.

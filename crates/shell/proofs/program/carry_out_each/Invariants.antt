@@ -3,7 +3,7 @@ use Rattle.outside_io.specs.Files.{OnlyReads}
 use Rattle.sql_parse.specs.Trees.{statement_tree}
 use Rattle.shell.specs.Limits.{max_work}
 use Rattle.shell.proofs.Carrying.{IsCarried}
-use Rattle.shell.proofs.program.carry_out_all.Given as goal
+use Rattle.shell.proofs.program.carry_out_each.Given as goal
 
 abbrev pub invariant-loop-statement : goal.invariant-loop-statement
 invariant-loop-statement g l = record {

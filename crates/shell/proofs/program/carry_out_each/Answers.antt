@@ -5,11 +5,11 @@ use Rattle.sql_parse.specs.Trees.{statement_tree}
 use Rattle.shell.specs.Limits.{max_work}
 use Rattle.shell.proofs.Carrying.{carried_none, carried_all}
 use Rattle.shell.proofs.Ends.{ended_at, on_at, reads_last, reads_on, reads_none}
-use Rattle.shell.proofs.program.carry_out_all.Goals as goal
+use Rattle.shell.proofs.program.carry_out_each.Goals as goal
 
 pub loop-statement-init : goal.loop-statement-init
 loop-statement-init g c = record {
-  carried = rw c.new-session.ensures (carried_none (map statement_tree c.args.statements.now) (g.F.Folder.state c.args.folder.now) (g.K.Sink.got c.args.sink.now) c.args.book.now);
+  carried = rw c.requires.fresh (carried_none (map statement_tree c.args.statements.now) (g.F.Folder.state c.args.folder.now) (g.K.Sink.got c.args.sink.now) c.args.book.now);
   folder = reads_none (g.F.Folder.state c.args.folder.now) ⊥ (λ none. none);
   sink = omega arith;
   spent = omega arith;
