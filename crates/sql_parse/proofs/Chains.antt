@@ -1,14 +1,12 @@
 -- Chains of conditions: one part is itself, several are one node.
-use Rattle.std.proofs.Common.{◌≡◌, ℕ, zero, suc, ◌-◌, ◌<◌, true, false, List, [], ◌∷◌, length, Option, Some, None, is_some, refl, ap, subst, arith}
+use Rattle.std.proofs.Common.{◌≡◌, ℕ, suc, ◌-◌, true, false, List, [], ◌∷◌, length, Option, Some, None, is_some, refl, ap, arith}
 use Rattle.sql_parse.specs.declared.condition.Connective.{Connective}
 use Rattle.sql_parse.specs.declared.fault.ReadFault.{ReadFault}
 use Rattle.sql_parse.specs.declared.fault.ReadFault.TheVariants.{NotAStatement, NoMemory}
-use Rattle.sql_parse.specs.declared.condition.Connective.TheVariants.{Or}
 use Rattle.sql_parse.specs.declared.mark.Mark.{Mark}
-use Rattle.sql_parse.specs.declared.mark.Mark.TheVariants.{OpenParen, CloseParen}
 use Rattle.sql_parse.specs.Lexemes.{Lexeme}
 use Rattle.sql_parse.specs.Trees.{ConditionTree}
-use Rattle.sql_parse.specs.Reading.{Reader, ◌>>=◌, choose, after_mark, more_at, list_with_first, list_at, chain_at, level_at, group_at, in_parentheses_at, joined, node_of, separator_of, Fails}
+use Rattle.sql_parse.specs.Reading.{Reader, ◌>>=◌, choose, after_mark, more_at, list_with_first, list_at, chain_at, joined, node_of, separator_of, Fails}
 use Rattle.sql_parse.proofs.Lists.{more_at-end}
 
 -- a part before those that reading gives
@@ -92,13 +90,3 @@ pub as_tree-fails : (node : List ConditionTree → ConditionTree) (read : Option
     → Fails fault (as_tree node read)
 as_tree-fails node read NotAStatement fails = ap (as_tree node) fails
 as_tree-fails node read NoMemory fails = tt
-
--- a condition in parentheses that isn't closed
-pub group_at-fails : (nesting : ℕ) (tokens inside rest : List Lexeme) (x : ConditionTree) (fault : ReadFault) → 0 < nesting
-    → after_mark OpenParen tokens ≡ Some inside → level_at Or (group_at (nesting - 1)) inside ≡ Some (x, rest) → Fails fault (after_mark CloseParen rest)
-    → Fails fault (group_at nesting tokens)
-unfolding group_at in_parentheses_at
-group_at-fails zero tokens inside rest x fault deep opened found fails = absurd (omega arith)
-group_at-fails (suc nesting) tokens inside rest x NotAStatement deep opened found fails =
-    rw (opened, subst (λ (n : ℕ). level_at Or (group_at n) inside ≡ Some (x, rest)) (suc-sub-one nesting) found, fails) refl
-group_at-fails (suc nesting) tokens inside rest x NoMemory deep opened found fails = tt

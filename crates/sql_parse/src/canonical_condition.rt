@@ -1,14 +1,15 @@
 // The canonical text of conditions.
 
 ghost use Rattle.std.specs.Prelude.{◌≡◌, map, OnOk};
-ghost use Rattle.sql_parse.specs.Trees.{condition_tree, operands};
+ghost use Rattle.sql_parse.specs.Trees.{condition_tree, operands, Compare, Between, OneOf, IsNull};
 ghost use Rattle.sql_parse.specs.Canonical.{is_or, is_chain, is_no_predicate, grouped_if, condition_parts, and_parts, or_parts};
 ghost use Rattle.sql_parse.specs.Printing.{put_all, between};
 
 use crate::canonical::{Printed, print_if, print_in_parentheses};
 use crate::mark::Mark;
-use crate::tree::Cond;
+use crate::tree::{ColRef, Cond, Term};
 use crate::writer::Writer;
+use sql_values::Op;
 use std::alloc::AllocError;
 
 // Appends a condition.
@@ -19,31 +20,10 @@ pub(crate) fn condition(writer: &mut Writer, tree: &Cond) -> Result<(), AllocErr
         (writer.new ≡ put_all writer.old (condition_parts (condition_tree tree.now))) }
 {
     match tree {
-        Cond::Compare(op, left, right) => {
-            left.print_to(writer)?;
-            writer.operator(*op)?;
-            right.print_to(writer)
-        }
-        Cond::Between(negated, of, low, high) => {
-            of.print_to(writer)?;
-            print_if(writer, *negated, Mark::Not)?;
-            writer.mark(Mark::Between)?;
-            low.print_to(writer)?;
-            writer.mark(Mark::And)?;
-            high.print_to(writer)
-        }
-        Cond::OneOf(negated, of, terms) => {
-            of.print_to(writer)?;
-            print_if(writer, *negated, Mark::Not)?;
-            writer.mark(Mark::In)?;
-            print_in_parentheses(writer, terms.as_slice())
-        }
-        Cond::IsNull(negated, column) => {
-            column.print_to(writer)?;
-            writer.mark(Mark::Is)?;
-            print_if(writer, *negated, Mark::Not)?;
-            writer.mark(Mark::Null)
-        }
+        Cond::Compare(op, left, right) => print_compare(writer, *op, left, right),
+        Cond::Between(negated, of, low, high) => print_range(writer, *negated, of, low, high),
+        Cond::OneOf(negated, of, terms) => print_one_of(writer, *negated, of, terms.as_slice()),
+        Cond::IsNull(negated, column) => print_null_test(writer, *negated, column),
         Cond::Not(inner) => {
             writer.mark(Mark::Not)?;
             grouped(writer, is_no_predicate(inner), inner)
@@ -51,6 +31,62 @@ pub(crate) fn condition(writer: &mut Writer, tree: &Cond) -> Result<(), AllocErr
         Cond::And(parts) => and_chain(writer, parts.as_slice()),
         Cond::Or(parts) => or_chain(writer, parts.as_slice()),
     }
+}
+
+#[tactic(auto, using(crate::proofs::Written::of_lines))]
+fn print_compare(writer: &mut Writer, op: Op, left: &Term, right: &Term) -> Result<(), AllocError>
+    ensures { OnOk result
+        (writer.new ≡ put_all writer.old (condition_parts (Compare op left.now right.now))) }
+{
+    left.print_to(writer)?;
+    writer.operator(op)?;
+    right.print_to(writer)
+}
+
+#[tactic(auto, using(crate::proofs::Written::of_lines))]
+fn print_range(
+    writer: &mut Writer,
+    negated: bool,
+    of: &Term,
+    low: &Term,
+    high: &Term,
+) -> Result<(), AllocError>
+    ensures { OnOk result (writer.new
+        ≡ put_all writer.old (condition_parts (Between negated of.now low.now high.now))) }
+{
+    of.print_to(writer)?;
+    print_if(writer, negated, Mark::Not)?;
+    writer.mark(Mark::Between)?;
+    low.print_to(writer)?;
+    writer.mark(Mark::And)?;
+    high.print_to(writer)
+}
+
+#[tactic(auto, using(crate::proofs::Written::of_lines))]
+fn print_one_of(
+    writer: &mut Writer,
+    negated: bool,
+    of: &Term,
+    terms: &[Term],
+) -> Result<(), AllocError>
+    ensures { OnOk result
+        (writer.new ≡ put_all writer.old (condition_parts (OneOf negated of.now terms.now))) }
+{
+    of.print_to(writer)?;
+    print_if(writer, negated, Mark::Not)?;
+    writer.mark(Mark::In)?;
+    print_in_parentheses(writer, terms)
+}
+
+#[tactic(auto, using(crate::proofs::Written::of_lines))]
+fn print_null_test(writer: &mut Writer, negated: bool, column: &ColRef) -> Result<(), AllocError>
+    ensures { OnOk result
+        (writer.new ≡ put_all writer.old (condition_parts (IsNull negated column.now))) }
+{
+    column.print_to(writer)?;
+    writer.mark(Mark::Is)?;
+    print_if(writer, negated, Mark::Not)?;
+    writer.mark(Mark::Null)
 }
 
 // Appends a condition, in parentheses where it is to be a group.
