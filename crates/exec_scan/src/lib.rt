@@ -12,8 +12,3 @@ mod scan_op;
 mod table_scan;
 
 pub use scan_op::ScanOp;
-
-#[cfg(test)]
-mod index_tests;
-#[cfg(test)]
-mod tests;
