@@ -5,6 +5,7 @@ ghost use Rattle.sql_parse.specs.Trees.{statement_tree, query_tree};
 ghost use Rattle.sql_parse.specs.WellFormed.{IsWellFormed, IsWellFormedQuery};
 ghost use Rattle.sql_parse.specs.Counts.{predicates_of, of_condition, predicates_in};
 
+use crate::wrong::Wrong;
 use db_catalog::Database;
 use query_block::Block;
 use sql_bind::bind;
@@ -12,7 +13,6 @@ use sql_lex::lex;
 use sql_parse::{IndexDef, LoadDef, Statement, read_script};
 use sql_values::{ColumnDef, Text};
 use std::alloc::Global;
-use std::test::Fail;
 
 // The number of a column of this name.
 fn column_of(columns: &[ColumnDef], name: &Text) -> Option<u8> {
@@ -24,7 +24,7 @@ fn column_of(columns: &[ColumnDef], name: &Text) -> Option<u8> {
     None
 }
 
-fn create_index(db: &mut Database, index: &IndexDef) -> Result<(), Fail> {
+fn create_index(db: &mut Database, index: &IndexDef) -> Result<(), Wrong> {
     let table = db
         .table_of(index.table.bytes())
         .ok_or("the table is there")?;
@@ -40,7 +40,7 @@ fn create_index(db: &mut Database, index: &IndexDef) -> Result<(), Fail> {
 }
 
 // So many rows of a number and its rest.
-fn counted_rows(alloc: Global, numbers: &str) -> Result<Vec<u8>, Fail> {
+fn counted_rows(alloc: Global, numbers: &str) -> Result<Vec<u8>, Wrong> {
     let (rows, rest) = numbers.split_once(' ').ok_or("two numbers")?;
     let rows: u32 = rows.parse()?;
     let rest: u32 = rest.parse()?;
@@ -56,7 +56,7 @@ fn counted_rows(alloc: Global, numbers: &str) -> Result<Vec<u8>, Fail> {
 }
 
 // The text with its line ends.
-fn lines_of(alloc: Global, text: &[u8]) -> Result<Vec<u8>, Fail> {
+fn lines_of(alloc: Global, text: &[u8]) -> Result<Vec<u8>, Wrong> {
     let mut lines = Vec::new(alloc);
     for byte in text {
         let byte = if *byte == b'/' { b'\n' } else { *byte };
@@ -65,7 +65,7 @@ fn lines_of(alloc: Global, text: &[u8]) -> Result<Vec<u8>, Fail> {
     Ok(lines)
 }
 
-fn load(alloc: Global, db: &mut Database, load: &LoadDef) -> Result<(), Fail> {
+fn load(alloc: Global, db: &mut Database, load: &LoadDef) -> Result<(), Wrong> {
     let table = db.table_of(load.table.bytes()).ok_or("the table is there")?;
     if table >= db.tables() {
         return Err("the table is there".into());
@@ -85,7 +85,11 @@ fn load(alloc: Global, db: &mut Database, load: &LoadDef) -> Result<(), Fail> {
 }
 
 // Carries a statement out. The block of a query is its answer.
-fn carry_out(alloc: Global, db: &mut Database, statement: &Statement) -> Result<Option<Block>, Fail>
+fn carry_out(
+    alloc: Global,
+    db: &mut Database,
+    statement: &Statement,
+) -> Result<Option<Block>, Wrong>
     requires well_formed { IsWellFormed (statement_tree statement.now) }
     requires predicates { predicates_of (statement_tree statement.now) ≤ 1000000 }
 {
@@ -112,7 +116,7 @@ pub(crate) fn extend(
     alloc: Global,
     db: &mut Database,
     script: &str,
-) -> Result<Option<Block>, Fail> {
+) -> Result<Option<Block>, Wrong> {
     let text = script.as_bytes();
     if text.len() > 1_000_000 {
         return Err("a short script".into());
@@ -130,14 +134,14 @@ pub(crate) fn extend(
 }
 
 // The block of a query, from what stands behind its FROM.
-pub(crate) fn block_of(alloc: Global, db: &mut Database, from: &str) -> Result<Block, Fail> {
+pub(crate) fn block_of(alloc: Global, db: &mut Database, from: &str) -> Result<Block, Wrong> {
     let query = format!(in alloc; "SELECT * FROM {from}")?;
     let block = extend(alloc, db, &query)?.ok_or("a query is there")?;
     Ok(block)
 }
 
 // The one statement of a script.
-pub(crate) fn statement_of(alloc: Global, script: &str) -> Result<Statement, Fail> {
+pub(crate) fn statement_of(alloc: Global, script: &str) -> Result<Statement, Wrong> {
     let text = script.as_bytes();
     if text.len() > 1_000_000 {
         return Err("a short script".into());

@@ -1,9 +1,9 @@
 // Plans from their texts, as plan_tree writes them.
 ghost use Rattle.std.specs.Prelude.{◌<◌, length};
 
+use crate::wrong::Wrong;
 use plan_tree::Plan;
 use std::alloc::Global;
-use std::test::Fail;
 
 // A number at a place of a text, and where it ends.
 fn number_at(text: &[u8], from: usize) -> (u8, usize) {
@@ -22,13 +22,13 @@ fn number_at(text: &[u8], from: usize) -> (u8, usize) {
 }
 
 // The plan that was put last.
-fn side(alloc: Global, plans: &mut Vec<Plan>) -> Result<Box<Plan>, Fail> {
+fn side(alloc: Global, plans: &mut Vec<Plan>) -> Result<Box<Plan>, Wrong> {
     let plan = plans.pop().ok_or("a side is there")?;
     Ok(Box::new(alloc, plan)?)
 }
 
 // The node of this letter and number, over the plans that were put last.
-fn node(alloc: Global, letter: u8, number: u8, plans: &mut Vec<Plan>) -> Result<Plan, Fail> {
+fn node(alloc: Global, letter: u8, number: u8, plans: &mut Vec<Plan>) -> Result<Plan, Wrong> {
     let left = side(alloc, plans)?;
     if letter == b'X' {
         return match plans.pop() {
@@ -46,7 +46,7 @@ fn node(alloc: Global, letter: u8, number: u8, plans: &mut Vec<Plan>) -> Result<
 }
 
 // The piece of a text at a place: a leaf, a relation's number, or a node. It takes what it needs from the plans.
-fn piece(alloc: Global, text: &[u8], at: usize, plans: &mut Vec<Plan>) -> Result<Plan, Fail>
+fn piece(alloc: Global, text: &[u8], at: usize, plans: &mut Vec<Plan>) -> Result<Plan, Wrong>
     requires { at < length text.now }
 {
     let letter = text[at];
@@ -73,7 +73,7 @@ fn begins(text: &[u8], at: usize) -> bool
 }
 
 // The plan of a text, which is read from its end.
-pub(crate) fn plan_of(alloc: Global, written: &str) -> Result<Plan, Fail> {
+pub(crate) fn plan_of(alloc: Global, written: &str) -> Result<Plan, Wrong> {
     let text = written.as_bytes();
     let mut plans = Vec::new(alloc);
     for at in (0..text.len()).rev() {
