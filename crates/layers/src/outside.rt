@@ -1,7 +1,7 @@
 // What the adapters reach of the system: that a sink flushes and tells the failures of a writer, and what files answer.
 use outside_io::{
-    DirFolder, Failed, FileFault, Folder, MemoryFolder, MemorySink, MemorySource, PutFault,
-    ReaderSource, Sink, Source, StdSink, StdSource, WriterSink,
+    DirFolder, Failed, FileFault, Folder, MemoryFolder, PutFault, ReaderSource, Sink, Source,
+    StdSink, StdSource, WriterSink,
 };
 use std::alloc::Global;
 use std::fs::OpenFile;
@@ -156,32 +156,49 @@ fn read_line<F: Folder>(alloc: Global, folder: &mut F, name: &str) -> Result<Str
     Ok(line)
 }
 
-// What is read of a file of the system that was written twice, of a place below it, of no file, of a folder, of a name that
-// no file can have; and whether a folder and a full disk take bytes.
-fn files(alloc: Global, rt: &HostRuntime) -> Result<String, Fail> {
-    let name = format!(in alloc; "/tmp/layers-{}", process::id(rt.process()))?;
-    let below = format!(in alloc; "{name}/a")?;
+// Whether a file takes bytes twice.
+fn written_twice<F: Folder>(folder: &mut F, name: &str) -> bool {
+    folder.write(name, b"abc").is_ok() && folder.write(name, b"de").is_ok()
+}
+
+// Whether a file was written twice, and what is read of it then and of a place below it.
+fn kept_file(alloc: Global, rt: &HostRuntime, name: &str) -> Result<String, Fail> {
     let mut folder = DirFolder::new(rt);
-    let written = folder.write(&name, b"abc").is_ok() && folder.write(&name, b"de").is_ok();
-    let mut found = String::new(alloc);
-    for path in [name.as_str(), below.as_str(), "", "/tmp", "a\0b"] {
-        found.push_str(&read_line(alloc, &mut folder, path)?)?;
+    if !written_twice(&mut folder, name) {
+        return Err("a file can be written".into());
     }
-    fs::remove_file(rt, &name)?;
-    found.push_str(&read_line(alloc, &mut folder, &name)?)?;
-    let refused = folder.write("/tmp", b"a").is_err() && folder.write("/dev/full", b"a").is_err();
-    found.push_str(&format!(in alloc; "{written} {refused}\n")?)?;
+    let below = format!(in alloc; "{name}/a")?;
+    let mut found = read_line(alloc, &mut folder, name)?;
+    found.push_str(&read_line(alloc, &mut folder, &below)?)?;
     Ok(found)
 }
 
 #[test]
-fn the_working_directory_is_a_folder(rt: HostRuntime) -> Result<(), Fail> {
-    let found = files(rt.alloc(), &rt)?;
-    assert_eq!(rt;
-        found.as_str(),
-        "2\nfailed\nabsent\nfailed\nfailed\nabsent\ntrue true\n"
-    );
+fn a_file_keeps_what_was_written_last(rt: HostRuntime) -> Result<(), Fail> {
+    let name = format!(in rt.alloc(); "/tmp/layers-{}", process::id(rt.process()))?;
+    let found = kept_file(rt.alloc(), &rt, &name)?;
+    fs::remove_file(&rt, &name)?;
+    assert_eq!(rt; found.as_str(), "2\nfailed\n");
     Ok(())
+}
+
+#[test]
+fn names_of_no_file_are_absent_or_fail(rt: HostRuntime) -> Result<(), Fail> {
+    let alloc = rt.alloc();
+    let mut folder = DirFolder::new(&rt);
+    let mut found = String::new(alloc);
+    for path in ["", "/tmp/layers-no-file", "/tmp", "a\0b"] {
+        found.push_str(&read_line(alloc, &mut folder, path)?)?;
+    }
+    assert_eq!(rt; found.as_str(), "absent\nabsent\nfailed\nfailed\n");
+    Ok(())
+}
+
+#[test]
+fn a_folder_and_a_full_disk_take_no_bytes(rt: HostRuntime) {
+    let mut folder = DirFolder::new(&rt);
+    let refused = folder.write("/tmp", b"a").is_err() && folder.write("/dev/full", b"a").is_err();
+    assert!(rt; refused);
 }
 
 // What is read of a file of this length.
@@ -208,32 +225,15 @@ fn a_file_is_read_up_to_the_limit(rt: HostRuntime) -> Result<(), Fail> {
     Ok(())
 }
 
-// What the objects in memory answer: a source whose second call fails, a sink, and a folder whose third call fails.
-fn in_memory(alloc: Global) -> Result<String, Fail> {
-    let bytes = Vec::from_slice(alloc, b"abc")?;
-    let mut source = MemorySource::new(bytes, Vec::from_slice(alloc, &[2])?);
-    let mut room = [0u8; 2];
-    let mut found = take_line(alloc, &mut source, &mut room)?;
-    found.push_str(&take_line(alloc, &mut source, &mut room)?)?;
-    let mut sink = MemorySink::new(alloc, Vec::new(alloc));
-    let put = sink.put(b"ab").is_ok();
-    let mut folder = MemoryFolder::new(alloc, Vec::from_slice(alloc, &[3])?);
-    folder.add("a", b"1")?;
-    let written = folder.write("b", b"23").is_ok();
-    for name in ["b", "a", "c"] {
-        found.push_str(&read_line(alloc, &mut folder, name)?)?;
-    }
-    found.push_str(&format!(in alloc; "{put} {written}\n")?)?;
-    Ok(found)
-}
-
 #[test]
-fn objects_in_memory_give_and_take(rt: HostRuntime) -> Result<(), Fail> {
-    let found = in_memory(rt.alloc())?;
-    assert_eq!(rt;
-        found.as_str(),
-        "2 97 98\nfailed 97 98\n2\nfailed\nabsent\ntrue true\n"
-    );
+fn a_folder_in_memory_keeps_what_was_written(rt: HostRuntime) -> Result<(), Fail> {
+    let alloc = rt.alloc();
+    let mut folder = MemoryFolder::new(alloc, Vec::new(alloc));
+    if !written_twice(&mut folder, "a") {
+        return Err("a file can be written".into());
+    }
+    let found = read_line(alloc, &mut folder, "a")?;
+    assert_eq!(rt; found.as_str(), "2\n");
     Ok(())
 }
 
