@@ -32,13 +32,13 @@ pub struct Index {
 
 impl Model for Index {
     ghost use Rattle.std.specs.Prelude.{List};
-    ghost use Rattle.btree_index.specs.Entries.{IndexEntry, IsKept};
+    ghost use Rattle.btree_index.specs.Entries.{IndexEntry, IsSortedIndex};
 
     ghost Value = { List IndexEntry };
 
     ghost view = { λ x. x.entries.items };
 
-    ghost invariant = { λ x. IsKept x.entries.items x.height };
+    ghost invariant = { λ x. IsSortedIndex x.entries.items x.height };
 }
 
 // The least height of at least 1 at which nodes of 64 have room for so many entries.

@@ -13,7 +13,8 @@ use Rattle.ess_grid.proofs.Selectivities.{selectivity_of-halvings, selectivity_o
 use Rattle.query_block.specs.declared.edge.Edge.{Edge}
 use Rattle.query_block.specs.Meaning.{RelationSet, is_inside}
 use Rattle.cost_model.specs.Costing.{CostingTree}
-use Rattle.cost_model.specs.Cards.{scaled, selectivity_at, kept_product, scaled_by_edges, card_of, halvings_inside}
+use Rattle.cost_model.specs.Cards.{scaled, selectivity_at, kept_product, scaled_by_edges, card_of}
+use Rattle.cost_model.specs.Rounding.{halvings_inside}
 use Rattle.cost_model.proofs.Rounding.{IsCeiling, ceiling, ceiling-one, twice, halved, scaled-few, scaled-le}
 
 -- halved so often, and then perhaps so often more

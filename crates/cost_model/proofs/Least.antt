@@ -6,9 +6,10 @@ use Rattle.plan_tree.specs.Enumerated.{IsPlan}
 use Rattle.cost_model.specs.Costing.{CostingTree}
 use Rattle.cost_model.specs.Costs.{cost_of}
 use Rattle.cost_model.specs.Best.{IsCheapest}
-use Rattle.cost_model.specs.Optimal.{plans_of, least_of, optimal_cost}
-use Rattle.cost_model.proofs.Members.{IsIn, in-map, of-map}
-use Rattle.cost_model.proofs.Enumerated.{in-plans, of-plans}
+use Rattle.plan_tree.specs.AllPlans.{plans_of}
+use Rattle.cost_model.specs.Optimal.{least_of, optimal_cost}
+use Rattle.plan_tree.proofs.Members.{IsIn, in-map, of-map}
+use Rattle.plan_tree.proofs.Enumerated.{in-plans, of-plans}
 
 least-at-most : (n : ℕ) (ns : List ℕ) → IsIn n ns → least_of ns ≤ n
 least-at-most n [] is = absurd is

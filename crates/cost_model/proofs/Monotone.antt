@@ -8,8 +8,9 @@ use Rattle.plan_tree.specs.Enumerated.{column_on, edge_at}
 use Rattle.plan_tree.specs.Work.{bits}
 use Rattle.cost_model.specs.Costing.{CostingTree}
 use Rattle.cost_model.specs.Costs.{relation_stats, index_stats, out_card, cost_of}
-use Rattle.cost_model.specs.Optimal.{plans_of, least_of, optimal_cost}
-use Rattle.cost_model.proofs.Bits.{bits-le}
+use Rattle.plan_tree.specs.AllPlans.{plans_of}
+use Rattle.cost_model.specs.Optimal.{least_of, optimal_cost}
+use Rattle.plan_tree.proofs.Digits.{bits-le}
 use Rattle.cost_model.proofs.Cards.{card-le, candidates-le}
 
 sort-le : (n m : ℕ) → n ≤ m → n * bits n ≤ m * bits m

@@ -1,8 +1,8 @@
 -- Best plans at a point.
 use Rattle.std.specs.Prelude.{◌≢◌, ℕ, ◌≤◌, List}
-use Rattle.std.specs.declared.cmp.Ordering.{Ordering}
 use Rattle.std.specs.declared.cmp.Ordering.TheVariants.{Greater}
 use Rattle.plan_tree.specs.Plans.{PlanTree}
+use Rattle.plan_tree.specs.Order.{plan_order_of}
 use Rattle.plan_tree.specs.Enumerated.{IsPlan}
 use Rattle.cost_model.specs.Costing.{CostingTree}
 use Rattle.cost_model.specs.Costs.{cost_of}
@@ -12,7 +12,7 @@ pub record IsCheapest (costing : CostingTree) (point : List ℕ) (p : PlanTree) 
   pub plan : IsPlan costing.block p
   pub least : (other : PlanTree) → IsPlan costing.block other → cost_of costing p point ≤ cost_of costing other point
 
--- the first of these in an order of plans
-pub record IsBest (order : PlanTree → PlanTree → Ordering) (costing : CostingTree) (point : List ℕ) (p : PlanTree) : Type 0 where
+-- the first of these in plan order
+pub record IsBest (costing : CostingTree) (point : List ℕ) (p : PlanTree) : Type 0 where
   pub cheapest : IsCheapest costing point p
-  pub first : (other : PlanTree) → IsCheapest costing point other → order p other ≢ Greater
+  pub first : (other : PlanTree) → IsCheapest costing point other → plan_order_of p other ≢ Greater

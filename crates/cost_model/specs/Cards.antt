@@ -1,5 +1,5 @@
 -- Cards: how many rows each set of relations is taken to give at a point of the grid.
-use Rattle.std.specs.Prelude.{ℕ, ◌+◌, ◌*◌, ◌^◌, not, nat_eq, bit_and, List, [], ◌∷◌, slice_index, if◌then◌else◌}
+use Rattle.std.specs.Prelude.{ℕ, ◌+◌, ◌*◌, List, [], ◌∷◌, slice_index, if◌then◌else◌}
 use Rattle.std.specs.Int.{div_ceil}
 use Rattle.ess_grid.specs.Levels.{full_selectivity, selectivity_of, halvings_of}
 use Rattle.ess_grid.specs.Points.{GridShape}
@@ -7,10 +7,6 @@ use Rattle.query_block.specs.declared.edge.Edge.{Edge}
 use Rattle.query_block.specs.Meaning.{RelationSet, is_inside}
 use Rattle.cost_model.specs.declared.stats.RelationStats.{RelationStats}
 use Rattle.cost_model.specs.Costing.{CostingTree}
-
--- the set for which a number stands: bit r for relation r
-abbrev pub set_of : ℕ → RelationSet
-set_of set relation = not (nat_eq (bit_and set (2 ^ relation)) 0)
 
 -- a number of rows times a selectivity, rounded up
 abbrev pub scaled : (rows selectivity : ℕ) → ℕ
@@ -35,10 +31,3 @@ scaled_by_edges grid point set number (edge ∷ edges) rows =
 unfoldable pub card_of : CostingTree → RelationSet → (point : List ℕ) → ℕ
 card_of costing set point =
     scaled_by_edges costing.grid point set 0 costing.block.edges (kept_product set 0 costing.stats.relations)
-
--- how often the whole is halved for all edges inside a set together, the first of which has this number
-abbrev pub halvings_inside : GridShape → (point : List ℕ) → RelationSet → (number : ℕ) → List Edge → ℕ
-halvings_inside grid point set number [] = 0
-halvings_inside grid point set number (edge ∷ edges) =
-    (if is_inside set edge then halvings_of grid.levels (slice_index point number) else 0)
-    + halvings_inside grid point set (number + 1) edges

@@ -1,5 +1,6 @@
 -- The cost of a plan at a point: the work of its nodes, with cards for the rows that they give.
 use Rattle.std.specs.Prelude.{ℕ, ◌+◌, ◌*◌, List, [], ◌∷◌, nat_eq, slice_index_or, unwrap_or, None, if◌then◌else◌}
+use Rattle.work_ledger.specs.Charges.{open_charge, page_charge, node_charge, entry_charge, fetch_charge}
 use Rattle.plan_tree.specs.Plans.{PlanTree, Scan, IndexScan, Nest, Hash, Merge, IndexLoop, has_leaf}
 use Rattle.plan_tree.specs.Enumerated.{edge_at, column_on}
 use Rattle.plan_tree.specs.Work.{nest_work, hash_work, merge_work, index_loop_work}
@@ -31,10 +32,10 @@ abbrev pub candidate_card : CostingTree → (edge : ℕ) → (point : List ℕ) 
 candidate_card costing edge point pairs = scaled pairs (selectivity_at costing.grid point edge)
 
 abbrev pub scan_cost : RelationStats → (out : ℕ) → ℕ
-scan_cost stats out = 1 + 8 * stats.pages + stats.rows + out
+scan_cost stats out = open_charge + page_charge * stats.pages + stats.rows + out
 
 abbrev pub index_scan_cost : IndexStats → (out : ℕ) → ℕ
-index_scan_cost index out = 1 + 2 * index.height + 10 * unwrap_or index.matches 0 + out
+index_scan_cost index out = open_charge + node_charge * index.height + (entry_charge + fetch_charge) * unwrap_or index.matches 0 + out
 
 -- the cost of a plan; an index loop's pairs are those of the left side with all rows of the table, before its filter
 abbrev pub cost_of : CostingTree → PlanTree → (point : List ℕ) → ℕ

@@ -5,4 +5,6 @@ pub mod Cards
 pub mod Costs
 pub mod Best
 pub mod Optimal
+pub mod Rounding
+-- what only proofs need
 pub mod Parts

@@ -1,53 +1,12 @@
--- The optimal cost at a point: the least of all plans of a block.
-use Rattle.std.specs.Prelude.{ℕ, zero, suc, ◌++◌, min, Bool, List, [], ◌∷◌, filter, map, length, nat_eq, if◌then◌else◌}
-use Rattle.std.specs.List.{flat_map, list_all, list_any, range_with_len}
-use Rattle.query_block.specs.Blocks.{BlockTree, relation_at}
-use Rattle.plan_tree.specs.Plans.{PlanTree, Scan, IndexScan, Nest, Hash, Merge, IndexLoop, leaves_of, has_leaf}
-use Rattle.plan_tree.specs.Usable.{is_usable}
-use Rattle.plan_tree.specs.Enumerated.{edge_at, column_on, crosses}
+-- The optimal cost at a point: the least of all plans of a block. And the best plan there, which has it.
+use Rattle.std.specs.Prelude.{ℕ, min, List, [], ◌∷◌, map, if◌then◌else◌}
+use Rattle.std.specs.Ordering.{nat_cmp, ordering_then, is_gt}
+use Rattle.std.specs.declared.cmp.Ordering.{Ordering}
+use Rattle.plan_tree.specs.Plans.{PlanTree, Scan}
+use Rattle.plan_tree.specs.Order.{plan_order_of}
+use Rattle.plan_tree.specs.AllPlans.{plans_of}
 use Rattle.cost_model.specs.Costing.{CostingTree}
 use Rattle.cost_model.specs.Costs.{cost_of}
-
--- the ways to read one relation: a scan, and a scan of each index on a column that has a usable conjunct
-abbrev pub readings : BlockTree → (relation : ℕ) → List PlanTree
-readings block relation =
-    let tree = relation_at block.relations relation in
-    Scan relation ∷ map (IndexScan relation) (filter (λ column. list_any (is_usable tree.columns column) tree.filter) tree.indexes)
-
--- the numbers of the edges that cross two plans
-abbrev pub crossing : BlockTree → (left right : PlanTree) → List ℕ
-crossing block left right = filter (λ edge. crosses (edge_at block.edges edge) left right) (range_with_len 0 (length block.edges))
-
--- the joins of two plans that share no relation, by no edge or by one that crosses them
-abbrev pub joins : BlockTree → (left right : PlanTree) → List PlanTree
-joins block left right =
-    if list_any (has_leaf right) (leaves_of left) then []
-    else Nest left right ∷ flat_map (λ edge. Hash edge left right ∷ Merge edge left right ∷ []) (crossing block left right)
-
--- whether a relation's column of an edge is indexed
-abbrev pub has_index : BlockTree → (relation edge : ℕ) → Bool
-has_index block relation edge =
-    list_any (λ other. nat_eq other (column_on (edge_at block.edges edge) relation)) (relation_at block.relations relation).indexes
-
--- the look-ups of a relation that a plan hasn't, by an index on its column of an edge between both
-abbrev pub look_ups : BlockTree → (left : PlanTree) → (relation : ℕ) → List PlanTree
-look_ups block left relation =
-    if has_leaf left relation then []
-    else map (λ edge. IndexLoop edge left relation) (filter (has_index block relation) (crossing block left (Scan relation)))
-
--- all plans of some of the block's relations that are at most so many nodes deep
-unfoldable pub sub_plans : BlockTree → (depth : ℕ) → List PlanTree
-sub_plans block zero = []
-sub_plans block (suc depth) =
-    let relations = range_with_len 0 (length block.relations) in
-    let sides = sub_plans block depth in
-    flat_map (readings block) relations
-    ++ flat_map (λ left. flat_map (joins block left) sides ++ flat_map (look_ups block left) relations) sides
-
--- all plans of a block: no plan is deeper than it has relations
-abbrev pub plans_of : BlockTree → List PlanTree
-plans_of block =
-    filter (λ p. list_all (has_leaf p) (range_with_len 0 (length block.relations))) (sub_plans block (length block.relations))
 
 -- the least of some numbers
 abbrev pub least_of : List ℕ → ℕ
@@ -58,3 +17,20 @@ least_of (n ∷ m ∷ more) = min n (least_of (m ∷ more))
 -- the least cost of a plan of the block at a point
 abbrev pub optimal_cost : CostingTree → (point : List ℕ) → ℕ
 optimal_cost costing point = least_of (map (λ p. cost_of costing p point) (plans_of costing.block))
+
+-- the first of some plans in an order
+abbrev pub first_plan : (PlanTree → PlanTree → Ordering) → List PlanTree → PlanTree
+first_plan order [] = Scan 0
+first_plan order (p ∷ []) = p
+first_plan order (p ∷ other ∷ more) =
+    let rest = first_plan order (other ∷ more) in
+    if is_gt (order p rest) then rest else p
+
+-- the order of plans by what they cost at a point, and of equally cheap ones by plan order
+abbrev pub order_by_cost : CostingTree → (point : List ℕ) → PlanTree → PlanTree → Ordering
+order_by_cost costing point p other =
+    ordering_then (nat_cmp (cost_of costing p point) (cost_of costing other point)) (plan_order_of p other)
+
+-- the first in plan order of the cheapest plans of the block at a point
+abbrev pub best_plan : CostingTree → (point : List ℕ) → PlanTree
+best_plan costing point = first_plan (order_by_cost costing point) (plans_of costing.block)

@@ -6,11 +6,12 @@ use Rattle.cost_model.specs.declared.part.Part.{Part}
 use Rattle.cost_model.specs.declared.stats.RelationStats.{RelationStats}
 use Rattle.cost_model.specs.declared.stats.IndexStats.{IndexStats}
 use Rattle.cost_model.specs.Costing.{CostingTree}
-use Rattle.cost_model.specs.Cards.{set_of, card_of}
+use Rattle.cost_model.specs.Cards.{card_of}
+use Rattle.plan_tree.specs.Sets.{set_of}
 use Rattle.cost_model.specs.Costs.{relation_stats, out_card, cost_of}
 
 -- the set of a plan's relations, its card and its cost
-pub record IsPart (costing : CostingTree) (point : List ℕ) (p : PlanTree) (part : Part) : Type 0 where
+pub record IsCostedPart (costing : CostingTree) (point : List ℕ) (p : PlanTree) (part : Part) : Type 0 where
   pub set : part.set ≡ covers_of p
   pub card : part.card ≡ out_card costing p point
   pub cost : part.cost ≡ cost_of costing p point

@@ -8,9 +8,10 @@ ghost use Rattle.plan_tree.specs.Enumerated.{column_on, edge_at, IsScannable, Is
 ghost use Rattle.plan_tree.specs.Work.{nest_work, hash_work, merge_work, index_loop_work};
 ghost use Rattle.cost_model.specs.Fits.{FitsBlock};
 ghost use Rattle.cost_model.specs.Costing.{costing_tree, IsCosting};
-ghost use Rattle.cost_model.specs.Cards.{set_of, kept_product, card_of};
+ghost use Rattle.cost_model.specs.Cards.{kept_product, card_of};
+ghost use Rattle.plan_tree.specs.Sets.{set_of};
 ghost use Rattle.cost_model.specs.Costs.{relation_stats, index_on, index_stats, candidate_card, cost_of};
-ghost use Rattle.cost_model.specs.Parts.{AreSides, AreFew, IsFewIndex, IsJoined, IsPart, table_part};
+ghost use Rattle.cost_model.specs.Parts.{AreSides, AreFew, IsFewIndex, IsJoined, IsCostedPart, table_part};
 
 use crate::part::{Part, hash_cost, index_loop_cost, merge_cost, nest_cost, scaled};
 use crate::set::{has, is_inside, set_of_one};
@@ -131,7 +132,7 @@ impl<'c> Costing<'c> {
         requires costing { IsCosting (costing_tree self.now) }
         requires plan { IsSubPlan (block_tree self.now.block) (plan_tree p.now) }
         requires point { IsPoint self.now.grid q.now }
-        ensures { IsPart (costing_tree self.now) q.now (plan_tree p.now) result }
+        ensures { IsCostedPart (costing_tree self.now) q.now (plan_tree p.now) result }
     {
         match p {
             Plan::Scan(relation) => self.scan(*relation, q),
@@ -188,7 +189,7 @@ impl<'c> Costing<'c> {
     fn scan(&self, relation: u8, q: &Point) -> Part
         requires relation { relation < length self.now.block.relations }
         requires point { IsPoint self.now.grid q.now }
-        ensures { IsPart (costing_tree self.now) q.now (Scan relation) result }
+        ensures { IsCostedPart (costing_tree self.now) q.now (Scan relation) result }
     {
         let set = self.set_of(relation);
         let card = self.card(set, q);
@@ -201,7 +202,7 @@ impl<'c> Costing<'c> {
     fn index_scan(&self, relation: u8, column: u8, q: &Point) -> Part
         requires scannable { IsScannable (block_tree self.now.block) relation column }
         requires point { IsPoint self.now.grid q.now }
-        ensures { IsPart (costing_tree self.now) q.now (IndexScan relation column) result }
+        ensures { IsCostedPart (costing_tree self.now) q.now (IndexScan relation column) result }
     {
         let set = self.set_of(relation);
         let card = self.card(set, q);

@@ -8,10 +8,11 @@ ghost use Rattle.query_block.specs.Meaning.{RelationSet};
 ghost use Rattle.plan_tree.specs.Plans.{PlanTree};
 ghost use Rattle.plan_tree.specs.Enumerated.{IsPlan, IsSubPlan};
 ghost use Rattle.cost_model.specs.Costing.{CostingTree, IsCosting};
-ghost use Rattle.cost_model.specs.Cards.{kept_product, halvings_inside, card_of};
+ghost use Rattle.cost_model.specs.Cards.{kept_product, card_of};
+ghost use Rattle.cost_model.specs.Rounding.{halvings_inside};
 ghost use Rattle.cost_model.specs.Costs.{cost_of};
 ghost use Rattle.cost_model.specs.Best.{IsCheapest};
-ghost use Rattle.cost_model.specs.Optimal.{plans_of, optimal_cost};
+ghost use Rattle.cost_model.specs.Optimal.{optimal_cost};
 
 /// The law of monotony: cards, costs and the optimal cost grow with selectivity.
 pub fn costs_grow_with_selectivity()
@@ -52,8 +53,6 @@ pub fn costs_are_bounded()
 
 /// The law of the optimal cost: it is the least cost of all plans of the block, and that of a cheapest one.
 pub fn optimal_costs_are_least()
-    ensures plans { (block : BlockTree) (p : PlanTree) →
-        Contains (plans_of block) p ↔ IsPlan block p }
     ensures least { (costing : CostingTree) (p : PlanTree) (point : List ℕ) →
         IsPlan costing.block p → optimal_cost costing point ≤ cost_of costing p point }
     ensures cheapest { (costing : CostingTree) (p : PlanTree) (point : List ℕ) →

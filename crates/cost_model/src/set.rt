@@ -1,7 +1,7 @@
 // Sets of relations as numbers: bit r for relation r.
 ghost use Rattle.std.specs.Prelude.{◌≡◌, ◌^◌, ◌<◌};
 ghost use Rattle.query_block.specs.Meaning.{is_inside};
-ghost use Rattle.cost_model.specs.Cards.{set_of};
+ghost use Rattle.plan_tree.specs.Sets.{set_of};
 
 use query_block::Edge;
 

@@ -8,7 +8,7 @@ use Rattle.csv.specs.declared.parser.State.{State}
 use Rattle.csv.specs.declared.parser.State.TheVariants as st
 use Rattle.csv.specs.declared.reader.Reader.{Reader}
 use Rattle.csv_load.specs.Load.{entries_of}
-use Rattle.csv_load.specs.Entries.{records_after, entries_left, GivesEntries}
+use Rattle.csv_load.specs.Entries.{records_after, records_left, GivesEntries}
 
 -- a record leaves fewer bytes than it was read from, unless there were none
 next_record-shorter : (cfg : Config) (s : State) (fields : List (List ℕ)) (field xs : List ℕ) (p : Read)
@@ -87,8 +87,8 @@ records_after-read s s2 (Some xs) (Some ys) found fields known r = (refl, record
 -- what a read of a record does
 pub entries_left-read : {R : Type 0} (remaining : R → Option (List ℕ)) (old new : Reader R) (found : Bool) (fields : List (List ℕ))
     → GivesEntries remaining old → ReadRecord remaining old new found fields → took_first new ≡ true
-    → GivesEntries remaining new × (entries_left remaining old ≡ (if found then fields ∷ entries_left remaining new else []))
-unfolding entries_left
+    → GivesEntries remaining new × (records_left remaining old ≡ (if found then fields ∷ records_left remaining new else []))
+unfolding records_left
 entries_left-read remaining old new found fields g r first =
     let now : source_of remaining new ≡ pending_of (remaining new.rdr) new = rw r.1 refl in
     let left = records_after-read old.state new.state (source_of remaining old) (pending_of (remaining new.rdr) new) found fields g.known (rw g.config at r.0) in (

@@ -11,8 +11,8 @@ records_after state None = []
 records_after state (Some text) = records_from default_config (length text + 1) state text
 
 -- the entries that a reader has yet to give
-unfoldable pub entries_left : {R : Type 0} → (R → Option (List ℕ)) → Reader R → List (List (List ℕ))
-entries_left remaining reader = records_after (reader_state reader) (source_of remaining reader)
+unfoldable pub records_left : {R : Type 0} → (R → Option (List ℕ)) → Reader R → List (List (List ℕ))
+records_left remaining reader = records_after (reader_state reader) (source_of remaining reader)
 
 -- a reader that gives the entries of known bytes one by one, each as it stands there
 pub record GivesEntries {R : Type 0} (remaining : R → Option (List ℕ)) (reader : Reader R) : Type 0 where

@@ -18,8 +18,8 @@ abbrev pub greatest_integer : ℕ
 greatest_integer = 9223372036854775807
 
 -- an empty field stands for NULL
-abbrev pub is_null : List ℕ → Bool
-is_null field = length field == 0
+abbrev pub is_empty_field : List ℕ → Bool
+is_empty_field field = length field == 0
 
 -- one digit or more
 abbrev pub are_digits : List ℕ → Bool
@@ -49,7 +49,7 @@ text_fault place kind text =
 unfoldable pub field_fault : Place → ColumnDef → List ℕ → Option LoadFault
 field_fault place column field =
     let refused = fault_where column.not_null (NullInNotNull place.entry place.field) in
-    if is_null field then refused else text_fault place column.kind field
+    if is_empty_field field then refused else text_fault place column.kind field
 
 -- the value that a text is in a column of this kind
 abbrev pub kind_value : ColumnType → List ℕ → Value
@@ -58,4 +58,4 @@ kind_value (Varchar _) text = value.Text text
 
 -- the value of a field of a column
 unfoldable pub field_value : ColumnDef → List ℕ → Value
-field_value column field = if is_null field then value.Null else kind_value column.kind field
+field_value column field = if is_empty_field field then value.Null else kind_value column.kind field

@@ -2,7 +2,7 @@
 ghost use Rattle.std.specs.Prelude.{◌≡◌, [], ◌∷◌, IfOk, OnOk, IfErr, if◌then◌else◌};
 ghost use Rattle.csv.specs.Records.{fields_of};
 ghost use Rattle.csv_load.specs.Load.{entries_of};
-ghost use Rattle.csv_load.specs.Entries.{entries_left, GivesEntries};
+ghost use Rattle.csv_load.specs.Entries.{records_left, GivesEntries};
 
 use crate::fault::LoadFault;
 use csv::{ByteRecord, Reader, ReaderBuilder};
@@ -16,18 +16,18 @@ pub(crate) fn next_entry<R: Read>(
 ) -> Result<bool, LoadFault>
     requires { GivesEntries R.remaining reader.old }
     ensures goes_on { OnOk result (GivesEntries R.remaining reader.new) }
-    ensures entry { IfOk result (λ found. entries_left R.remaining reader.old
-        ≡ (if found then fields_of entry.new ∷ entries_left R.remaining reader.new else [])) }
+    ensures entry { IfOk result (λ found. records_left R.remaining reader.old
+        ≡ (if found then fields_of entry.new ∷ records_left R.remaining reader.new else [])) }
     ensures fault { IfErr result (λ fault. fault ≡ LoadFault.NoMemory) }
 {
     Ok(reader.read_byte_record(entry)?)
 }
 
 /// A reader of a file's entries, the header among them.
-#[tactic(auto, unfolding(crate::specs::Entries::entries_left))]
+#[tactic(auto, unfolding(crate::specs::Entries::records_left))]
 pub(crate) fn reader_of<'a>(alloc: Global, bytes: &'a [u8]) -> Reader<&'a [u8]>
     ensures fresh { GivesEntries ⟦<&'a [u8] as Read>⟧.remaining result }
-    ensures entries { entries_left ⟦<&'a [u8] as Read>⟧.remaining result
+    ensures entries { records_left ⟦<&'a [u8] as Read>⟧.remaining result
         ≡ entries_of bytes.now }
 {
     ReaderBuilder::new()

@@ -4,7 +4,7 @@ ghost use Rattle.std.specs.Prelude.{◌≡◌, ◌≢◌, ◌+◌, ◌<◌, ◌�
 ghost use Rattle.csv.specs.Records.{fields_of};
 ghost use Rattle.sql_values.specs.Limits.{max_columns};
 ghost use Rattle.db_catalog.specs.Database.{table_at};
-ghost use Rattle.csv_load.specs.Entries.{entries_left, GivesEntries};
+ghost use Rattle.csv_load.specs.Entries.{records_left, GivesEntries};
 ghost use Rattle.csv_load.specs.Load.{entry_fault, entry_row, entries_fault, file_fault, file_rows, entries_of, load_due, Appends};
 ghost use Rattle.csv_load.specs.Fault.{GivesFault};
 
@@ -65,16 +65,16 @@ fn put_entries<R: Read>(
     entry: &mut ByteRecord,
 ) -> Result<(), LoadFault>
     requires gives { GivesEntries R.remaining reader.old }
-    requires short { length (entries_left R.remaining reader.old) < 2 ^ 63 }
+    requires short { length (records_left R.remaining reader.old) < 2 ^ 63 }
     requires columns { batch.old.columns ≡ columns.now }
     requires few { length columns.now < 2 ^ 31 }
     requires empty { batch.old.rows ≡ [] }
     requires whole { batch.old.row ≡ [] }
     ensures rows { OnOk result (batch.new ≡ record batch.old {
-      rows = map (entry_row columns.now) (entries_left R.remaining reader.old);
+      rows = map (entry_row columns.now) (records_left R.remaining reader.old);
     }) }
     ensures fault { GivesFault (entries_fault columns.now
-        (entries_left R.remaining reader.old)) result }
+        (records_left R.remaining reader.old)) result }
 {
     for n in 1..u64::MAX {
         if !next_entry(reader, entry)? {

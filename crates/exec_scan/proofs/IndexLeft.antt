@@ -21,7 +21,7 @@ use Rattle.btree_index.specs.Height.{height_of}
 use Rattle.db_catalog.specs.Database.{DatabaseState, table_at}
 use Rattle.db_catalog.specs.Indexes.{column_entries, index_height, ordered}
 use Rattle.exec_scan.specs.State.{IndexScanState}
-use Rattle.exec_scan.specs.Places.{AreOfRelation, placed}
+use Rattle.exec_scan.specs.Places.{AreOfRelation, placed_row}
 use Rattle.exec_scan.specs.IndexScanning.{entries_to, entries_ahead, descent_due, index_scan_left, indexed_rows}
 use Rattle.exec_scan.proofs.LeafRows.{leaf_rows}
 use Rattle.exec_scan.proofs.IndexedRows.{picked, chosen, picks, chooses, all-picked, all-chosen, of-entries, of-ordered}
@@ -55,23 +55,23 @@ module _ (database : DatabaseState) (block : BlockTree) (scan : IndexScanState) 
       let own = relation_at block.relations scan.relation in
       (meets-part (is_usable own.columns scan.column) own.filter row meets, meets-some own.columns scan.column own.filter row usable meets)
 
-  rest-is : (index_scan_left database block scan).rest ≡ flat_map (λ (e : IndexEntry). picked wanted kept (placed block.relations scan.relation) (row_of_entry e)) (ordered entries)
+  rest-is : (index_scan_left database block scan).rest ≡ flat_map (λ (e : IndexEntry). picked wanted kept (placed_row block.relations scan.relation) (row_of_entry e)) (ordered entries)
   rest-is =
-      ap (λ (cursor : Option Cursor). map (placed block.relations scan.relation) (filter kept (map row_of_entry (entries_to database block scan.relation scan.table scan.column cursor)))) first
-      ∙ picks wanted kept (placed block.relations scan.relation) row_of_entry (ordered entries)
+      ap (λ (cursor : Option Cursor). map (placed_row block.relations scan.relation) (filter kept (map row_of_entry (entries_to database block scan.relation scan.table scan.column cursor)))) first
+      ∙ picks wanted kept (placed_row block.relations scan.relation) row_of_entry (ordered entries)
 
-  whole : flat_map (λ (e : IndexEntry). picked wanted kept (placed block.relations scan.relation) (row_of_entry e)) entries ≡ rows_of database.tables block (has_leaf (Scan scan.relation))
+  whole : flat_map (λ (e : IndexEntry). picked wanted kept (placed_row block.relations scan.relation) (row_of_entry e)) entries ≡ rows_of database.tables block (has_leaf (Scan scan.relation))
   whole =
-      of-entries database.texts scan.column (picked wanted kept (placed block.relations scan.relation)) rows 0 rows refl
-      ∙ all-picked scan.column wanted kept (placed block.relations scan.relation) rows known
-      ∙ ap (λ (all : List ValueRow). map (placed block.relations scan.relation) (filter kept all)) rows-are
+      of-entries database.texts scan.column (picked wanted kept (placed_row block.relations scan.relation)) rows 0 rows refl
+      ∙ all-picked scan.column wanted kept (placed_row block.relations scan.relation) rows known
+      ∙ ap (λ (all : List ValueRow). map (placed_row block.relations scan.relation) (filter kept all)) rows-are
       ∙ sym (leaf_rows database.tables block scan.relation numbers.exists is.edges)
 
   rest-of : IsPermutation (rows_of database.tables block (has_leaf (Scan scan.relation))) (index_scan_left database block scan).rest
   rest-of =
       subst (λ xs. IsPermutation xs (index_scan_left database block scan).rest) whole
-      (subst (λ ys. IsPermutation (flat_map (λ (e : IndexEntry). picked wanted kept (placed block.relations scan.relation) (row_of_entry e)) entries) ys) (sym rest-is)
-      (of-ordered (λ (e : IndexEntry). picked wanted kept (placed block.relations scan.relation) (row_of_entry e)) entries))
+      (subst (λ ys. IsPermutation (flat_map (λ (e : IndexEntry). picked wanted kept (placed_row block.relations scan.relation) (row_of_entry e)) entries) ys) (sym rest-is)
+      (of-ordered (λ (e : IndexEntry). picked wanted kept (placed_row block.relations scan.relation) (row_of_entry e)) entries))
 
   pub starts-rest : IsPermutation (index_scan_left database block scan).rest (rows_of database.tables block (has_leaf (Scan scan.relation)))
   starts-rest = IsPermutation-sym _ _ rest-of
@@ -100,5 +100,5 @@ module _ (database : DatabaseState) (block : BlockTree) (scan : IndexScanState) 
       let descent : descent_due height scan.cursor ≡ 2 * height = ap (descent_due height) first in
       let levels : height ≡ height_in database.tables (relation_at block.relations scan.relation) scan.column = ap height_of all-entries in
       let out : length (filter kept (indexed_rows database block scan)) ≡ length (rows_of database.tables block (has_leaf (Scan scan.relation))) =
-      sym (length-map (filter kept (indexed_rows database block scan)) (placed block.relations scan.relation)) ∙ length_permutation _ _ rest-of in
+      sym (length-map (filter kept (indexed_rows database block scan)) (placed_row block.relations scan.relation)) ∙ length_permutation _ _ rest-of in
       omega (arith, descent, levels, out, matches)

@@ -9,7 +9,7 @@ use Rattle.query_block.specs.declared.edge.Edge.{Edge}
 use Rattle.query_block.specs.Blocks.{RelationTree, BlockTree, relation_at, IsEdge}
 use Rattle.query_block.specs.Meaning.{Combination, choices, product, rows_at, rows_of, meets_filter, meets_filters, meets_edge, meets_edges, is_inside}
 use Rattle.plan_tree.specs.Plans.{Scan, has_leaf}
-use Rattle.exec_scan.specs.Places.{placed}
+use Rattle.exec_scan.specs.Places.{placed_row}
 
 -- the row without values for each relation
 abbrev pub nothing : List RelationTree → Combination
@@ -34,7 +34,7 @@ none_chosen tables r n (relation ∷ relations) past =
 
 -- so the rows of the relation's table are all that is chosen from
 chosen : (tables : List StoredTable) (r n k : ℕ) (relations : List RelationTree) → n + k ≡ r → k < length relations
-    → product (choices tables (has_leaf (Scan r)) n relations) ≡ map (placed relations k) (rows_at tables (relation_at relations k).table)
+    → product (choices tables (has_leaf (Scan r)) n relations) ≡ map (placed_row relations k) (rows_at tables (relation_at relations k).table)
 chosen tables r n k [] at there = absurd (omega (arith, there))
 chosen tables r n zero (relation ∷ relations) at there =
     let more = choices tables (has_leaf (Scan r)) (n + 1) relations in
@@ -48,8 +48,8 @@ chosen tables r n (suc k) (relation ∷ relations) at there =
     let first = λ (others : Combination). [] ∷ others in
     ap (λ (b : Bool). product ((if b then rows_at tables relation.table else [] ∷ []) ∷ more)) (before_leaf r n k at)
     ∙ ap (λ (rest : List Combination). map first rest ++ []) (chosen tables r (n + 1) k relations (omega (arith, at)) (omega (arith, there)))
-    ∙ append-nil (map first (map (placed relations k) rows))
-    ∙ map-map first (placed relations k) rows
+    ∙ append-nil (map first (map (placed_row relations k) rows))
+    ∙ map-map first (placed_row relations k) rows
 
 -- a filter is asked of that relation alone
 none_asked : (r n : ℕ) (relations : List RelationTree) → r < n → meets_filters (has_leaf (Scan r)) n relations (nothing relations) ≡ true
@@ -63,13 +63,13 @@ and-true true c met = met
 and-true false c met = refl
 
 asked : (r n k : ℕ) (relations : List RelationTree) (row : ValueRow) → n + k ≡ r → k < length relations
-    → meets_filters (has_leaf (Scan r)) n relations (placed relations k row) ≡ meets_filter (relation_at relations k).filter row
+    → meets_filters (has_leaf (Scan r)) n relations (placed_row relations k row) ≡ meets_filter (relation_at relations k).filter row
 asked r n k [] row at there = absurd (omega (arith, there))
 asked r n zero (relation ∷ relations) row at there =
     ap (λ (b : Bool). (not b || meets_filter relation.filter row) && meets_filters (has_leaf (Scan r)) (n + 1) relations (nothing relations)) (in_leaf r n (omega (arith, at)))
     ∙ and-true _ _ (none_asked r (n + 1) relations (omega (arith, at)))
 asked r n (suc k) (relation ∷ relations) row at there =
-    ap (λ (b : Bool). (not b || meets_filter relation.filter []) && meets_filters (has_leaf (Scan r)) (n + 1) relations (placed relations k row)) (before_leaf r n k at)
+    ap (λ (b : Bool). (not b || meets_filter relation.filter []) && meets_filters (has_leaf (Scan r)) (n + 1) relations (placed_row relations k row)) (before_leaf r n k at)
     ∙ asked r (n + 1) k relations row (omega (arith, at)) (omega (arith, there))
 
 -- no edge is inside one relation
@@ -94,9 +94,9 @@ filter-map p q f (x ∷ xs) same =
 
 pub leaf_rows : (tables : List StoredTable) (block : BlockTree) (r : ℕ) → r < length block.relations → All (IsEdge block.relations) block.edges
     → rows_of tables block (has_leaf (Scan r))
-    ≡ map (placed block.relations r) (filter (meets_filter (relation_at block.relations r).filter) (rows_at tables (relation_at block.relations r).table))
+    ≡ map (placed_row block.relations r) (filter (meets_filter (relation_at block.relations r).filter) (rows_at tables (relation_at block.relations r).table))
 leaf_rows tables block r there are =
     let meets = λ (rows : Combination). meets_filters (has_leaf (Scan r)) 0 block.relations rows && meets_edges (has_leaf (Scan r)) block.edges rows in
     ap (filter meets) (chosen tables r 0 r block.relations (omega arith) there)
-    ∙ filter-map meets (meets_filter (relation_at block.relations r).filter) (placed block.relations r) (rows_at tables (relation_at block.relations r).table)
-    (λ row. and-true _ _ (no_edge r block.relations block.edges (placed block.relations r row) are) ∙ asked r 0 r block.relations row (omega arith) there)
+    ∙ filter-map meets (meets_filter (relation_at block.relations r).filter) (placed_row block.relations r) (rows_at tables (relation_at block.relations r).table)
+    (λ row. and-true _ _ (no_edge r block.relations block.edges (placed_row block.relations r row) are) ∙ asked r 0 r block.relations row (omega arith) there)

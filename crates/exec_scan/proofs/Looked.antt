@@ -13,7 +13,7 @@ use Rattle.db_catalog.specs.Database.{DatabaseState, table_at}
 use Rattle.db_catalog.specs.Fits.{Fits, FitsTable}
 use Rattle.plan_tree.specs.Left.{Left, PaysDue}
 use Rattle.exec_scan.specs.State.{TableScanState}
-use Rattle.exec_scan.specs.Places.{placed, AreOfRelation}
+use Rattle.exec_scan.specs.Places.{placed_row, AreOfRelation}
 use Rattle.exec_scan.specs.TableScanning.{rows_ahead, table_scan_left, look_due, LooksAt, Moves, IsOfRelation}
 use Rattle.exec_scan.proofs.Relations.{relation_words, relation_values}
 use Rattle.exec_scan.proofs.Parts.{size}
@@ -37,7 +37,7 @@ inside block relation table columns offset is =
 -- what is left before and after, where the row comes or passes by
 pub record Leaves (tables : List StoredTable) (block : BlockTree) (before after : TableScanState) (row : ValueRow) (comes : Bool) : Type 0 where
   pub rest : (table_scan_left tables block before).rest
-      ≡ cond comes (placed block.relations before.relation row ∷ (table_scan_left tables block after).rest) (table_scan_left tables block after).rest
+      ≡ cond comes (placed_row block.relations before.relation row ∷ (table_scan_left tables block after).rest) (table_scan_left tables block after).rest
   pub due : (table_scan_left tables block before).due + look_due tables after ≡ (table_scan_left tables block after).due + look_due tables before + cond comes 1 0
 
 pub record Looked (database : DatabaseState) (block : BlockTree) (before after : TableScanState) (words : List ℤ) (relation : RelationTree) : Type 0 where
@@ -78,12 +78,12 @@ module _ (database : DatabaseState) (block : BlockTree) (before after : TableSca
 
   leaves_by : (comes : Bool) → meets_filter (relation_at block.relations before.relation).filter looks.0 ≡ comes → Leaves database.tables block before after looks.0 comes
   leaves_by comes meets =
-      let own = placed block.relations before.relation in
+      let own = placed_row block.relations before.relation in
       let rest = filter (meets_filter (relation_at block.relations after.relation).filter) (rows_ahead database.tables after) in
       record {
         rest =
             ap (map own) (kept_by comes meets) ∙ mapped own looks.0 rest comes
-            ∙ ap (λ (number : ℕ). cond comes (own looks.0 ∷ map (placed block.relations number) rest) (map (placed block.relations number) rest)) (sym same_relation);
+            ∙ ap (λ (number : ℕ). cond comes (own looks.0 ∷ map (placed_row block.relations number) rest) (map (placed_row block.relations number) rest)) (sym same_relation);
         due = omega (arith, ap length (kept_by comes meets) ∙ counted looks.0 rest comes);
       }
 

@@ -7,7 +7,7 @@ use Rattle.query_block.specs.Blocks.{RelationTree, relation_at}
 use Rattle.query_block.specs.Combined.{combination_of, part_of}
 use Rattle.plan_tree.specs.Plans.{Scan, has_leaf}
 use Rattle.plan_tree.specs.Left.{ArePartWords, IsPart}
-use Rattle.exec_scan.specs.Places.{placed}
+use Rattle.exec_scan.specs.Places.{placed_row}
 use Rattle.exec_scan.proofs.LeafRows.{nothing, in_leaf, off_leaf, before_leaf}
 
 abbrev pub size : RelationTree → ℕ
@@ -42,7 +42,7 @@ has_none texts r n (relation ∷ relations) words past long =
 has_one : (texts : List (List ℕ)) (r n k : ℕ) (relations : List RelationTree) (row : ValueRow) (own words : List ℤ) → n + k ≡ r → k < length relations
     → length words ≡ sum_by size relations → take (size (relation_at relations k)) (drop (sum_by size (take k relations)) words) ≡ own
     → AreWordsOf texts (relation_at relations k).columns own → values_of texts (relation_at relations k).columns own ≡ row
-    → Has texts r n relations words (placed relations k row)
+    → Has texts r n relations words (placed_row relations k row)
 has_one texts r n k [] row own words at there long stand are seen = absurd (omega (arith, there))
 has_one texts r n zero (relation ∷ relations) row own words at there long stand are seen =
     let (fits, others) = rest_long relation relations words long in
@@ -70,7 +70,7 @@ has_one texts r n (suc k) (relation ∷ relations) row own words at there long s
 pub is-part : (texts : List (List ℕ)) (r : ℕ) (relations : List RelationTree) (row : ValueRow) (own words : List ℤ) → r < length relations
     → length words ≡ sum_by size relations → take (size (relation_at relations r)) (drop (sum_by size (take r relations)) words) ≡ own
     → AreWordsOf texts (relation_at relations r).columns own → values_of texts (relation_at relations r).columns own ≡ row
-    → IsPart texts relations (has_leaf (Scan r)) words (placed relations r row)
+    → IsPart texts relations (has_leaf (Scan r)) words (placed_row relations r row)
 is-part texts r relations row own words there long stand are seen =
     let has = has_one texts r 0 r relations row own words (omega arith) there long stand are seen in
     record { allowed = has.0; values = has.1 }

@@ -11,14 +11,14 @@ use Rattle.db_catalog.specs.Database.{DatabaseState, table_at}
 use Rattle.db_catalog.specs.Fits.{Fits, FitsTable}
 use Rattle.plan_tree.specs.Left.{Left, GivesFirst}
 use Rattle.exec_scan.specs.State.{IndexScanState}
-use Rattle.exec_scan.specs.Places.{placed}
+use Rattle.exec_scan.specs.Places.{placed_row}
 use Rattle.exec_scan.specs.IndexScanning.{IsInIndex, MovesOn, ReadsNext, index_scan_left, indexed_rows, read_due}
 use Rattle.exec_scan.proofs.Relations.{relation_words, relation_values}
 
 -- what is left before and after, where the row comes or passes by
 pub record LeavesRead (database : DatabaseState) (block : BlockTree) (before after : IndexScanState) (row : ValueRow) (comes : Bool) : Type 0 where
   pub rest : (index_scan_left database block before).rest
-      ≡ cond comes (placed block.relations before.relation row ∷ (index_scan_left database block after).rest) (index_scan_left database block after).rest
+      ≡ cond comes (placed_row block.relations before.relation row ∷ (index_scan_left database block after).rest) (index_scan_left database block after).rest
   pub due : (index_scan_left database block before).due + read_due database block after ≡ (index_scan_left database block after).due + read_due database block before + cond comes 1 0
 
 pub record Read (database : DatabaseState) (block : BlockTree) (before after : IndexScanState) (words : List ℤ) (relation : RelationTree) : Type 0 where
@@ -59,12 +59,12 @@ module _ (database : DatabaseState) (block : BlockTree) (before after : IndexSca
 
   leaves_by : (comes : Bool) → meets_filter (relation_at block.relations before.relation).filter reads.0 ≡ comes → LeavesRead database block before after reads.0 comes
   leaves_by comes meets =
-      let own = placed block.relations before.relation in
+      let own = placed_row block.relations before.relation in
       let rest = filter (meets_filter (relation_at block.relations after.relation).filter) (indexed_rows database block after) in
       record {
         rest =
             ap (map own) (kept_by comes meets) ∙ mapped own reads.0 rest comes
-            ∙ ap (λ (number : ℕ). cond comes (own reads.0 ∷ map (placed block.relations number) rest) (map (placed block.relations number) rest)) (sym same_relation);
+            ∙ ap (λ (number : ℕ). cond comes (own reads.0 ∷ map (placed_row block.relations number) rest) (map (placed_row block.relations number) rest)) (sym same_relation);
         due = omega (arith, ap length (kept_by comes meets) ∙ counted reads.0 rest comes);
       }
 
@@ -93,7 +93,7 @@ read_of now block relation number database before after words own same databases
 pub same-rest : (database : DatabaseState) (block : BlockTree) (before after : IndexScanState) → MovesOn before after → indexed_rows database block after ≡ indexed_rows database block before
     → (index_scan_left database block after).rest ≡ (index_scan_left database block before).rest
 same-rest database block before after moves same =
-    let left = λ (number : ℕ) (rows : List ValueRow). map (placed block.relations number) (filter (meets_filter (relation_at block.relations number).filter) rows) in
+    let left = λ (number : ℕ) (rows : List ValueRow). map (placed_row block.relations number) (filter (meets_filter (relation_at block.relations number).filter) rows) in
     ap (left after.relation) same ∙ ap (λ (number : ℕ). left number (indexed_rows database block before)) (ap (λ (scan : IndexScanState). scan.relation) moves)
 
 -- what a step gives of it

@@ -9,7 +9,7 @@ use Rattle.db_catalog.specs.Database.{DatabaseState}
 use Rattle.plan_tree.specs.Plans.{has_leaf, Scan}
 use Rattle.plan_tree.specs.Work.{pages_in, work_of}
 use Rattle.exec_scan.specs.State.{TableScanState}
-use Rattle.exec_scan.specs.Places.{placed}
+use Rattle.exec_scan.specs.Places.{placed_row}
 use Rattle.exec_scan.specs.TableScanning.{IsInTable, IsOfRelation, rows_ahead, table_scan_left}
 use Rattle.exec_scan.proofs.LeafRows.{leaf_rows}
 
@@ -34,11 +34,11 @@ module _ (database : DatabaseState) (block : BlockTree) (scan : TableScanState) 
 
   pub starts-rest : (table_scan_left database.tables block scan).rest ≡ rows_of database.tables block (has_leaf (Scan scan.relation))
   starts-rest =
-      ap (λ all. map (placed block.relations scan.relation) (filter meets all)) rows-are
+      ap (λ all. map (placed_row block.relations scan.relation) (filter meets all)) rows-are
       ∙ sym (leaf_rows database.tables block scan.relation numbers.exists is.edges)
 
   pub starts-due : 1 + (table_scan_left database.tables block scan).due ≡ work_of database.tables block (Scan scan.relation)
   starts-due =
       let out : length (filter meets (rows_ahead database.tables scan)) ≡ length (rows_of database.tables block (has_leaf (Scan scan.relation))) =
-      sym (length-map (filter meets (rows_ahead database.tables scan)) (placed block.relations scan.relation)) ∙ ap length starts-rest in
+      sym (length-map (filter meets (rows_ahead database.tables scan)) (placed_row block.relations scan.relation)) ∙ ap length starts-rest in
       omega (arith, out, pages-are, ap length rows-are, opened)

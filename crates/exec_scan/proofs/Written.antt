@@ -2,7 +2,7 @@
 use Rattle.std.proofs.Common.{◌≡◌, ℕ, ℤ, ◌+◌, ◌≤◌, List, ◌++◌, length, take, drop, sym, ap, subst, ◌∙◌, arith, length-append, length-drop}
 use Rattle.std.proofs.lemmas.List.{take_at, drop_at, drop-drop, length-take-le}
 use Rattle.query_block.specs.Blocks.{BlockTree, relation_at, offset_of, width_of}
-use Rattle.exec_scan.specs.Places.{AreOfRelation, KeepsOthers}
+use Rattle.exec_scan.specs.Places.{AreOfRelation, KeepsOtherWords}
 use Rattle.exec_scan.proofs.Looked.{inside}
 
 record Written (offset columns : ℕ) (row old new : List ℤ) : Type 0 where
@@ -27,7 +27,7 @@ written offset columns row old new inside wide is =
 
 -- a row of a relation, written where a scan of it says
 pub record WrittenOf (block : BlockTree) (relation : ℕ) (row old new : List ℤ) : Type 0 where
-  pub others : KeepsOthers block relation old new
+  pub others : KeepsOtherWords block relation old new
   pub stand : take (length (relation_at block.relations relation).columns) (drop (offset_of block relation) new) ≡ row
   pub long : length new ≡ width_of block
 

@@ -10,7 +10,7 @@ use Rattle.btree_index.specs.Entries.{IndexEntry, IsOn, entries_left}
 use Rattle.db_catalog.specs.Database.{DatabaseState, table_at, row_at}
 use Rattle.db_catalog.specs.Indexes.{index_at, index_height}
 use Rattle.exec_scan.specs.State.{IndexScanState}
-use Rattle.exec_scan.specs.Places.{AreOfRelation, placed}
+use Rattle.exec_scan.specs.Places.{AreOfRelation, placed_row}
 
 -- whether the row of an entry meets every conjunct that an index on the column can use
 abbrev pub is_wanted : DatabaseState → BlockTree → (relation table column : ℕ) → IndexEntry → Bool
@@ -47,7 +47,7 @@ abbrev pub index_scan_left : DatabaseState → BlockTree → IndexScanState → 
 index_scan_left database block scan =
     let kept = filter (meets_filter (relation_at block.relations scan.relation).filter) (indexed_rows database block scan) in
     record {
-      rest = map (placed block.relations scan.relation) kept;
+      rest = map (placed_row block.relations scan.relation) kept;
       due = read_due database block scan + length kept;
     }
 

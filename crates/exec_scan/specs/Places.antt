@@ -5,8 +5,8 @@ use Rattle.query_block.specs.Blocks.{RelationTree, BlockTree, relation_at, offse
 use Rattle.query_block.specs.Meaning.{Combination}
 
 -- a row in the place of its relation; of the others, the row without values
-abbrev pub placed : List RelationTree → (number : ℕ) → ValueRow → Combination
-placed relations number row = slice_set (map (λ _. []) relations) number row
+abbrev pub placed_row : List RelationTree → (number : ℕ) → ValueRow → Combination
+placed_row relations number row = slice_set (map (λ _. []) relations) number row
 
 -- the table, the number of columns and their place are those of a relation of the block
 pub record AreOfRelation (block : BlockTree) (relation table columns offset : ℕ) : Type 0 where
@@ -16,7 +16,7 @@ pub record AreOfRelation (block : BlockTree) (relation table columns offset : �
   pub offset_is : offset ≡ offset_of block relation
 
 -- the words of the other relations in a row of all stay as they are
-pub record KeepsOthers (block : BlockTree) (relation : ℕ) (old new : List ℤ) : Type 0 where
+pub record KeepsOtherWords (block : BlockTree) (relation : ℕ) (old new : List ℤ) : Type 0 where
   pub before : take (offset_of block relation) new ≡ take (offset_of block relation) old
   pub behind : let past = offset_of block relation + length (relation_at block.relations relation).columns in
       drop past new ≡ drop past old

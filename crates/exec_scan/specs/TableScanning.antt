@@ -9,7 +9,7 @@ use Rattle.plan_tree.specs.Left.{Left}
 use Rattle.db_catalog.specs.Database.{DatabaseState, table_at}
 use Rattle.db_catalog.specs.Meter.{table_pages}
 use Rattle.exec_scan.specs.State.{TableScanState}
-use Rattle.exec_scan.specs.Places.{AreOfRelation, placed}
+use Rattle.exec_scan.specs.Places.{AreOfRelation, placed_row}
 
 -- the rows of the table that aren't looked at yet
 abbrev pub rows_ahead : List StoredTable → TableScanState → List ValueRow
@@ -25,7 +25,7 @@ abbrev pub table_scan_left : List StoredTable → BlockTree → TableScanState �
 table_scan_left tables block scan =
     let kept = filter (meets_filter (relation_at block.relations scan.relation).filter) (rows_ahead tables scan) in
     record {
-      rest = map (placed block.relations scan.relation) kept;
+      rest = map (placed_row block.relations scan.relation) kept;
       due = look_due tables scan + length kept;
     }
 

@@ -9,18 +9,18 @@ use Rattle.std.proofs.lemmas.Nat.{pow_pos, or_disjoint, and_le_r}
 use Rattle.std.proofs.lemmas.Nat.Bits.{bit_at_and, bit_at-zero, bit_at-pow_same, bit_at-pow_other, bit_at-trailing_zeros, and_pow, same_from_bits, bit_at_above, bit_at_ones, bit_at_ones_above}
 use Rattle.query_block.specs.declared.edge.Edge.{Edge}
 use Rattle.plan_tree.specs.Plans.{PlanTree, Scan, IndexScan, Nest, Hash, Merge, IndexLoop, leaves_of, has_leaf, covers_of}
-use Rattle.plan_tree.specs.Enumerated.{AreApart, crosses}
+use Rattle.plan_tree.specs.Enumerated.{AreApart}
 use Rattle.plan_tree.proofs.Sets.{bit-of}
-use Rattle.cost_model.specs.Cards.{set_of}
-use Rattle.cost_model.proofs.Sets.{set-of-plan}
-use Rattle.plan_space.specs.Roots.{IsSplit, joins_sets}
+use Rattle.plan_tree.specs.Sets.{set_of, is_between}
+use Rattle.plan_tree.proofs.LeafSets.{set-of-plan}
+use Rattle.plan_space.specs.Roots.{IsSplit}
 
 -- a plan has a relation exactly where its set has the bit
 pub leaf-is-bit : (p : PlanTree) (relation : ℕ) → has_leaf p relation ≡ set_of (covers_of p) relation
 leaf-is-bit p relation = ap (λ set. set relation) (sym (set-of-plan p))
 
 -- an edge crosses two plans exactly where it crosses their sets
-pub crosses-sets : (edge : Edge) (left right : PlanTree) → crosses edge left right ≡ joins_sets edge (covers_of left) (covers_of right)
+pub crosses-sets : (edge : Edge) (left right : PlanTree) → is_between (has_leaf left) (has_leaf right) edge ≡ is_between (set_of (covers_of left)) (set_of (covers_of right)) edge
 crosses-sets edge left right i =
     (leaf-is-bit left edge.left i && leaf-is-bit right edge.right i) || (leaf-is-bit left edge.right i && leaf-is-bit right edge.left i)
 

@@ -15,7 +15,7 @@ use Rattle.plan_space.specs.Table.{offered, rank, NotLater, IsOffered}
 use Rattle.plan_space.specs.Pricing.{Pricing}
 use Rattle.plan_space.specs.Prices.{own_at, block_at}
 use Rattle.plan_space.proofs.Bits.{same-relation}
-use Rattle.plan_space.specs.Steps.{Group, Considers, IsByEdge, IsBeforeEdge, IsByLeft, IsBeforeLeft, IsLookUpBy, IsScanBy, IsReading}
+use Rattle.plan_space.specs.Steps.{Group, Considers, IsByEdge, IsBeforeEdge, IsByLeft, IsBeforeLeft, IsLookUpBy, IsScanBy, ReadsRelation}
 
 pub not-later-then : (a b c : Entry) → NotLater a b → NotLater b c → NotLater a c
 not-later-then a b c = upto nat_list_cmp_total (rank a) (rank b) (rank c)
@@ -163,14 +163,14 @@ module _ (at : Pricing) (table : List Entry) (set : ℕ) where
 
   pub read-all : (relation cost : ℕ) (result : Entry) → set ≡ 2 ^ relation → cost ≡ own_at at (root.Scan relation) set
       → Considers at table set (IsScanBy relation (relation_at (block_at at).relations relation).indexes) (record { cost = cost; root = root.Scan relation }) result
-      → Considers at table set IsReading result result
+      → Considers at table set ReadsRelation result result
   read-all relation cost result is price considers = record {
     kept = considers.kept;
     found = not-later-itself result;
     all = read;
   }
     where
-      read : (node : Root) → IsReading node → Stands (block_at at) node set → NotLater result (offered (own_at at) table node set)
+      read : (node : Root) → ReadsRelation node → Stands (block_at at) node set → NotLater result (offered (own_at at) table node set)
       read (root.Scan r) group stands =
           let same : r ≡ relation = same-relation r relation (sym stands.1 ∙ is) in
           let scan : offered (own_at at) table (root.Scan r) set ≡ record { cost = cost; root = root.Scan relation } =

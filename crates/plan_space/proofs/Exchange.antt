@@ -9,14 +9,15 @@ use Rattle.std.specs.declared.cmp.Ordering.{Ordering}
 use Rattle.std.specs.declared.cmp.Ordering.TheVariants.{Less, Equal, Greater}
 use Rattle.query_block.specs.Blocks.{BlockTree}
 use Rattle.plan_tree.specs.Plans.{PlanTree, Scan, IndexScan, Nest, Hash, Merge, IndexLoop, covers_of}
-use Rattle.plan_tree.specs.Enumerated.{edge_at, crosses, AreApart, Crosses, IsSubPlan, IsPlan}
+use Rattle.plan_tree.specs.Enumerated.{edge_at, AreApart, Crosses, IsSubPlan, IsPlan}
+use Rattle.plan_tree.specs.Sets.{set_of, is_between}
 use Rattle.plan_tree.specs.Order.{node_numbers, plan_order_of}
 use Rattle.plan_tree.specs.Sides.{side_order}
 use Rattle.plan_tree.proofs.PlanOrder.{by-nodes}
 use Rattle.plan_space.specs.declared.roots.Root.{Root}
 use Rattle.plan_space.specs.declared.roots.Root.TheVariants as root
 use Rattle.plan_space.specs.declared.entry.Entry.{Entry}
-use Rattle.plan_space.specs.Roots.{root_of, root_numbers, IsSplit, joins_sets, IsCrossed, Stands}
+use Rattle.plan_space.specs.Roots.{root_of, root_numbers, IsSplit, IsCrossed, Stands}
 use Rattle.plan_space.specs.Table.{OwnCost, sum_of, entry_at, side_costs, offered, NotLater, IsLeast, AreLeast, Follows}
 use Rattle.plan_space.proofs.Bits.{crosses-sets, covers-some, apart-sets, sets-apart, apart-relation, relation-apart, sum-of-sides, split-of, whole-of, same-relation, power-below, covers-all, all-covered}
 
@@ -223,7 +224,7 @@ module _ (own : OwnCost) (block : BlockTree) (table : List Entry) (least : AreLe
 
   crosses-plans : (edge : ℕ) (l r : PlanTree) (set : ℕ) → covers_of r ≡ set - covers_of l → IsCrossed block.edges edge (covers_of l) (set - covers_of l) → Crosses block.edges edge l r
   crosses-plans edge l r set right cross =
-      (cross.exists, crosses-sets (edge_at block.edges edge) l r ∙ ap (joins_sets (edge_at block.edges edge) (covers_of l)) right ∙ cross.crosses)
+      (cross.exists, crosses-sets (edge_at block.edges edge) l r ∙ ap (λ other. is_between (set_of (covers_of l)) (set_of other) (edge_at block.edges edge)) right ∙ cross.crosses)
 
   joined-cost : (left right set covers node : ℕ) (root : Root) → covers ≡ set → left + right + own root set ≡ node → left + right + own root covers ≡ node
   joined-cost left right set covers node root is e = ap (λ s. left + right + own root s) is ∙ e

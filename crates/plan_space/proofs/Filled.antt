@@ -21,7 +21,7 @@ use Rattle.plan_space.specs.Roots.{Stands, IsSplit}
 use Rattle.plan_space.specs.Table.{OwnCost, sum_of, entry_at, side_costs, offered, NotLater, IsLeast, AreLeast, Follows}
 use Rattle.plan_space.specs.Pricing.{Pricing}
 use Rattle.plan_space.specs.Prices.{own_at, block_at}
-use Rattle.plan_space.specs.Steps.{Considers, IsReading, IsBeforeLeft}
+use Rattle.plan_space.specs.Steps.{Considers, ReadsRelation, IsBeforeLeft}
 use Rattle.plan_space.proofs.Bits.{whole-of}
 use Rattle.plan_space.proofs.Exchange.{best}
 use Rattle.plan_space.proofs.Sums.{costs-are-sums}
@@ -51,7 +51,7 @@ highest-split relation set least other highest = record {
 
 -- ---- the entry of a set
 
-reads-or-joins : (block : BlockTree) (set : ℕ) (node : Root) → Stands block node set → IsReading node ⊎ IsBeforeLeft set node
+reads-or-joins : (block : BlockTree) (set : ℕ) (node : Root) → Stands block node set → ReadsRelation node ⊎ IsBeforeLeft set node
 reads-or-joins block set (root.Scan r) stands = inl tt
 reads-or-joins block set (root.IndexScan r c) stands = inl tt
 reads-or-joins block set (root.Nest s) stands = inr stands.less
@@ -72,7 +72,7 @@ between relation set other least highest is = by (nat_lt relation other) refl
         let le = power-to other relation ge in
         omega (arith, le, least, is)
 
-no-reading : (block : BlockTree) (relation set : ℕ) → 2 ^ relation < set → set < 2 ^ (relation + 1) → (node : Root) → IsReading node → Stands block node set → ⊥
+no-reading : (block : BlockTree) (relation set : ℕ) → 2 ^ relation < set → set < 2 ^ (relation + 1) → (node : Root) → ReadsRelation node → Stands block node set → ⊥
 no-reading block relation set least highest (root.Scan r) group stands = between relation set r least highest stands.1
 no-reading block relation set least highest (root.IndexScan r c) group stands = between relation set r least highest stands.1
 no-reading block relation set least highest (root.Nest s) group stands = group
@@ -81,7 +81,7 @@ no-reading block relation set least highest (root.Merge n s) group stands = grou
 no-reading block relation set least highest (root.IndexLoop n s r) group stands = group
 
 module _ (at : Pricing) (table : List Entry) (set : ℕ) where
-  pub least-alone : (start result : Entry) → Considers at table set IsReading start start → Considers at table set (IsBeforeLeft set) start result
+  pub least-alone : (start result : Entry) → Considers at table set ReadsRelation start start → Considers at table set (IsBeforeLeft set) start result
       → IsLeast (own_at at) (block_at at) table set result
   least-alone start result readings joins = record {
     kept = joins.kept;
@@ -173,7 +173,7 @@ module _ (own : OwnCost) (block : BlockTree) (table : List Entry) (filled : AreL
 -- the plan that follows a filled table is the best one
 pub is-best : (at : Pricing) (table : List Entry) (b : PlanTree) (all : ℕ) → IsCosting (costing_tree at.costing)
     → AreLeast (own_at at) (block_at at) table (2 ^ length (block_at at).relations) → all ≡ 2 ^ length (block_at at).relations - 1 → Follows table b all
-    → IsBest plan_order_of (costing_tree at.costing) at.point b × ((entry_at table all).cost ≡ optimal_cost (costing_tree at.costing) at.point)
+    → IsBest (costing_tree at.costing) at.point b × ((entry_at table all).cost ≡ optimal_cost (costing_tree at.costing) at.point)
 is-best at table b all is filled whole follows =
     let costing = costing_tree at.costing in
     let found = best (own_at at) (block_at at) table filled b is.block.some (subst (Follows table b) whole follows) in

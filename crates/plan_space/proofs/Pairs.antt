@@ -9,9 +9,9 @@ use Rattle.sql_values.specs.Limits.{max_product}
 use Rattle.query_block.specs.Blocks.{relation_tree}
 use Rattle.plan_tree.specs.Work.{bits}
 use Rattle.cost_model.specs.Costing.{CostingShape, costing_tree, IsCosting}
-use Rattle.cost_model.specs.Cards.{set_of}
+use Rattle.plan_tree.specs.Sets.{set_of}
 use Rattle.cost_model.specs.Costs.{relation_stats}
-use Rattle.cost_model.proofs.Bits.{bits-few}
+use Rattle.plan_tree.proofs.Digits.{bits-few}
 use Rattle.cost_model.proofs.Bounds.{pairs-below, loop-pairs-below}
 use Rattle.plan_space.specs.Prices.{set_card}
 

@@ -4,7 +4,7 @@ use Rattle.plan_tree.specs.Plans.{PlanTree, Scan, IndexScan, Nest, Hash, Merge, 
 use Rattle.plan_tree.specs.Enumerated.{AreApart, edge_at, column_on, IsSubPlan}
 use Rattle.plan_tree.specs.Work.{nest_work, hash_work, merge_work, index_loop_work}
 use Rattle.cost_model.specs.Costing.{CostingTree}
-use Rattle.cost_model.specs.Cards.{set_of}
+use Rattle.plan_tree.specs.Sets.{set_of}
 use Rattle.cost_model.specs.Costs.{relation_stats, index_stats, out_card, scan_cost, index_scan_cost, candidate_card, cost_of}
 use Rattle.cost_model.proofs.Cards.{card-of-set}
 use Rattle.plan_space.specs.Table.{sum_of}

@@ -5,7 +5,8 @@ use Rattle.plan_tree.specs.Work.{bits, nest_work, hash_work, merge_work, index_l
 use Rattle.query_block.specs.Blocks.{BlockTree, block_tree}
 use Rattle.ess_grid.specs.Points.{IsPoint}
 use Rattle.cost_model.specs.Costing.{CostingTree, costing_tree}
-use Rattle.cost_model.specs.Cards.{set_of, card_of}
+use Rattle.cost_model.specs.Cards.{card_of}
+use Rattle.plan_tree.specs.Sets.{set_of}
 use Rattle.cost_model.specs.Costs.{relation_stats, index_stats, scan_cost, index_scan_cost, candidate_card}
 use Rattle.plan_space.specs.declared.roots.Root.TheVariants as root
 use Rattle.plan_space.specs.Table.{OwnCost}

@@ -4,7 +4,7 @@ use Rattle.query_block.specs.declared.edge.Edge.{Edge}
 use Rattle.query_block.specs.Blocks.{BlockTree, relation_at}
 use Rattle.plan_tree.specs.Plans.{PlanTree, Scan, IndexScan, Nest, Hash, Merge, IndexLoop, covers_of}
 use Rattle.plan_tree.specs.Enumerated.{edge_at, column_on, IsIndexed, IsScannable}
-use Rattle.cost_model.specs.Cards.{set_of}
+use Rattle.plan_tree.specs.Sets.{set_of, is_between}
 use Rattle.plan_space.specs.declared.roots.Root.{Root}
 use Rattle.plan_space.specs.declared.roots.Root.TheVariants as root
 
@@ -32,15 +32,10 @@ pub record IsSplit (left set : ℕ) : Type 0 where
   pub less : left < set
   pub apart : bit_and left (set - left) ≡ 0
 
--- whether an edge has one of its relations on each side
-abbrev pub joins_sets : Edge → (left right : ℕ) → Bool
-joins_sets edge left right =
-    (set_of left edge.left && set_of right edge.right) || (set_of left edge.right && set_of right edge.left)
-
 -- the edge exists and crosses the two sides
 pub record IsCrossed (edges : List Edge) (edge left right : ℕ) : Type 0 where
   pub exists : edge < length edges
-  pub crosses : IsTrue (joins_sets (edge_at edges edge) left right)
+  pub crosses : IsTrue (is_between (set_of left) (set_of right) (edge_at edges edge))
 
 -- the right side is one relation, with an index on its column of the edge
 pub record IsLookedUp (block : BlockTree) (edge right relation : ℕ) : Type 0 where

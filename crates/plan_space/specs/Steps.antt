@@ -50,16 +50,16 @@ IsBeforeLeft left (root.Merge number side) = side < left
 IsBeforeLeft left (root.IndexLoop number side relation) = side < left
 
 -- all ways to read a relation
-abbrev pub IsReading : Group
-IsReading (root.Scan relation) = Unit {0}
-IsReading (root.IndexScan relation column) = Unit {0}
-IsReading (root.Nest side) = ⊥
-IsReading (root.Hash number side) = ⊥
-IsReading (root.Merge number side) = ⊥
-IsReading (root.IndexLoop number side relation) = ⊥
+abbrev pub ReadsRelation : Group
+ReadsRelation (root.Scan relation) = Unit {0}
+ReadsRelation (root.IndexScan relation column) = Unit {0}
+ReadsRelation (root.Nest side) = ⊥
+ReadsRelation (root.Hash number side) = ⊥
+ReadsRelation (root.Merge number side) = ⊥
+ReadsRelation (root.IndexLoop number side relation) = ⊥
 
 -- the entries of all smaller sets are least
-pub record IsReady (at : Pricing) (table : List Entry) (set : ℕ) : Type 0 where
+pub record IsFilledBelow (at : Pricing) (table : List Entry) (set : ℕ) : Type 0 where
   pub some : 1 ≤ set
   pub below : set < 2 ^ length (block_at at).relations
   pub small : set < 64

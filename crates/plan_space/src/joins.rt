@@ -4,10 +4,11 @@ ghost use Rattle.std.specs.Prelude.{◌≡◌, ◌↔◌, ◌⊎◌, ◌-◌, �
 ghost use Rattle.query_block.specs.Blocks.{block_tree, relation_at};
 ghost use Rattle.plan_tree.specs.Enumerated.{column_on, edge_at, IsIndexed};
 ghost use Rattle.plan_space.specs.declared.roots.Root.TheVariants.{Nest, Hash, Merge};
-ghost use Rattle.plan_space.specs.Roots.{joins_sets, IsCrossed, IsSplit};
+ghost use Rattle.plan_tree.specs.Sets.{is_between, set_of};
+ghost use Rattle.plan_space.specs.Roots.{IsCrossed, IsSplit};
 ghost use Rattle.plan_space.specs.Table.{IsOffered};
 ghost use Rattle.plan_space.specs.Prices.{own_at, block_at};
-ghost use Rattle.plan_space.specs.Steps.{Considers, IsReady, IsByEdge, IsBeforeEdge, IsByLeft, IsBeforeLeft, IsLookUpBy};
+ghost use Rattle.plan_space.specs.Steps.{Considers, IsFilledBelow, IsByEdge, IsBeforeEdge, IsByLeft, IsBeforeLeft, IsLookUpBy};
 
 use crate::costs;
 use crate::entry::Entry;
@@ -21,7 +22,7 @@ use query_block::{Block, Edge};
 fn crosses(edge: &Edge, left: u8, right: u8) -> bool
     requires left { edge.now.left < 8 }
     requires right { edge.now.right < 8 }
-    ensures { result ≡ joins_sets edge.now left right }
+    ensures { result ≡ is_between (set_of left) (set_of right) edge.now }
 {
     has(left, edge.left) && has(right, edge.right) || has(left, edge.right) && has(right, edge.left)
 }
@@ -59,7 +60,7 @@ fn is_indexed(block: &Block, relation: u8, column: u8) -> bool
 
 // A nested loop of the two sides of a set.
 fn by_nest(prices: &Prices<'_>, table: &[Entry; 64], set: u8, left: u8, start: Entry) -> Entry
-    requires ready { IsReady prices.now table.now set }
+    requires ready { IsFilledBelow prices.now table.now set }
     requires split { IsSplit left set }
     requires start { IsOffered (own_at prices.now) (block_at prices.now) table.now set start }
     ensures { Considers prices.now table.now set (λ node. node ≡ Nest left) start result }
@@ -77,7 +78,7 @@ fn by_pairs(
     edge: u8,
     start: Entry,
 ) -> Entry
-    requires ready { IsReady prices.now table.now set }
+    requires ready { IsFilledBelow prices.now table.now set }
     requires split { IsSplit left set }
     requires crossed { IsCrossed (block_at prices.now).edges edge left (set - left) }
     requires start { IsOffered (own_at prices.now) (block_at prices.now) table.now set start }
@@ -102,7 +103,7 @@ fn by_relation(
     relation: u8,
     start: Entry,
 ) -> Entry
-    requires ready { IsReady prices.now table.now set }
+    requires ready { IsFilledBelow prices.now table.now set }
     requires split { IsSplit left set }
     requires crossed { IsCrossed (block_at prices.now).edges edge left (set - left) }
     requires relation { set - left ≡ 2 ^ relation }
@@ -135,7 +136,7 @@ fn by_look_up(
     edge: u8,
     start: Entry,
 ) -> Entry
-    requires ready { IsReady prices.now table.now set }
+    requires ready { IsFilledBelow prices.now table.now set }
     requires split { IsSplit left set }
     requires crossed { IsCrossed (block_at prices.now).edges edge left (set - left) }
     requires start { IsOffered (own_at prices.now) (block_at prices.now) table.now set start }
@@ -158,7 +159,7 @@ fn by_edge(
     edge: u8,
     start: Entry,
 ) -> Entry
-    requires ready { IsReady prices.now table.now set }
+    requires ready { IsFilledBelow prices.now table.now set }
     requires split { IsSplit left set }
     requires edge { edge < length prices.now.costing.block.edges }
     requires start { IsOffered (own_at prices.now) (block_at prices.now) table.now set start }
@@ -173,7 +174,7 @@ fn by_edge(
 
 // The joins of the two sides of a set by all edges.
 fn by_edges(prices: &Prices<'_>, table: &[Entry; 64], set: u8, left: u8, start: Entry) -> Entry
-    requires ready { IsReady prices.now table.now set }
+    requires ready { IsFilledBelow prices.now table.now set }
     requires split { IsSplit left set }
     requires start { IsOffered (own_at prices.now) (block_at prices.now) table.now set start }
     ensures { Considers prices.now table.now set
@@ -188,7 +189,7 @@ fn by_edges(prices: &Prices<'_>, table: &[Entry; 64], set: u8, left: u8, start: 
 
 // All joins of a set with this left side, where it is one.
 fn by_left(prices: &Prices<'_>, table: &[Entry; 64], set: u8, left: u8, start: Entry) -> Entry
-    requires ready { IsReady prices.now table.now set }
+    requires ready { IsFilledBelow prices.now table.now set }
     requires some { 1 ≤ left }
     requires less { left < set }
     requires start { IsOffered (own_at prices.now) (block_at prices.now) table.now set start }
@@ -203,7 +204,7 @@ fn by_left(prices: &Prices<'_>, table: &[Entry; 64], set: u8, left: u8, start: E
 
 /// All joins of a set.
 pub(crate) fn joins(prices: &Prices<'_>, table: &[Entry; 64], set: u8, start: Entry) -> Entry
-    requires ready { IsReady prices.now table.now set }
+    requires ready { IsFilledBelow prices.now table.now set }
     requires start { IsOffered (own_at prices.now) (block_at prices.now) table.now set start }
     ensures { Considers prices.now table.now set (IsBeforeLeft set) start result }
 {

@@ -5,7 +5,7 @@ ghost use Rattle.plan_tree.specs.Enumerated.{IsIndexed, IsScannable};
 ghost use Rattle.plan_space.specs.declared.roots.Root.TheVariants.{IndexScan};
 ghost use Rattle.plan_space.specs.Table.{IsOffered};
 ghost use Rattle.plan_space.specs.Prices.{own_at, block_at};
-ghost use Rattle.plan_space.specs.Steps.{Considers, IsReady, IsReading, IsScanBy};
+ghost use Rattle.plan_space.specs.Steps.{Considers, IsFilledBelow, ReadsRelation, IsScanBy};
 
 use crate::costs;
 use crate::entry::Entry;
@@ -32,7 +32,7 @@ fn by_column(
     column: u8,
     start: Entry,
 ) -> Entry
-    requires ready { IsReady prices.now table.now set }
+    requires ready { IsFilledBelow prices.now table.now set }
     requires relation { relation < length prices.now.costing.block.relations }
     requires set { set ≡ 2 ^ relation }
     requires column { IsIndexed (relation_at (block_at prices.now).relations relation) column }
@@ -62,7 +62,7 @@ fn by_columns(
     relation: u8,
     start: Entry,
 ) -> Entry
-    requires ready { IsReady prices.now table.now set }
+    requires ready { IsFilledBelow prices.now table.now set }
     requires relation { relation < length prices.now.costing.block.relations }
     requires set { set ≡ 2 ^ relation }
     requires start { IsOffered (own_at prices.now) (block_at prices.now) table.now set start }
@@ -82,10 +82,10 @@ fn by_columns(
 
 /// All ways to read the one relation of a set.
 pub(crate) fn readings(prices: &Prices<'_>, table: &[Entry; 64], set: u8, relation: u8) -> Entry
-    requires ready { IsReady prices.now table.now set }
+    requires ready { IsFilledBelow prices.now table.now set }
     requires relation { relation < length prices.now.costing.block.relations }
     requires set { set ≡ 2 ^ relation }
-    ensures { Considers prices.now table.now set IsReading result result }
+    ensures { Considers prices.now table.now set ReadsRelation result result }
 {
     let start = Entry {
         cost: costs::scan(prices, relation, set),

@@ -82,7 +82,7 @@ fn rebuilt(
 
 // The best plan at the prices of a point, and what it costs there.
 fn best_at(alloc: Global, prices: &Prices<'_>) -> Result<(Plan, u128), AllocError>
-    ensures best { IfOk result (λ found. IsBest plan_order_of
+    ensures best { IfOk result (λ found. IsBest
         (costing_tree prices.now.costing) prices.now.point (plan_tree found.0)) }
     ensures cost { IfOk result (λ found.
         found.1 ≡ optimal_cost (costing_tree prices.now.costing) prices.now.point) }
@@ -99,7 +99,7 @@ fn best_at(alloc: Global, prices: &Prices<'_>) -> Result<(Plan, u128), AllocErro
 pub fn best(alloc: Global, costing: &Costing<'_>, q: &Point) -> Result<(Plan, u128), AllocError>
     requires { IsPoint costing.now.grid q.now }
     ensures best { IfOk result (λ found.
-        IsBest plan_order_of (costing_tree costing.now) q.now (plan_tree found.0)) }
+        IsBest (costing_tree costing.now) q.now (plan_tree found.0)) }
     ensures cost { IfOk result (λ found.
         found.1 ≡ optimal_cost (costing_tree costing.now) q.now) }
 {

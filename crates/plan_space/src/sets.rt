@@ -1,6 +1,6 @@
 // Sets of relations as numbers: bit r for relation r.
 ghost use Rattle.std.specs.Prelude.{◌≡◌, ◌-◌, ◌^◌, ◌<◌, ◌≤◌, length};
-ghost use Rattle.cost_model.specs.Cards.{set_of};
+ghost use Rattle.plan_tree.specs.Sets.{set_of};
 ghost use Rattle.plan_space.specs.Prices.{block_at};
 
 use crate::prices::Prices;

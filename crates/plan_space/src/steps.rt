@@ -3,7 +3,7 @@ ghost use Rattle.std.specs.Prelude.{◌≡◌, ◌+◌, ◌-◌, ◌*◌, ◌^�
 ghost use Rattle.plan_space.specs.Table.{entry_at, IsOffered};
 ghost use Rattle.plan_space.specs.Prices.{own_at, block_at};
 ghost use Rattle.plan_space.specs.Roots.{IsSplit};
-ghost use Rattle.plan_space.specs.Steps.{Considers, IsReady};
+ghost use Rattle.plan_space.specs.Steps.{Considers, IsFilledBelow};
 
 use crate::entry::{Entry, keep};
 use crate::prices::Prices;
@@ -37,7 +37,7 @@ fn entry_at(table: &[Entry; 64], set: u8) -> Entry
 
 /// What the plans of both sides of a set cost.
 pub(crate) fn both_sides(prices: &Prices<'_>, table: &[Entry; 64], set: u8, left: u8) -> u128
-    requires ready { IsReady prices.now table.now set }
+    requires ready { IsFilledBelow prices.now table.now set }
     requires split { IsSplit left set }
     ensures sides { result
         ≡ (entry_at table.now left).cost + (entry_at table.now (set - left)).cost }
@@ -49,7 +49,7 @@ pub(crate) fn both_sides(prices: &Prices<'_>, table: &[Entry; 64], set: u8, left
 
 /// What the plan of the left side of a set costs.
 pub(crate) fn left_side(prices: &Prices<'_>, table: &[Entry; 64], set: u8, left: u8) -> u128
-    requires ready { IsReady prices.now table.now set }
+    requires ready { IsFilledBelow prices.now table.now set }
     requires split { IsSplit left set }
     ensures side { result ≡ (entry_at table.now left).cost }
     ensures bound { result + 2 ^ 108 * 2 ≤ 2 ^ 108 * (2 * set) }

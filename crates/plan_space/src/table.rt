@@ -4,7 +4,7 @@ ghost use Rattle.std.specs.Prelude.{◌≡◌, ◌+◌, ◌^◌, ◌<◌, ◌≤
 ghost use Rattle.plan_space.specs.Roots.{IsSplit};
 ghost use Rattle.plan_space.specs.Table.{IsOffered, IsLeast, AreLeast};
 ghost use Rattle.plan_space.specs.Prices.{own_at, block_at};
-ghost use Rattle.plan_space.specs.Steps.{IsReady};
+ghost use Rattle.plan_space.specs.Steps.{IsFilledBelow};
 
 use crate::costs;
 use crate::entry::Entry;
@@ -17,7 +17,7 @@ use crate::steps::both_sides;
 
 // A nested loop over one split of a set: something to begin with.
 fn first_split(prices: &Prices<'_>, table: &[Entry; 64], set: u8, left: u8) -> Entry
-    requires ready { IsReady prices.now table.now set }
+    requires ready { IsFilledBelow prices.now table.now set }
     requires split { IsSplit left set }
     ensures { IsOffered (own_at prices.now) (block_at prices.now) table.now set result }
 {
@@ -29,7 +29,7 @@ fn first_split(prices: &Prices<'_>, table: &[Entry; 64], set: u8, left: u8) -> E
 
 // The entry of a set whose highest relation this is, by those of smaller sets.
 fn entry_of(prices: &Prices<'_>, table: &[Entry; 64], set: u8, relation: u8) -> Entry
-    requires ready { IsReady prices.now table.now set }
+    requires ready { IsFilledBelow prices.now table.now set }
     requires relation { relation < length prices.now.costing.block.relations }
     requires least { 2 ^ relation ≤ set }
     requires highest { set < 2 ^ (relation + 1) }

@@ -7,7 +7,7 @@ use Rattle.std.proofs.lemmas.Cmp.{ranked}
 use Rattle.std.specs.declared.cmp.Ordering.{Ordering}
 use Rattle.std.specs.declared.cmp.Ordering.TheVariants.{Less, Equal, Greater}
 use Rattle.plan_tree.specs.Plans.{PlanTree, Scan, IndexScan, Nest, Hash, Merge, IndexLoop, covers_of}
-use Rattle.plan_tree.specs.Order.{node_numbers, plan_numbers, plan_order_of, SameWhereEqual, PlansDecideFirst}
+use Rattle.plan_tree.specs.Order.{node_numbers, plan_numbers, plan_order_of, SamePlanWhereEqual, PlansDecideFirst}
 use Rattle.plan_tree.specs.Sides.{side_order}
 
 pub total : IsTotalOrder plan_order_of
@@ -139,5 +139,5 @@ same-plan (IndexLoop n l r) (IndexLoop n' l' r') e =
     λ i. IndexLoop (edge i) (left i) (right i)
 same-plan a b e = cc
 
-pub same : SameWhereEqual
+pub same : SamePlanWhereEqual
 same a b = (same-plan a b, λ e. ap (plan_order_of a) (sym e) ∙ tied_itself total a)

@@ -1,9 +1,10 @@
 -- Which trees are plans of a block: all shapes, all orders and all products.
-use Rattle.std.specs.Prelude.{ℕ, ◌<◌, ◌&&◌, ◌||◌, Bool, List, IsTrue, IsFalse, length, nat_eq, slice_index_or, if◌then◌else◌}
+use Rattle.std.specs.Prelude.{ℕ, ◌<◌, Bool, List, IsTrue, IsFalse, length, nat_eq, slice_index_or, if◌then◌else◌}
 use Rattle.std.specs.List.{list_any}
 use Rattle.query_block.specs.declared.edge.Edge.{Edge}
 use Rattle.query_block.specs.Blocks.{RelationTree, BlockTree, relation_at}
 use Rattle.plan_tree.specs.Plans.{PlanTree, Scan, IndexScan, Nest, Hash, Merge, IndexLoop, leaves_of, has_leaf}
+use Rattle.plan_tree.specs.Sets.{is_between}
 use Rattle.plan_tree.specs.Usable.{is_usable}
 
 -- the edge of this number, from 0
@@ -15,24 +16,26 @@ abbrev pub column_on : Edge → (relation : ℕ) → ℕ
 column_on edge relation = if nat_eq relation edge.left then edge.left_column else edge.right_column
 
 -- the column is indexed
+abbrev pub is_indexed : RelationTree → (column : ℕ) → Bool
+is_indexed relation column = list_any (λ other. nat_eq other column) relation.indexes
+
 abbrev pub IsIndexed : RelationTree → (column : ℕ) → Type 0
-IsIndexed relation column = IsTrue (list_any (λ other. nat_eq other column) relation.indexes)
+IsIndexed relation column = IsTrue (is_indexed relation column)
 
 -- some conjunct of the filter is usable on the column
+abbrev pub has_usable : RelationTree → (column : ℕ) → Bool
+has_usable relation column = list_any (is_usable relation.columns column) relation.filter
+
 abbrev pub HasUsable : RelationTree → (column : ℕ) → Type 0
-HasUsable relation column = IsTrue (list_any (is_usable relation.columns column) relation.filter)
+HasUsable relation column = IsTrue (has_usable relation column)
 
 -- no relation is joined by both
 abbrev pub AreApart : PlanTree → PlanTree → Type 0
 AreApart left right = IsFalse (list_any (has_leaf right) (leaves_of left))
 
--- whether an edge has one of its relations on each side
-abbrev pub crosses : Edge → PlanTree → PlanTree → Bool
-crosses edge left right = (has_leaf left edge.left && has_leaf right edge.right) || (has_leaf left edge.right && has_leaf right edge.left)
-
 -- the edge exists and crosses the two sides
 abbrev pub Crosses : List Edge → (edge : ℕ) → PlanTree → PlanTree → Type 0
-Crosses edges edge left right = (edge < length edges) × IsTrue (crosses (edge_at edges edge) left right)
+Crosses edges edge left right = (edge < length edges) × IsTrue (is_between (has_leaf left) (has_leaf right) (edge_at edges edge))
 
 -- an index on the column finds rows of the relation
 pub record IsScannable (block : BlockTree) (relation column : ℕ) : Type 0 where

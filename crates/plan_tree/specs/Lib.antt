@@ -1,6 +1,8 @@
 pub mod Plans
+pub mod Sets
 pub mod Usable
 pub mod Enumerated
+pub mod AllPlans
 pub mod Order
 pub mod Sides
 pub mod Text

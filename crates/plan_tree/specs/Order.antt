@@ -29,8 +29,8 @@ abbrev pub plan_order_of : PlanTree → PlanTree → Ordering
 plan_order_of a b = slice_cmp nat_cmp (plan_numbers a) (plan_numbers b)
 
 -- two plans are equal by this order exactly where they are the same
-abbrev pub SameWhereEqual : Type 0
-SameWhereEqual = (a b : PlanTree) → (plan_order_of a b ≡ Equal) ↔ (a ≡ b)
+abbrev pub SamePlanWhereEqual : Type 0
+SamePlanWhereEqual = (a b : PlanTree) → (plan_order_of a b ≡ Equal) ↔ (a ≡ b)
 
 -- what follows the numbers of two plans counts only where the plans are equal: so the left plans decide before the right ones
 abbrev pub PlansDecideFirst : Type 0

@@ -1,9 +1,11 @@
--- The work of a plan on stored tables, as one sum. Each node adds its own work to that of its sides.
+-- The work of a plan on stored tables, as one sum. Each node adds its own work to that of its sides; a charge that is 1 for
+-- each row or pair is left out.
 use Rattle.std.specs.Prelude.{ℕ, ◌+◌, ◌*◌, ◌^◌, ◌&&◌, not, List, length, map, count_by, sum_by, filter, nat_lt, if◌then◌else◌}
 use Rattle.sql_values.specs.declared.op.Op.TheVariants.{Eq}
 use Rattle.sql_values.specs.declared.value.Value.{Value}
 use Rattle.sql_values.specs.Stored.{StoredTable, ValueRow}
 use Rattle.sql_values.specs.Truth.{comparison, is_null}
+use Rattle.work_ledger.specs.Charges.{open_charge, page_charge, node_charge, entry_charge, fetch_charge, hash_in_charge, pair_charge}
 use Rattle.heap_pages.specs.Rows.{pages_of}
 use Rattle.btree_index.specs.Height.{least_from, height_of}
 use Rattle.query_block.specs.declared.edge.Edge.{Edge}
@@ -66,22 +68,23 @@ loop_candidates tables block edge left relation =
     (map (λ row. value_at row (column_on (edge_at block.edges edge) relation)) (table_rows tables (relation_at block.relations relation)))
 
 abbrev pub scan_work : List StoredTable → RelationTree → (out : ℕ) → ℕ
-scan_work tables relation out = 1 + 8 * pages_in tables relation + length (table_rows tables relation) + out
+scan_work tables relation out = open_charge + page_charge * pages_in tables relation + length (table_rows tables relation) + out
 
 abbrev pub index_scan_work : List StoredTable → RelationTree → (column out : ℕ) → ℕ
-index_scan_work tables relation column out = 1 + 2 * height_in tables relation column + 10 * matches_in tables relation column + out
+index_scan_work tables relation column out =
+    open_charge + node_charge * height_in tables relation column + (entry_charge + fetch_charge) * matches_in tables relation column + out
 
 abbrev pub nest_work : (l r out : ℕ) → ℕ
 nest_work l r out = r + l * r + out
 
 abbrev pub hash_work : (l r cand out : ℕ) → ℕ
-hash_work l r cand out = 2 * r + l + cand + out
+hash_work l r cand out = hash_in_charge * r + l + cand + out
 
 abbrev pub merge_work : (l r cand out : ℕ) → ℕ
 merge_work l r cand out = l * bits l + r * bits r + l + r + cand + out
 
 abbrev pub index_loop_work : (height l cand out : ℕ) → ℕ
-index_loop_work height l cand out = 2 * height * l + 11 * cand + out
+index_loop_work height l cand out = node_charge * height * l + (entry_charge + fetch_charge + pair_charge) * cand + out
 
 -- the work of a plan
 abbrev pub work_of : List StoredTable → BlockTree → PlanTree → ℕ

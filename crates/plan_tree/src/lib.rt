@@ -17,6 +17,6 @@ pub use copies::copy;
 pub use leaves::{bits_are_leaves, covers};
 pub use order::{plan_order, plan_order_is_total};
 pub use plan::Plan;
-pub use rules::is_plan;
+pub use rules::{all_plans_are_listed, is_plan};
 pub use text::plan_text;
 pub use usable::{has_usable, is_usable};

@@ -6,7 +6,7 @@ ghost use Rattle.std.specs.Cmp.{IsTotalOrder};
 ghost use Rattle.std.specs.Cmp.Lexicographic.{slice_cmp};
 ghost use Rattle.plan_tree.specs.Plans.{plan_tree, FitsSet};
 ghost use Rattle.plan_tree.specs.Sides.{left_side, right_side, right_relation, side_order};
-ghost use Rattle.plan_tree.specs.Order.{node_numbers, plan_order_of, PlansDecideFirst, SameWhereEqual};
+ghost use Rattle.plan_tree.specs.Order.{node_numbers, plan_order_of, PlansDecideFirst, SamePlanWhereEqual};
 
 use crate::leaves::covers;
 use crate::plan::Plan;
@@ -112,6 +112,6 @@ pub fn plan_order(a: &Plan, b: &Plan) -> Ordering
 /// A law: plan order is total, only the same plan is equal to a plan, and left plans decide before right ones.
 pub fn plan_order_is_total()
     ensures total { IsTotalOrder plan_order_of }
-    ensures same { SameWhereEqual }
+    ensures same { SamePlanWhereEqual }
     ensures sides { PlansDecideFirst }
 {}

@@ -1,9 +1,11 @@
 // Which trees are plans of a block. A tree may be of any size and name any numbers, so each number is tested before it
 // leads anywhere.
-ghost use Rattle.std.specs.Prelude.{ℕ, ◌≡◌, ◌↔◌, ◌<◌, ◌≤◌, IsTrue, length};
-ghost use Rattle.query_block.specs.Blocks.{block_tree, relation_at};
-ghost use Rattle.plan_tree.specs.Plans.{plan_tree, has_leaf, Scan};
-ghost use Rattle.plan_tree.specs.Enumerated.{column_on, edge_at, crosses, AreApart, Crosses, IsIndexed, HasUsable, IsLookUp, IsScannable, IsSubPlan, IsPlan};
+ghost use Rattle.std.specs.Prelude.{ℕ, ◌≡◌, ◌↔◌, ◌<◌, ◌≤◌, Contains, IsTrue, length};
+ghost use Rattle.query_block.specs.Blocks.{block_tree, relation_at, BlockTree};
+ghost use Rattle.plan_tree.specs.Plans.{plan_tree, has_leaf, PlanTree, Scan};
+ghost use Rattle.plan_tree.specs.Enumerated.{column_on, edge_at, AreApart, Crosses, IsIndexed, HasUsable, IsLookUp, IsScannable, IsSubPlan, IsPlan};
+ghost use Rattle.plan_tree.specs.Sets.{is_between};
+ghost use Rattle.plan_tree.specs.AllPlans.{plans_of};
 
 use crate::leaves::{has_leaf, share_leaf};
 use crate::plan::Plan;
@@ -50,7 +52,7 @@ fn is_scannable(block: &Block, relation: u8, column: u8) -> bool
 
 // Whether an edge has one of its relations on each side.
 fn joins(edge: &Edge, left: &Plan, right: &Plan) -> bool
-    ensures { result ≡ crosses edge.now (plan_tree left.now) (plan_tree right.now) }
+    ensures { result ≡ is_between (has_leaf (plan_tree left.now)) (has_leaf (plan_tree right.now)) edge.now }
 {
     has_leaf(left, edge.left) && has_leaf(right, edge.right)
         || has_leaf(left, edge.right) && has_leaf(right, edge.left)
@@ -58,7 +60,7 @@ fn joins(edge: &Edge, left: &Plan, right: &Plan) -> bool
 
 // The same, with one relation on the right.
 fn leads_to(edge: &Edge, left: &Plan, relation: u8) -> bool
-    ensures { result ≡ crosses edge.now (plan_tree left.now) (Scan relation) }
+    ensures { result ≡ is_between (has_leaf (plan_tree left.now)) (has_leaf (Scan relation)) edge.now }
 {
     has_leaf(left, edge.left) && edge.right == relation
         || has_leaf(left, edge.right) && edge.left == relation
@@ -159,3 +161,9 @@ pub fn is_plan(block: &Block, p: &Plan) -> bool
 {
     is_sub_plan(block, p) && joins_all(p, block.relations().len())
 }
+
+/// The law of all plans: the list `plans_of` has every plan of a block, and nothing else.
+pub fn all_plans_are_listed()
+    ensures { (block : BlockTree) (p : PlanTree) →
+        Contains (plans_of block) p ↔ IsPlan block p }
+{}

@@ -5,7 +5,7 @@ use Rattle.sql_values.specs.declared.column.ColumnType.{ColumnType}
 use Rattle.sql_values.specs.declared.column.ColumnType.TheVariants.{Integer, Varchar}
 use Rattle.sql_values.specs.declared.value.Value.{Value}
 use Rattle.sql_values.specs.declared.value.Value.TheVariants as value
-use Rattle.sql_values.specs.Words.{null_word, IsWord, value_of, meaning_of}
+use Rattle.sql_values.specs.Words.{null_word, IsWord, value_of, word_meaning}
 use Rattle.sql_values.specs.Stored.{AreWordsOf, values_of}
 use Rattle.sql_values.specs.Truth.{AreComparable}
 use Rattle.query_block.specs.declared.condition.Operand.{Operand}
@@ -51,14 +51,14 @@ comparable texts (value.Text _) value.Null of_a of_b = tt
 comparable texts (value.Text _) (value.Int _) of_a of_b = cc
 comparable texts (value.Text _) (value.Text _) of_a of_b = tt
 
-meaning-kind : (texts : List (List ℕ)) (kind : ColumnType) (word : ℤ) → IsOfKind (holds_texts kind) (meaning_of texts kind word)
+meaning-kind : (texts : List (List ℕ)) (kind : ColumnType) (word : ℤ) → IsOfKind (holds_texts kind) (word_meaning texts kind word)
 meaning-kind texts Integer word = refl
 meaning-kind texts (Varchar _) word = refl
 
 value-kind : (texts : List (List ℕ)) (kind : ColumnType) (word : ℤ) → IsOfKind (holds_texts kind) (value_of texts kind word)
 value-kind texts kind word = by (int_eq word null_word)
   where
-    by : (b : Bool) → IsOfKind (holds_texts kind) (if b then value.Null else meaning_of texts kind word)
+    by : (b : Bool) → IsOfKind (holds_texts kind) (if b then value.Null else word_meaning texts kind word)
     by true = tt
     by false = meaning-kind texts kind word
 

@@ -29,15 +29,15 @@ chain [] = NoMore
 chain (tree ∷ trees) = More tree (chain trees)
 
 -- one node, with the trees of its operands in their places
-abbrev pub node_tree : Condition-F FilterTree → FilterTree
-node_tree (layer.Compare op left right) = Compare op left right
-node_tree (layer.Between of low high) = Between of low high
-node_tree (layer.OneOf of operands) = OneOf of operands.items
-node_tree (layer.IsNull column) = IsNull column
-node_tree (layer.Not inner) = Not inner.value
-node_tree (layer.And parts) = And (chain parts.items)
-node_tree (layer.Or parts) = Or (chain parts.items)
+abbrev pub filter_node : Condition-F FilterTree → FilterTree
+filter_node (layer.Compare op left right) = Compare op left right
+filter_node (layer.Between of low high) = Between of low high
+filter_node (layer.OneOf of operands) = OneOf of operands.items
+filter_node (layer.IsNull column) = IsNull column
+filter_node (layer.Not inner) = Not inner.value
+filter_node (layer.And parts) = And (chain parts.items)
+filter_node (layer.Or parts) = Or (chain parts.items)
 
 -- the tree of a condition
 abbrev pub filter_tree : Condition → FilterTree
-filter_tree = fold-Condition FilterTree node_tree
+filter_tree = fold-Condition FilterTree filter_node

@@ -1,5 +1,4 @@
 pub mod Columns
-pub mod Ascending
 pub mod Weave
 pub mod RowsInOrder
 pub mod SortKeys

@@ -19,7 +19,7 @@ use Rattle.sql_values.specs.declared.value.Value.TheVariants as value
 use Rattle.sql_values.specs.declared.column.ColumnType.{ColumnType}
 use Rattle.sql_values.specs.declared.column.ColumnType.TheVariants.{Integer, Varchar}
 use Rattle.sql_values.specs.Dictionary.{text_of}
-use Rattle.sql_values.specs.Words.{null_word, value_of, meaning_of, IsTextWord, IsWord}
+use Rattle.sql_values.specs.Words.{null_word, value_of, word_meaning, IsTextWord, IsWord}
 use Rattle.result_text.specs.declared.places.CodedText.{CodedText}
 use Rattle.result_text.specs.declared.places.Placed.{Placed}
 use Rattle.result_text.specs.Lists.{last_of}
@@ -193,13 +193,13 @@ IsPlacedRow-more placed (k ∷ kinds) (w ∷ row) (first ∷ new) (suc i) kind w
 -- the values of a word, and of the word that it becomes
 module _ (known sorted : List (List ℕ)) (placed : List Placed) (each : All (IsPlaced known sorted) placed) where
   text_placed : (most : ℕ) (word new : ℤ) → IsTextWord known word → word ≢ null_word → Contains placed (record { code = word; place = new }) →
-      (value_of (known ++ sorted) (Varchar most) new ≡ meaning_of known (Varchar most) word) × IsRankedWord known sorted (Varchar most) new
+      (value_of (known ++ sorted) (Varchar most) new ≡ word_meaning known (Varchar most) word) × IsRankedWord known sorted (Varchar most) new
   text_placed most word new is other there =
       let told = All-contains (IsPlaced known sorted) placed (record { code = word; place = new }) each there in
       by new told.0 told.1
     where
       by : (new : ℤ) → text_of (known ++ sorted) new ≡ text_of known word → pos (length known) ≤ℤ new →
-          (value_of (known ++ sorted) (Varchar most) new ≡ meaning_of known (Varchar most) word) × IsRankedWord known sorted (Varchar most) new
+          (value_of (known ++ sorted) (Varchar most) new ≡ word_meaning known (Varchar most) word) × IsRankedWord known sorted (Varchar most) new
       by (pos i) same low = (ap (λ o. value.Text (unwrap_or o [])) same, (omega (arith, ints), inside (text_of (known ++ sorted) (pos i)) refl))
         where
           inside : (o : Option (List ℕ)) → slice_get (known ++ sorted) i ≡ o → i < length (known ++ sorted)

@@ -16,7 +16,7 @@ use Rattle.sql_values.specs.declared.value.Value.TheVariants as value
 use Rattle.sql_values.specs.declared.column.ColumnType.{ColumnType}
 use Rattle.sql_values.specs.declared.column.ColumnType.TheVariants.{Integer, Varchar}
 use Rattle.sql_values.specs.Order.{value_cmp}
-use Rattle.sql_values.specs.Words.{null_word, value_of, meaning_of}
+use Rattle.sql_values.specs.Words.{null_word, value_of, word_meaning}
 use Rattle.result_text.specs.Order.{row_cmp, word_row_cmp}
 use Rattle.result_text.specs.Ranks.{AreAscending, IsRankedWord}
 use Rattle.result_text.specs.Rows.{WordRow, AreNumbers}
@@ -28,31 +28,31 @@ Ranks P texts kind = (a b : ℤ) → null_word ≤ℤ a → null_word ≤ℤ b �
 
 -- a word is NULL's, or stands for another value
 pub value_cases : (P : Value → Type 0) (texts : List (List ℕ)) (kind : ColumnType) (word : ℤ) →
-    (word ≡ null_word → P value.Null) → (word ≢ null_word → P (meaning_of texts kind word)) → P (value_of texts kind word)
+    (word ≡ null_word → P value.Null) → (word ≢ null_word → P (word_meaning texts kind word)) → P (value_of texts kind word)
 value_cases P texts kind word null other =
-    elim (int_eq word null_word) as (λ b. int_eq word null_word ≡ b → P (cond b value.Null (meaning_of texts kind word))) [
+    elim (int_eq word null_word) as (λ b. int_eq word null_word ≡ b → P (cond b value.Null (word_meaning texts kind word))) [
       | true ↦ λ e. null ((Decides-int_eq word null_word).0 e)
       | false ↦ λ e. other (λ same. true≢false (sym ((Decides-int_eq word null_word).1 same) ∙ e))
     ] refl
 
-null_first : (texts : List (List ℕ)) (kind : ColumnType) (word : ℤ) → value_cmp value.Null (meaning_of texts kind word) ≡ Less
+null_first : (texts : List (List ℕ)) (kind : ColumnType) (word : ℤ) → value_cmp value.Null (word_meaning texts kind word) ≡ Less
 null_first texts Integer word = refl
 null_first texts (Varchar most) word = refl
 
-null_last : (texts : List (List ℕ)) (kind : ColumnType) (word : ℤ) → value_cmp (meaning_of texts kind word) value.Null ≡ Greater
+null_last : (texts : List (List ℕ)) (kind : ColumnType) (word : ℤ) → value_cmp (word_meaning texts kind word) value.Null ≡ Greater
 null_last texts Integer word = refl
 null_last texts (Varchar most) word = refl
 
 -- NULL's word is the least, so only words other than it are left to compare
 ranks_beside_null : (texts : List (List ℕ)) (kind : ColumnType) (a b : ℤ) → null_word ≤ℤ a → null_word ≤ℤ b →
-    (a ≢ null_word → b ≢ null_word → value_cmp (meaning_of texts kind a) (meaning_of texts kind b) ≡ int_cmp a b) →
+    (a ≢ null_word → b ≢ null_word → value_cmp (word_meaning texts kind a) (word_meaning texts kind b) ≡ int_cmp a b) →
     value_cmp (value_of texts kind a) (value_of texts kind b) ≡ int_cmp a b
 ranks_beside_null texts kind a b low low' both =
     value_cases (λ v. value_cmp v (value_of texts kind b) ≡ int_cmp a b) texts kind a
     (λ null. value_cases (λ w. value_cmp value.Null w ≡ int_cmp a b) texts kind b
     (λ null'. int_cmp_is a b Equal (null ∙ sym null'))
     (λ other'. null_first texts kind b ∙ int_cmp_is a b Less (let less : a <ℤ b = grind (arith, ints) in less)))
-    (λ other. value_cases (λ w. value_cmp (meaning_of texts kind a) w ≡ int_cmp a b) texts kind b
+    (λ other. value_cases (λ w. value_cmp (word_meaning texts kind a) w ≡ int_cmp a b) texts kind b
     (λ null'. null_last texts kind a ∙ int_cmp_is a b Greater (let less : b <ℤ a = grind (arith, ints) in less))
     (λ other'. both other other'))
 
@@ -76,7 +76,7 @@ module _ (known sorted : List (List ℕ)) (up : AreAscending sorted) where
       ] (int_ranks (pos i) (pos j))
 
   texts_rank : (most : ℕ) (a b : ℤ) → IsRankedWord known sorted (Varchar most) a → IsRankedWord known sorted (Varchar most) b → a ≢ null_word → b ≢ null_word →
-      value_cmp (meaning_of (known ++ sorted) (Varchar most) a) (meaning_of (known ++ sorted) (Varchar most) b) ≡ int_cmp a b
+      value_cmp (word_meaning (known ++ sorted) (Varchar most) a) (word_meaning (known ++ sorted) (Varchar most) b) ≡ int_cmp a b
   texts_rank most (pos i) (pos j) word word' other other' =
       (λ k. slice_cmp nat_cmp (unwrap_or-slice_get (known ++ sorted) i [] k) (unwrap_or-slice_get (known ++ sorted) j [] k)) ∙ places_rank i j word.0 word'.0 word.1 word'.1
   texts_rank most (pos i) (negsuc j) word word' other other' = absurd (other' word')

@@ -13,7 +13,7 @@ use Rattle.std.specs.declared.cmp.Ordering.TheVariants.{Less, Equal, Greater}
 use Rattle.sql_values.specs.Stored.{ValueRow}
 use Rattle.sql_values.proofs.ValueOrder.{total, same}
 use Rattle.result_text.specs.Order.{row_cmp, put_in_order, in_order}
-use Rattle.result_text.proofs.Ascending.{IsUpto, Ascends, IsSorted-from_ascends, ascending_determined}
+use Rattle.sql_values.proofs.Ascending.{IsUpto, Ascends, IsSorted-from_ascends, ascending_determined}
 
 pub rows_total : IsTotalOrder row_cmp
 rows_total = lists_total total

@@ -30,7 +30,7 @@ use Rattle.result_text.specs.Rows.{WordRow, AreNumbers, words_of}
 use Rattle.sql_values.specs.Stored.{values_of, AreWordsOf}
 use Rattle.result_text.specs.Sorted.{AreSorted}
 use Rattle.result_text.specs.Ties.{AreMarked, select, weave}
-use Rattle.result_text.proofs.Ascending.{IsUpto, Ascends, Ascends-from_sort, Ascends-map}
+use Rattle.sql_values.proofs.Ascending.{IsUpto, Ascends, Ascends-from_sort, Ascends-map}
 use Rattle.result_text.proofs.Ranks.{Ranks, Ranks-integer, Ranks-ascending, rows_rank}
 use Rattle.result_text.proofs.RowsInOrder.{rows_total, rows_antisymmetric, in_order-from_ascends, in_order-permutation, sum_by-in_order, Ascends-in_order}
 use Rattle.result_text.proofs.Weave.{All-weave, MarksTies, fronts_upto, woven, map-select, map-weave}

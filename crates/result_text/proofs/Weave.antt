@@ -9,7 +9,7 @@ use Rattle.std.specs.Ordering.{is_gt, ordering_reverse}
 use Rattle.std.specs.declared.cmp.Ordering.{Ordering}
 use Rattle.std.specs.declared.cmp.Ordering.TheVariants.{Less, Equal, Greater}
 use Rattle.result_text.specs.Ties.{select, weave}
-use Rattle.result_text.proofs.Ascending.{IsUpto, Ascends, Ascends-map, ascending_determined}
+use Rattle.sql_values.proofs.Ascending.{IsUpto, Ascends, Ascends-map, ascending_determined}
 
 -- what is put in the places of those that are marked, and what is taken from there
 sum_by-weave : {X : Type 0} (f : X → ℕ) (marks : List Bool) (xs ys : List X) → length ys ≡ length (select marks xs) →

@@ -29,10 +29,10 @@ use Rattle.sql_bind.specs.declared.fault.BindFault.TheVariants.{Limit, TypeMisma
 use Rattle.sql_bind.specs.declared.reach.Reach.{Reach}
 use Rattle.sql_bind.specs.declared.reach.Reach.TheVariants.{Nothing, One, Several}
 use Rattle.sql_bind.specs.Named.{NamedTable}
-use Rattle.sql_bind.specs.Names.{may_name, places_among, places_from, places_of, named_once, column_fault, first_place, place_of, first_fault, columns_fault}
+use Rattle.sql_bind.specs.Names.{may_name, places_among, places_from, named_places, named_once, written_column_fault, first_place, place_of, first_fault_from, written_columns_fault}
 use Rattle.sql_bind.specs.Predicates.{predicates, predicates_of_all, kind_in, is_text_term, agree, are_alike, term_fault, terms_fault, kinds_fault, operands_fault, predicate_fault, predicates_fault}
-use Rattle.sql_bind.specs.Conjuncts.{conjuncts, conjuncts_of_all, joined, reach_of_term, reach_of_terms, reach_of, reach_of_all, edge_between, filtered, is_relation, edge_in, edge_of, conjuncts_fault, bound_operand, negated_if, bound_condition, bound_conditions}
-use Rattle.sql_bind.specs.Binding.{named_table, named_tables, past, from_fault, projection_fault, conjuncts_in, condition_fault, edges_of, is_filter_of, filter_of, columns_from, every_column, projection_of, relations_from, block_of, bind_fault}
+use Rattle.sql_bind.specs.Conjuncts.{conjuncts, conjuncts_of_all, joined_reach, reach_of_term, reach_of_terms, reach_of, reach_of_all, edge_between, filtered, is_relation, edge_in, edge_of, conjuncts_fault, bound_operand, negated_if, bound_condition, bound_conditions}
+use Rattle.sql_bind.specs.Binding.{named_table, named_tables, past_limit, from_fault, projection_fault, conjuncts_in, condition_fault, edges_of, is_filter_of, filter_of, columns_from, every_column, projection_of, relations_from, block_of, bind_fault}
 use Rattle.sql_bind.specs.Refused.{IsNamed}
 use Rattle.sql_bind.proofs.Faults.{first_fault-append}
 
@@ -42,7 +42,7 @@ neither None b h = (refl, h)
 neither (Some fault) b h = cc
 
 -- a number within its limit
-within : (name : LimitName) (most value : ℕ) → past name most value ≡ None → value ≤ most
+within : (name : LimitName) (most value : ℕ) → past_limit name most value ≡ None → value ≤ most
 within name most value h = by (nat_lt most value) refl
   where
     by : (b : Bool) → nat_lt most value ≡ b → value ≤ most
@@ -134,9 +134,9 @@ the_one P written [] h none = cc
 the_one P written (place ∷ []) h none = All-head P place [] h
 the_one P written (place ∷ other ∷ more) h none = cc
 
-column-there : (tables : List NamedTable) (written : ColRef) → column_fault tables written ≡ None → IsThere tables (place_of tables written)
+column-there : (tables : List NamedTable) (written : ColRef) → written_column_fault tables written ≡ None → IsThere tables (place_of tables written)
 column-there tables written none =
-    from-there tables (place_of tables written) (the_one (IsFrom 0 tables) written (places_of tables written) (named-from 0 tables written) none)
+    from-there tables (place_of tables written) (the_one (IsFrom 0 tables) written (named_places tables written) (named-from 0 tables written) none)
 
 -- the relations of a block have the columns of their tables
 columns-at : (tables : List NamedTable) (parts : List ConditionTree) (relation : ℕ) (rest : List NamedTable) (k : ℕ)
@@ -209,7 +209,7 @@ operands-good tables number terms none null =
     (terms-good tables terms both.0 null, no_mismatch (are_alike tables terms) number both.1)
 
 mutual
-  condition-sound : (tables : List NamedTable) (number : ℕ) (tree : ConditionTree) → first_fault (predicate_fault tables) number (predicates tree) ≡ None
+  condition-sound : (tables : List NamedTable) (number : ℕ) (tree : ConditionTree) → first_fault_from (predicate_fault tables) number (predicates tree) ≡ None
       → IsWellFormedCondition tree → IsSound tables tree
   condition-sound tables number (Compare op left right) none formed = operands-good tables number (left ∷ right ∷ []) none (formed.0, (formed.1, tt))
   condition-sound tables number (Between negated of low high) none formed =
@@ -220,12 +220,12 @@ mutual
   condition-sound tables number (And parts) none formed = conditions-sound tables number parts none formed.1
   condition-sound tables number (Or parts) none formed = conditions-sound tables number parts none formed.1
 
-  conditions-sound : (tables : List NamedTable) (number : ℕ) (parts : ConditionTrees) → first_fault (predicate_fault tables) number (predicates_of_all parts) ≡ None
+  conditions-sound : (tables : List NamedTable) (number : ℕ) (parts : ConditionTrees) → first_fault_from (predicate_fault tables) number (predicates_of_all parts) ≡ None
       → AreWellFormedConditions parts → AreSound tables parts
   conditions-sound tables number NoMore none formed = tt
   conditions-sound tables number (More part parts) none formed =
       let next = number + length (predicates part) in
-      let both = neither (first_fault (predicate_fault tables) number (predicates part)) (first_fault (predicate_fault tables) next (predicates_of_all parts))
+      let both = neither (first_fault_from (predicate_fault tables) number (predicates part)) (first_fault_from (predicate_fault tables) next (predicates_of_all parts))
       (sym (first_fault-append (predicate_fault tables) number (predicates part) (predicates_of_all parts)) ∙ none) in
       (condition-sound tables number part both.0 formed.0, conditions-sound tables next parts both.1 formed.1)
 
@@ -261,7 +261,7 @@ same-within : (relation r s : ℕ) (b : Bool) → (r == s) ≡ b → IsWithin re
 same-within relation r s true e h = (h, sym (eqb-true r s e) ∙ h)
 same-within relation r s false e h = absurd h
 
-both-within : (relation : ℕ) (a b : Reach) → IsWithin relation (joined a b) → IsWithin relation a × IsWithin relation b
+both-within : (relation : ℕ) (a b : Reach) → IsWithin relation (joined_reach a b) → IsWithin relation a × IsWithin relation b
 both-within relation Nothing b h = (tt, h)
 both-within relation Several b h = absurd h
 both-within relation (One r) Nothing h = (h, tt)
@@ -331,7 +331,7 @@ mutual
       let alike = both-true (agree (is_text_term tables left) (is_text_term tables right)) true h.1 in
       operands-fit tables relation left right h.0.0 h.0.1.0 alike.0 heres.0 heres.1
   condition-fits tables relation (Between negated of low high) h here =
-      let heres = both-within relation (reach_of_term tables of) (joined (reach_of_term tables low) (reach_of_term tables high)) here in
+      let heres = both-within relation (reach_of_term tables of) (joined_reach (reach_of_term tables low) (reach_of_term tables high)) here in
       let others = both-within relation (reach_of_term tables low) (reach_of_term tables high) heres.1 in
       let alike = both-true (agree (is_text_term tables of) (is_text_term tables low)) (agree (is_text_term tables of) (is_text_term tables high) && true) h.1 in
       let other = both-true (agree (is_text_term tables of) (is_text_term tables high)) true alike.1 in
@@ -398,7 +398,7 @@ edge-apart r false edge found e = (refl, cc)
 
 equality-sound : (tables : List NamedTable) (parts : List ConditionTree) (a b : ColRef) (found : Edge)
     → IsThere tables (place_of tables a) → IsThere tables (place_of tables b) → holds_texts (kind_in tables (place_of tables a)) ≡ holds_texts (kind_in tables (place_of tables b))
-    → edge_in (joined (One (place_of tables a).relation) (One (place_of tables b).relation)) (Some (edge_between (place_of tables a) (place_of tables b))) ≡ Some found
+    → edge_in (joined_reach (One (place_of tables a).relation) (One (place_of tables b).relation)) (Some (edge_between (place_of tables a) (place_of tables b))) ≡ Some found
     → IsEdge (relations_from tables parts 0 tables) found
 equality-sound tables parts a b found here_a here_b alike e =
     let place_a : ColumnAt = place_of tables a in
@@ -465,11 +465,11 @@ relations-sound tables parts relation (table ∷ rest) same named h =
     (relation-sound tables parts relation table (ap (table_named tables) first ∙ same 0) (All-head IsNamed table rest named) h)
     (relations-sound tables parts (relation + 1) rest (λ k. ap (table_named tables) (next k) ∙ same (suc k)) (All-tail IsNamed table rest named) h)
 
-columns-sound : (tables : List NamedTable) (parts : List ConditionTree) (columns : List ColRef) → columns_fault tables columns ≡ None
+columns-sound : (tables : List NamedTable) (parts : List ConditionTree) (columns : List ColRef) → written_columns_fault tables columns ≡ None
     → All (IsPlace (relations_from tables parts 0 tables)) (map (place_of tables) columns)
 columns-sound tables parts [] none = All-nil (IsPlace (relations_from tables parts 0 tables))
 columns-sound tables parts (written ∷ columns) none =
-    let both = neither (column_fault tables written) (columns_fault tables columns) none in
+    let both = neither (written_column_fault tables written) (written_columns_fault tables columns) none in
     All-cons (IsPlace (relations_from tables parts 0 tables)) (place_of tables written) (map (place_of tables) columns)
     (place-sound tables parts (place_of tables written) (column-there tables written both.0)) (columns-sound tables parts columns both.1)
 
@@ -479,7 +479,7 @@ projection-sound tables parts None none =
     All-weaker (IsFrom 0 tables) (IsPlace (relations_from tables parts 0 tables))
     (λ place h. place-sound tables parts place (from-there tables place h)) (every_column 0 tables) (every-from 0 tables)
 projection-sound tables parts (Some columns) none =
-    columns-sound tables parts columns (neither (past limit.Projection max_projection (length columns)) (columns_fault tables columns) none).1
+    columns-sound tables parts columns (neither (past_limit limit.Projection max_projection (length columns)) (written_columns_fault tables columns) none).1
 
 -- what holds of a query that nothing refuses
 record IsFree (database : DatabaseState) (query : QueryTree) : Type 0 where
@@ -491,10 +491,10 @@ record IsFree (database : DatabaseState) (query : QueryTree) : Type 0 where
 free : (database : DatabaseState) (query : QueryTree) → bind_fault database query ≡ None → IsFree database query
 free database query none =
     let tables = named_tables database query.from in
-    let of_edges = past limit.Axes max_axes (length (edges_of tables (conjuncts_in query.condition))) in
+    let of_edges = past_limit limit.Axes max_axes (length (edges_of tables (conjuncts_in query.condition))) in
     let of_condition = option_or (condition_fault tables query.condition) of_edges in
     let of_projection = option_or (projection_fault tables query.columns) of_condition in
-    let few = neither (past limit.Relations max_relations (length query.from)) (option_or (from_fault database [] query.from) of_projection) none in
+    let few = neither (past_limit limit.Relations max_relations (length query.from)) (option_or (from_fault database [] query.from) of_projection) none in
     let from = neither (from_fault database [] query.from) of_projection few.1 in
     let projected = neither (projection_fault tables query.columns) of_condition from.1 in
     let filtered = neither (condition_fault tables query.condition) of_edges projected.1 in

@@ -15,7 +15,7 @@ use Rattle.sql_bind.specs.declared.reach.Reach.TheVariants.{One, Several}
 use Rattle.sql_bind.specs.Named.{NamedTable}
 use Rattle.sql_bind.specs.Conjuncts.{reach_of, filtered, is_relation, edge_in, edge_of, equality_of, bound_condition}
 use Rattle.sql_bind.specs.Binding.{edges_of, filter_of, is_filter_of}
-use Rattle.sql_bind.specs.Collected.{Adds, filter_trees, more_filters, with_condition}
+use Rattle.sql_bind.specs.Collected.{AddsConjuncts, filter_trees, more_filters, with_condition}
 
 pub pushed : (filters : List (Vec Condition Global)) (at : ℕ) (old new : Vec Condition Global) (condition : FilterTree) → at < length filters
     → old ≡ get_or filters at old → map filter_tree new.items ≡ map filter_tree old.items ++ condition ∷ []
@@ -89,7 +89,7 @@ filters-nothing tables relation [] = refl
 filters-nothing tables relation (filter ∷ filters) =
     ap (λ first. first ∷ more_filters tables [] (relation + 1) filters) (append-nil filter) ∙ ap (λ more. filter ∷ more) (filters-nothing tables (relation + 1) filters)
 
-pub adds-nothing : (tables : List NamedTable) (parts : Parts) → Adds tables [] parts parts
+pub adds-nothing : (tables : List NamedTable) (parts : Parts) → AddsConjuncts tables [] parts parts
 adds-nothing tables parts = record { edges = sym (append-nil parts.edges.items); filters = sym (filters-nothing tables 0 (filter_trees parts.filters.items)) }
 
 filter_of-append : (tables : List NamedTable) (one other : List ConditionTree) (relation : ℕ) → filter_of tables (one ++ other) relation ≡ filter_of tables one relation ++ filter_of tables other relation
@@ -105,7 +105,7 @@ filters-both tables one other relation (filter ∷ filters) =
     (append_assoc filter (filter_of tables one relation) (filter_of tables other relation) ∙ ap (λ more. filter ++ more) (sym (filter_of-append tables one other relation)))
     ∙ ap (λ more. (filter ++ filter_of tables (one ++ other) relation) ∷ more) (filters-both tables one other (relation + 1) filters)
 
-pub adds-both : (tables : List NamedTable) (one other : List ConditionTree) (old middle new : Parts) → Adds tables one old middle → Adds tables other middle new → Adds tables (one ++ other) old new
+pub adds-both : (tables : List NamedTable) (one other : List ConditionTree) (old middle new : Parts) → AddsConjuncts tables one old middle → AddsConjuncts tables other middle new → AddsConjuncts tables (one ++ other) old new
 adds-both tables one other old middle new first second = record {
   edges = second.edges ∙ (ap (λ edges. edges ++ edges_of tables other) first.edges
       ∙ (append_assoc old.edges.items (edges_of tables one) (edges_of tables other)

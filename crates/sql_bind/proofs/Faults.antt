@@ -8,23 +8,23 @@ use Rattle.sql_parse.specs.Trees.{ConditionTree, ConditionTrees, Compare, Betwee
 use Rattle.sql_parse.specs.Counts.{predicates_in, predicates_in_all}
 use Rattle.sql_bind.specs.declared.fault.BindFault.{BindFault}
 use Rattle.sql_bind.specs.declared.fault.BindFault.TheVariants.{NoMemory}
-use Rattle.sql_bind.specs.Names.{first_fault}
+use Rattle.sql_bind.specs.Names.{first_fault_from}
 use Rattle.sql_bind.specs.Predicates.{predicates, predicates_of_all}
 use Rattle.sql_bind.specs.Conjuncts.{conjuncts, conjuncts_of_all}
-use Rattle.sql_bind.specs.Refused.{Refuses}
+use Rattle.sql_bind.specs.Refused.{RefusesBlock}
 
 or-assoc : {A : Type 0} (a b c : Option A) → option_or (option_or a b) c ≡ option_or a (option_or b c)
 or-assoc None b c = refl
 or-assoc (Some x) b c = refl
 
 pub first_fault-append : {A : Type 0} (fault : ℕ → A → Option BindFault) (n : ℕ) (xs ys : List A)
-    → first_fault fault n (xs ++ ys) ≡ option_or (first_fault fault n xs) (first_fault fault (n + length xs) ys)
-first_fault-append fault n [] ys = let none : n ≡ n + 0 = omega arith in ap (λ m. first_fault fault m ys) none
+    → first_fault_from fault n (xs ++ ys) ≡ option_or (first_fault_from fault n xs) (first_fault_from fault (n + length xs) ys)
+first_fault-append fault n [] ys = let none : n ≡ n + 0 = omega arith in ap (λ m. first_fault_from fault m ys) none
 first_fault-append fault n (x ∷ xs) ys =
     let long : n + 1 + length xs ≡ n + length (x ∷ xs) = omega arith in
     ap (option_or (fault n x)) (first_fault-append fault (n + 1) xs ys)
-    ∙ sym (or-assoc (fault n x) (first_fault fault (n + 1) xs) (first_fault fault (n + 1 + length xs) ys))
-    ∙ ap (λ m. option_or (option_or (fault n x) (first_fault fault (n + 1) xs)) (first_fault fault m ys)) long
+    ∙ sym (or-assoc (fault n x) (first_fault_from fault (n + 1) xs) (first_fault_from fault (n + 1 + length xs) ys))
+    ∙ ap (λ m. option_or (option_or (fault n x) (first_fault_from fault (n + 1) xs)) (first_fault_from fault m ys)) long
 
 mutual
   pub predicates-count : (tree : ConditionTree) → length (predicates tree) ≡ predicates_in tree
@@ -46,30 +46,30 @@ IsFlat all one = (part : Cond) (parts : List Cond) → all (part ∷ parts) ≡ 
 
 from-place : {A : Type 0} (fault : ℕ → A → Option BindFault) (all : List Cond → List A) (one : Cond → List A) → IsFlat all one
     → (n : ℕ) (parts : List Cond) (i : ℕ) (part : Cond) → i < length parts → part ≡ get_or parts i part
-    → first_fault fault n (all (drop i parts)) ≡ option_or (first_fault fault n (one part)) (first_fault fault (n + length (one part)) (all (drop (i + 1) parts)))
+    → first_fault_from fault n (all (drop i parts)) ≡ option_or (first_fault_from fault n (one part)) (first_fault_from fault (n + length (one part)) (all (drop (i + 1) parts)))
 from-place fault all one flat n parts i part below is =
-    at_drop_more (λ some. first_fault fault n (all some)) parts i part below
-    ∙ ap (λ first. first_fault fault n (all (first ∷ drop (i + 1) parts))) (sym is)
-    ∙ ap (first_fault fault n) (flat part (drop (i + 1) parts))
+    at_drop_more (λ some. first_fault_from fault n (all some)) parts i part below
+    ∙ ap (λ first. first_fault_from fault n (all (first ∷ drop (i + 1) parts))) (sym is)
+    ∙ ap (first_fault_from fault n) (flat part (drop (i + 1) parts))
     ∙ first_fault-append fault n (one part) (all (drop (i + 1) parts))
 
 -- the part at a place has no fault, so the first is among those behind it
 pub passed : {A : Type 0} (fault : ℕ → A → Option BindFault) (all : List Cond → List A) (one : Cond → List A) → IsFlat all one
     → (due : Option BindFault) (n after : ℕ) (parts : List Cond) (i : ℕ) (part : Cond) → i < length parts → part ≡ get_or parts i part
-    → due ≡ first_fault fault n (all (drop i parts)) → first_fault fault n (one part) ≡ None → after ≡ n + length (one part)
-    → due ≡ first_fault fault after (all (drop (i + 1) parts))
+    → due ≡ first_fault_from fault n (all (drop i parts)) → first_fault_from fault n (one part) ≡ None → after ≡ n + length (one part)
+    → due ≡ first_fault_from fault after (all (drop (i + 1) parts))
 passed fault all one flat due n after parts i part below is left none next =
     left ∙ from-place fault all one flat n parts i part below is
-    ∙ ap (λ first. option_or first (first_fault fault (n + length (one part)) (all (drop (i + 1) parts)))) none
-    ∙ ap (λ m. first_fault fault m (all (drop (i + 1) parts))) (sym next)
+    ∙ ap (λ first. option_or first (first_fault_from fault (n + length (one part)) (all (drop (i + 1) parts)))) none
+    ∙ ap (λ m. first_fault_from fault m (all (drop (i + 1) parts))) (sym next)
 
 -- it has one, which is the first of all
 pub refused_at : {A : Type 0} (fault : ℕ → A → Option BindFault) (all : List Cond → List A) (one : Cond → List A) → IsFlat all one
     → (due : Option BindFault) (n : ℕ) (parts : List Cond) (i : ℕ) (part : Cond) (found : BindFault) → i < length parts → part ≡ get_or parts i part
-    → due ≡ first_fault fault n (all (drop i parts)) → first_fault fault n (one part) ≡ Some found → due ≡ Some found
+    → due ≡ first_fault_from fault n (all (drop i parts)) → first_fault_from fault n (one part) ≡ Some found → due ≡ Some found
 refused_at fault all one flat due n parts i part found below is left some =
     left ∙ from-place fault all one flat n parts i part below is
-    ∙ ap (λ first. option_or first (first_fault fault (n + length (one part)) (all (drop (i + 1) parts)))) some
+    ∙ ap (λ first. option_or first (first_fault_from fault (n + length (one part)) (all (drop (i + 1) parts)))) some
 
 abbrev pub all_predicates : List Cond → List ConditionTree
 all_predicates parts = predicates_of_all (operands (map condition_tree parts))
@@ -108,6 +108,6 @@ counted-next parts i part below is =
 
 -- a refusal that is handed on
 pub handed_on : {T : Type 0} (due : Option BindFault) (result : Result T BindFault) (fault : BindFault) → IsErrAnd result (λ x. x ≡ fault)
-    → (fault ≢ NoMemory → due ≡ Some fault) → Refuses due result
+    → (fault ≢ NoMemory → due ≡ Some fault) → RefusesBlock due result
 handed_on due (Ok x) fault is h = absurd is
 handed_on due (Err x) fault is h = record { answered = tt; refused = λ other. h (λ none. other (is ∙ none)) ∙ ap Some (sym is) }

@@ -7,37 +7,37 @@ use Rattle.sql_parse.specs.Trees.{condition_tree, operands}
 use Rattle.sql_bind.specs.declared.reach.Reach.{Reach}
 use Rattle.sql_bind.specs.declared.reach.Reach.TheVariants.{Nothing, One, Several}
 use Rattle.sql_bind.specs.Named.{NamedTable}
-use Rattle.sql_bind.specs.Conjuncts.{joined, reach_of_term, reach_of_terms, reach_of, reach_of_all}
+use Rattle.sql_bind.specs.Conjuncts.{joined_reach, reach_of_term, reach_of_terms, reach_of, reach_of_all}
 
-pub joined-nothing : (a : Reach) → joined a Nothing ≡ a
+pub joined-nothing : (a : Reach) → joined_reach a Nothing ≡ a
 joined-nothing Nothing = refl
 joined-nothing (One r) = refl
 joined-nothing Several = refl
 
-three : (r s t : ℕ) → joined (joined (One r) (One s)) (One t) ≡ joined (One r) (joined (One s) (One t))
+three : (r s t : ℕ) → joined_reach (joined_reach (One r) (One s)) (One t) ≡ joined_reach (One r) (joined_reach (One s) (One t))
 three r s t = grind arith
 
-pub joined-assoc : (a b c : Reach) → joined (joined a b) c ≡ joined a (joined b c)
+pub joined-assoc : (a b c : Reach) → joined_reach (joined_reach a b) c ≡ joined_reach a (joined_reach b c)
 joined-assoc Nothing b c = refl
 joined-assoc Several b c = refl
 joined-assoc (One r) Nothing c = refl
 joined-assoc (One r) Several c = refl
-joined-assoc (One r) (One s) Nothing = joined-nothing (joined (One r) (One s))
+joined-assoc (One r) (One s) Nothing = joined-nothing (joined_reach (One r) (One s))
 joined-assoc (One r) (One s) (One t) = three r s t
 joined-assoc (One r) (One s) Several = grind arith
 
 -- what was reached before a place, with what is reached from there on, is the whole
 pub terms-next : (tables : List NamedTable) (terms : List Term) (i : ℕ) (term : Term) (before : Reach) → i < length terms → term ≡ get_or terms i term
-    → joined before (reach_of_terms tables (drop i terms)) ≡ joined (joined before (reach_of_term tables term)) (reach_of_terms tables (drop (i + 1) terms))
+    → joined_reach before (reach_of_terms tables (drop i terms)) ≡ joined_reach (joined_reach before (reach_of_term tables term)) (reach_of_terms tables (drop (i + 1) terms))
 terms-next tables terms i term before below is =
-    let whole : List Term → Reach = λ some. joined before (reach_of_terms tables some) in
+    let whole : List Term → Reach = λ some. joined_reach before (reach_of_terms tables some) in
     at_drop_more whole terms i term below ∙ ap (λ one. whole (one ∷ drop (i + 1) terms)) (sym is)
     ∙ sym (joined-assoc before (reach_of_term tables term) (reach_of_terms tables (drop (i + 1) terms)))
 
 pub parts-next : (tables : List NamedTable) (parts : List Cond) (i : ℕ) (part : Cond) (before : Reach) → i < length parts → part ≡ get_or parts i part
-    → joined before (reach_of_all tables (operands (map condition_tree (drop i parts))))
-    ≡ joined (joined before (reach_of tables (condition_tree part))) (reach_of_all tables (operands (map condition_tree (drop (i + 1) parts))))
+    → joined_reach before (reach_of_all tables (operands (map condition_tree (drop i parts))))
+    ≡ joined_reach (joined_reach before (reach_of tables (condition_tree part))) (reach_of_all tables (operands (map condition_tree (drop (i + 1) parts))))
 parts-next tables parts i part before below is =
-    let whole : List Cond → Reach = λ some. joined before (reach_of_all tables (operands (map condition_tree some))) in
+    let whole : List Cond → Reach = λ some. joined_reach before (reach_of_all tables (operands (map condition_tree some))) in
     at_drop_more whole parts i part below ∙ ap (λ one. whole (one ∷ drop (i + 1) parts)) (sym is)
     ∙ sym (joined-assoc before (reach_of tables (condition_tree part)) (reach_of_all tables (operands (map condition_tree (drop (i + 1) parts)))))

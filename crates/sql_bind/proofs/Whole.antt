@@ -20,7 +20,7 @@ use Rattle.db_catalog.specs.Fits.{FitsTable, Fits}
 use Rattle.sql_bind.specs.declared.conjuncts.Parts.{Parts}
 use Rattle.sql_bind.specs.declared.fault.BindFault.{BindFault}
 use Rattle.sql_bind.specs.Named.{NamedTable}
-use Rattle.sql_bind.specs.Binding.{named_table, named_tables, table_fault, alias_fault, from_fault, relation_with, relations_from, filter_of, block_of, conjuncts_in, projection_of, edges_of, past, projection_fault, condition_fault, bind_fault}
+use Rattle.sql_bind.specs.Binding.{named_table, named_tables, table_fault, alias_fault, from_fault, relation_with, relations_from, filter_of, block_of, conjuncts_in, projection_of, edges_of, past_limit, projection_fault, condition_fault, bind_fault}
 use Rattle.sql_bind.specs.Collected.{HasParts, filter_trees, more_filters, with_filters}
 use Rattle.sql_bind.proofs.Collected.{trees-count}
 use Rattle.sql_bind.proofs.Relations.{relations-of_parts}
@@ -102,15 +102,15 @@ assembled-lent database query from tables one two three parts relations projecti
 -- none of the checks refused
 pub unrefused : (database : DatabaseState) (query : QueryTree) (from : List Item) (tables one two : List NamedTable) (parts : Parts) (edges : ℕ)
     → from ≡ query.from → tables ≡ named_tables database from → one ≡ tables → two ≡ tables → HasParts two (conjuncts_in query.condition) parts → edges ≡ length parts.edges.items
-    → past limit.Relations max_relations (length from) ≡ None → from_fault database [] from ≡ None → projection_fault one query.columns ≡ None → condition_fault two query.condition ≡ None
-    → past limit.Axes max_axes edges ≡ None → bind_fault database query ≡ None
+    → past_limit limit.Relations max_relations (length from) ≡ None → from_fault database [] from ≡ None → projection_fault one query.columns ≡ None → condition_fault two query.condition ≡ None
+    → past_limit limit.Axes max_axes edges ≡ None → bind_fault database query ≡ None
 unrefused database query from tables one two parts edges items is first second has count few from_none projection_none condition_none axes_none =
     let named = is ∙ ap (named_tables database) items in
     let conjuncts = conjuncts_in query.condition in
     let edges_are : edges ≡ length (edges_of (named_tables database query.from) conjuncts) =
     count ∙ ap length has.edges ∙ ap (λ some. length (edges_of some conjuncts)) (second ∙ named) in
-    none_of _ _ (ap (λ some. past limit.Relations max_relations (length some)) (sym items) ∙ few)
+    none_of _ _ (ap (λ some. past_limit limit.Relations max_relations (length some)) (sym items) ∙ few)
     (none_of _ _ (ap (from_fault database []) (sym items) ∙ from_none)
     (none_of _ _ (ap (λ some. projection_fault some query.columns) (sym (first ∙ named)) ∙ projection_none)
     (none_of _ _ (ap (λ some. condition_fault some query.condition) (sym (second ∙ named)) ∙ condition_none)
-    (ap (past limit.Axes max_axes) (sym edges_are) ∙ axes_none))))
+    (ap (past_limit limit.Axes max_axes) (sym edges_are) ∙ axes_none))))

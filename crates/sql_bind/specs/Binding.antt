@@ -18,7 +18,7 @@ use Rattle.db_catalog.specs.Database.{DatabaseState, table_at, table_number}
 use Rattle.sql_bind.specs.declared.fault.BindFault.{BindFault}
 use Rattle.sql_bind.specs.declared.fault.BindFault.TheVariants.{UnknownTable, DuplicateAlias, Limit}
 use Rattle.sql_bind.specs.Named.{NamedTable}
-use Rattle.sql_bind.specs.Names.{place_of, columns_fault}
+use Rattle.sql_bind.specs.Names.{place_of, written_columns_fault}
 use Rattle.sql_bind.specs.Predicates.{predicates_fault}
 use Rattle.sql_bind.specs.Conjuncts.{conjuncts, reach_of, filtered, is_relation, edge_of, conjuncts_fault, bound_condition}
 
@@ -33,8 +33,8 @@ abbrev pub named_tables : DatabaseState → List Item → List NamedTable
 named_tables database items = map (named_table database) items
 
 -- a number past its limit
-abbrev pub past : LimitName → ℕ → ℕ → Option BindFault
-past name most value = if nat_lt most value then Some (Limit name value) else None
+abbrev pub past_limit : LimitName → ℕ → ℕ → Option BindFault
+past_limit name most value = if nat_lt most value then Some (Limit name value) else None
 
 -- the database has the table
 abbrev pub table_fault : Item → Option ℕ → Option BindFault
@@ -56,7 +56,7 @@ from_fault database before (item ∷ items) =
 abbrev pub projection_fault : List NamedTable → Option (List ColRef) → Option BindFault
 projection_fault tables None = None
 projection_fault tables (Some columns) =
-    option_or (past limit.Projection max_projection (length columns)) (columns_fault tables columns)
+    option_or (past_limit limit.Projection max_projection (length columns)) (written_columns_fault tables columns)
 
 -- the conjuncts of WHERE; without WHERE there are none
 abbrev pub conjuncts_in : Option ConditionTree → List ConditionTree
@@ -128,8 +128,8 @@ block_of database query =
 abbrev pub bind_fault : DatabaseState → QueryTree → Option BindFault
 bind_fault database query =
     let tables = named_tables database query.from in
-    option_or (past limit.Relations max_relations (length query.from))
+    option_or (past_limit limit.Relations max_relations (length query.from))
     (option_or (from_fault database [] query.from)
     (option_or (projection_fault tables query.columns)
     (option_or (condition_fault tables query.condition)
-    (past limit.Axes max_axes (length (edges_of tables (conjuncts_in query.condition)))))))
+    (past_limit limit.Axes max_axes (length (edges_of tables (conjuncts_in query.condition)))))))

@@ -27,7 +27,7 @@ with_condition zero condition (filter ∷ filters) = (filter ++ condition ∷ []
 with_condition (suc relation) condition (filter ∷ filters) = filter ∷ with_condition relation condition filters
 
 -- the parts with those of more conjuncts behind
-pub record Adds (tables : List NamedTable) (conjuncts : List ConditionTree) (old new : Parts) : Type 0 where
+pub record AddsConjuncts (tables : List NamedTable) (conjuncts : List ConditionTree) (old new : Parts) : Type 0 where
   pub edges : new.edges.items ≡ old.edges.items ++ edges_of tables conjuncts
   pub filters : filter_trees new.filters.items ≡ more_filters tables conjuncts 0 (filter_trees old.filters.items)
 

@@ -16,7 +16,7 @@ use Rattle.sql_bind.specs.declared.fault.BindFault.TheVariants.{PredicateForm}
 use Rattle.sql_bind.specs.declared.reach.Reach.{Reach}
 use Rattle.sql_bind.specs.declared.reach.Reach.TheVariants.{Nothing, One, Several}
 use Rattle.sql_bind.specs.Named.{NamedTable}
-use Rattle.sql_bind.specs.Names.{place_of, first_fault}
+use Rattle.sql_bind.specs.Names.{place_of, first_fault_from}
 
 abbrev mutual
   -- the operands of the outermost ANDs, with groups of ANDs taken apart, in written order
@@ -34,12 +34,12 @@ abbrev mutual
   conjuncts_of_all (More part parts) = conjuncts part ++ conjuncts_of_all parts
 
 -- the relations of two groups of columns together
-abbrev pub joined : Reach → Reach → Reach
-joined Nothing b = b
-joined (One r) Nothing = One r
-joined (One r) (One s) = if r == s then One r else Several
-joined (One r) Several = Several
-joined Several b = Several
+abbrev pub joined_reach : Reach → Reach → Reach
+joined_reach Nothing b = b
+joined_reach (One r) Nothing = One r
+joined_reach (One r) (One s) = if r == s then One r else Several
+joined_reach (One r) Several = Several
+joined_reach Several b = Several
 
 -- of which relation an operand is
 abbrev pub reach_of_term : List NamedTable → Term → Reach
@@ -48,15 +48,15 @@ reach_of_term tables (Literal value) = Nothing
 
 abbrev pub reach_of_terms : List NamedTable → List Term → Reach
 reach_of_terms tables [] = Nothing
-reach_of_terms tables (term ∷ terms) = joined (reach_of_term tables term) (reach_of_terms tables terms)
+reach_of_terms tables (term ∷ terms) = joined_reach (reach_of_term tables term) (reach_of_terms tables terms)
 
 abbrev mutual
   -- of which relations the columns of a condition are
   pub reach_of : List NamedTable → ConditionTree → Reach
-  reach_of tables (Compare op left right) = joined (reach_of_term tables left) (reach_of_term tables right)
+  reach_of tables (Compare op left right) = joined_reach (reach_of_term tables left) (reach_of_term tables right)
   reach_of tables (Between negated of low high) =
-      joined (reach_of_term tables of) (joined (reach_of_term tables low) (reach_of_term tables high))
-  reach_of tables (OneOf negated of terms) = joined (reach_of_term tables of) (reach_of_terms tables terms)
+      joined_reach (reach_of_term tables of) (joined_reach (reach_of_term tables low) (reach_of_term tables high))
+  reach_of tables (OneOf negated of terms) = joined_reach (reach_of_term tables of) (reach_of_terms tables terms)
   reach_of tables (IsNull negated column) = One (place_of tables column).relation
   reach_of tables (Not inner) = reach_of tables inner
   reach_of tables (And parts) = reach_of_all tables parts
@@ -64,7 +64,7 @@ abbrev mutual
 
   pub reach_of_all : List NamedTable → ConditionTrees → Reach
   reach_of_all tables NoMore = Nothing
-  reach_of_all tables (More part parts) = joined (reach_of tables part) (reach_of_all tables parts)
+  reach_of_all tables (More part parts) = joined_reach (reach_of tables part) (reach_of_all tables parts)
 
 -- the edge between two columns: the lower relation stands on the left
 abbrev pub edge_between : ColumnAt → ColumnAt → Edge
@@ -125,7 +125,7 @@ conjunct_fault tables number conjunct =
 
 -- the conjuncts of a condition, numbered from this number on
 abbrev pub conjuncts_fault : List NamedTable → ℕ → ConditionTree → Option BindFault
-conjuncts_fault tables number condition = first_fault (conjunct_fault tables) number (conjuncts condition)
+conjuncts_fault tables number condition = first_fault_from (conjunct_fault tables) number (conjuncts condition)
 
 -- an operand with its column by number
 abbrev pub bound_operand : List NamedTable → Term → Operand

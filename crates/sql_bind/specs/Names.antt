@@ -29,8 +29,8 @@ places_from relation (table ∷ tables) written =
     (if may_name written.alias table then places_among relation 0 table.columns written.column else [])
     ++ places_from (relation + 1) tables written
 
-abbrev pub places_of : List NamedTable → ColRef → List ColumnAt
-places_of tables written = places_from 0 tables written
+abbrev pub named_places : List NamedTable → ColRef → List ColumnAt
+named_places tables written = places_from 0 tables written
 
 abbrev pub dotted : Option (List ℕ) → List ℕ → List ℕ
 dotted None name = name
@@ -46,8 +46,8 @@ named_once written [] = Some (UnknownColumn (written_name written))
 named_once written (place ∷ []) = None
 named_once written (place ∷ other ∷ more) = Some (Ambiguous written.column)
 
-abbrev pub column_fault : List NamedTable → ColRef → Option BindFault
-column_fault tables written = named_once written (places_of tables written)
+abbrev pub written_column_fault : List NamedTable → ColRef → Option BindFault
+written_column_fault tables written = named_once written (named_places tables written)
 
 abbrev pub first_place : List ColumnAt → ColumnAt
 first_place [] = record { relation = 0; column = 0 }
@@ -55,14 +55,14 @@ first_place (place ∷ more) = place
 
 -- the column that a written column names; where it names none, the first of all
 abbrev pub place_of : List NamedTable → ColRef → ColumnAt
-place_of tables written = first_place (places_of tables written)
+place_of tables written = first_place (named_places tables written)
 
 -- the first fault of a list, whose items are numbered from this number on
-abbrev pub first_fault : {A : Type 0} → (ℕ → A → Option BindFault) → ℕ → List A → Option BindFault
-first_fault fault number [] = None
-first_fault fault number (item ∷ items) = option_or (fault number item) (first_fault fault (number + 1) items)
+abbrev pub first_fault_from : {A : Type 0} → (ℕ → A → Option BindFault) → ℕ → List A → Option BindFault
+first_fault_from fault number [] = None
+first_fault_from fault number (item ∷ items) = option_or (fault number item) (first_fault_from fault (number + 1) items)
 
 -- written columns from left to right
-abbrev pub columns_fault : List NamedTable → List ColRef → Option BindFault
-columns_fault tables [] = None
-columns_fault tables (written ∷ columns) = option_or (column_fault tables written) (columns_fault tables columns)
+abbrev pub written_columns_fault : List NamedTable → List ColRef → Option BindFault
+written_columns_fault tables [] = None
+written_columns_fault tables (written ∷ columns) = option_or (written_column_fault tables written) (written_columns_fault tables columns)

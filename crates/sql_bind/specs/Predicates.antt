@@ -11,7 +11,7 @@ use Rattle.sql_parse.specs.Trees.{ConditionTree, ConditionTrees, Compare, Betwee
 use Rattle.sql_bind.specs.declared.fault.BindFault.{BindFault}
 use Rattle.sql_bind.specs.declared.fault.BindFault.TheVariants.{TypeMismatch}
 use Rattle.sql_bind.specs.Named.{NamedTable}
-use Rattle.sql_bind.specs.Names.{place_of, column_fault, first_fault}
+use Rattle.sql_bind.specs.Names.{place_of, written_column_fault, first_fault_from}
 
 abbrev mutual
   -- each comparison, BETWEEN, IN and IS NULL of a condition, in written order
@@ -60,7 +60,7 @@ are_alike tables (first ∷ rest) = list_all (λ term. agree (is_text_term table
 
 -- an operand: a column of it names exactly one
 abbrev pub term_fault : List NamedTable → Term → Option BindFault
-term_fault tables (Column written) = column_fault tables written
+term_fault tables (Column written) = written_column_fault tables written
 term_fault tables (Literal value) = None
 
 -- operands from left to right
@@ -81,4 +81,4 @@ predicate_fault tables number predicate = operands_fault tables number (terms_of
 
 -- the predicates of a condition, numbered from this number on
 abbrev pub predicates_fault : List NamedTable → ℕ → ConditionTree → Option BindFault
-predicates_fault tables number condition = first_fault (predicate_fault tables) number (predicates condition)
+predicates_fault tables number condition = first_fault_from (predicate_fault tables) number (predicates condition)

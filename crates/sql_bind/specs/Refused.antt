@@ -10,7 +10,7 @@ use Rattle.sql_bind.specs.declared.names.Found.{Found}
 use Rattle.sql_bind.specs.declared.names.Found.TheVariants.{Nothing, One, Several}
 
 -- a call is refused with the fault that is due, and otherwise it isn't; only memory may be wanting besides
-pub record Refuses {T : Type 0} (due : Option BindFault) (result : Result T BindFault) : Type 0 where
+pub record RefusesBlock {T : Type 0} (due : Option BindFault) (result : Result T BindFault) : Type 0 where
   pub answered : OnOk result (due ≡ None)
   pub refused : IfErr result (λ fault. fault ≢ NoMemory → due ≡ Some fault)
 

@@ -10,7 +10,7 @@ ghost use Rattle.db_catalog.specs.Fits.{Fits};
 ghost use Rattle.sql_bind.specs.Binding.{block_of, bind_fault, condition_fault, conjuncts_in, relation_with};
 ghost use Rattle.sql_bind.specs.Conjuncts.{conjuncts};
 ghost use Rattle.sql_bind.specs.Collected.{HasParts, filter_trees, with_filters};
-ghost use Rattle.sql_bind.specs.Refused.{Refuses};
+ghost use Rattle.sql_bind.specs.Refused.{RefusesBlock};
 
 use crate::conjuncts::{Parts, add_conjuncts};
 use crate::fault::BindFault;
@@ -44,7 +44,7 @@ fn parts_of(alloc: Global, tables: &[NamedTable<'_>], condition: &Cond) -> Resul
     requires narrow { All (λ table. length table.columns ≤ max_columns) tables.now }
     requires well_formed { IsWellFormedCondition (condition_tree condition.now) }
     requires counted { predicates_in (condition_tree condition.now) < 2 ^ 32 }
-    ensures refuses { Refuses (condition_fault tables.now (Some (condition_tree condition.now))) result }
+    ensures refuses { RefusesBlock (condition_fault tables.now (Some (condition_tree condition.now))) result }
     ensures parts { IfOk result (HasParts tables.now (conjuncts (condition_tree condition.now))) }
 {
     let _ = check_predicates(alloc, tables, condition, 1)?;
@@ -63,7 +63,7 @@ fn condition_parts(
     requires narrow { All (λ table. length table.columns ≤ max_columns) tables.now }
     requires well_formed { IfSome (option_map condition_tree condition.now) IsWellFormedCondition }
     requires counted { of_condition predicates_in (option_map condition_tree condition.now) < 2 ^ 32 }
-    ensures refuses { Refuses
+    ensures refuses { RefusesBlock
         (condition_fault tables.now (option_map condition_tree condition.now)) result }
     ensures parts { IfOk result
         (HasParts tables.now (conjuncts_in (option_map condition_tree condition.now))) }
@@ -137,7 +137,7 @@ pub fn bind(alloc: Global, database: &Database, query: &Query) -> Result<Block, 
     requires well_formed { IsWellFormedQuery (query_tree query.now) }
     requires counted { of_condition predicates_in (query_tree query.now).condition < 2 ^ 32 }
     ensures block { IfOk result (λ block. block_tree block ≡ block_of database.now (query_tree query.now)) }
-    ensures refuses { Refuses (bind_fault database.now (query_tree query.now)) result }
+    ensures refuses { RefusesBlock (bind_fault database.now (query_tree query.now)) result }
     ensures fits { IfOk result (λ block. Fits database.now (block_tree block)) }
 {
     let from = query.from.as_slice();

@@ -3,10 +3,10 @@ ghost use Rattle.std.specs.Prelude.{◌≡◌, ◌≤◌, ◌<◌, ◌+◌, ◌^
 ghost use Rattle.sql_values.specs.Limits.{max_relations, max_columns};
 ghost use Rattle.query_block.specs.Conditions.{filter_tree};
 ghost use Rattle.sql_parse.specs.Trees.{condition_tree, operands};
-ghost use Rattle.sql_bind.specs.Names.{first_fault};
+ghost use Rattle.sql_bind.specs.Names.{first_fault_from};
 ghost use Rattle.sql_bind.specs.Conjuncts.{conjuncts, conjuncts_of_all, conjunct_fault, conjuncts_fault, edge_between, equality_between, equality_of};
-ghost use Rattle.sql_bind.specs.Collected.{Adds, filter_trees, with_condition};
-ghost use Rattle.sql_bind.specs.Refused.{Refuses};
+ghost use Rattle.sql_bind.specs.Collected.{AddsConjuncts, filter_trees, with_condition};
+ghost use Rattle.sql_bind.specs.Refused.{RefusesBlock};
 
 use crate::bound::bound_condition;
 use crate::fault::BindFault;
@@ -101,9 +101,9 @@ fn add_conjunct(
 ) -> Result<(), BindFault>
     requires few { length tables.now ≤ max_relations }
     requires narrow { All (λ table. length table.columns ≤ max_columns) tables.now }
-    ensures refuses { Refuses (conjunct_fault tables.now number (condition_tree conjunct.now)) result }
+    ensures refuses { RefusesBlock (conjunct_fault tables.now number (condition_tree conjunct.now)) result }
     ensures added { OnOk result
-        (Adds tables.now (condition_tree conjunct.now ∷ []) parts.old parts.new) }
+        (AddsConjuncts tables.now (condition_tree conjunct.now ∷ []) parts.old parts.new) }
 {
     match reach_of(tables, conjunct) {
         Reach::Nothing => Err(BindFault::PredicateForm { conjunct: number }),
@@ -134,9 +134,9 @@ pub(crate) fn add_conjuncts(
     requires few { length tables.now ≤ max_relations }
     requires narrow { All (λ table. length table.columns ≤ max_columns) tables.now }
     requires counted { number + length (conjuncts (condition_tree condition.now)) ≤ 2 ^ 32 }
-    ensures refuses { Refuses (conjuncts_fault tables.now number (condition_tree condition.now)) result }
+    ensures refuses { RefusesBlock (conjuncts_fault tables.now number (condition_tree condition.now)) result }
     ensures added { OnOk result
-        (Adds tables.now (conjuncts (condition_tree condition.now)) parts.old parts.new) }
+        (AddsConjuncts tables.now (conjuncts (condition_tree condition.now)) parts.old parts.new) }
     ensures next { IfOk result
         (λ next. next ≡ number + length (conjuncts (condition_tree condition.now))) }
 {
@@ -162,9 +162,9 @@ fn add_all(
     requires narrow { All (λ table. length table.columns ≤ max_columns) tables.now }
     requires counted { number
         + length (conjuncts_of_all (operands (map condition_tree chain.now))) ≤ 2 ^ 32 }
-    ensures refuses { Refuses (first_fault (conjunct_fault tables.now) number
+    ensures refuses { RefusesBlock (first_fault_from (conjunct_fault tables.now) number
         (conjuncts_of_all (operands (map condition_tree chain.now)))) result }
-    ensures added { OnOk result (Adds tables.now
+    ensures added { OnOk result (AddsConjuncts tables.now
         (conjuncts_of_all (operands (map condition_tree chain.now))) parts.old parts.new) }
     ensures next { IfOk result (λ next. next
         ≡ number + length (conjuncts_of_all (operands (map condition_tree chain.now)))) }

@@ -3,8 +3,8 @@ ghost use Rattle.std.specs.Prelude.{◌≡◌, ◌≢◌, ◌≤◌, ◌<◌, []
 ghost use Rattle.sql_values.specs.Limits.{max_columns};
 ghost use Rattle.sql_values.specs.Dictionary.{has_text};
 ghost use Rattle.db_catalog.specs.Database.{table_number};
-ghost use Rattle.sql_bind.specs.Binding.{named_table, named_tables, past, table_fault, from_fault};
-ghost use Rattle.sql_bind.specs.Refused.{Refuses, IsNamed};
+ghost use Rattle.sql_bind.specs.Binding.{named_table, named_tables, past_limit, table_fault, from_fault};
+ghost use Rattle.sql_bind.specs.Refused.{RefusesBlock, IsNamed};
 
 use crate::fault::BindFault;
 use crate::names::NamedTable;
@@ -15,7 +15,7 @@ use std::alloc::Global;
 
 /// Refuses a number past its limit.
 pub(crate) fn check_limit(name: LimitName, most: usize, value: usize) -> Result<(), BindFault>
-    ensures { Refuses (past name most value) result }
+    ensures { RefusesBlock (past_limit name most value) result }
 {
     if value > most {
         return Err(BindFault::Limit {
@@ -60,7 +60,7 @@ fn has_alias(items: &[Item], alias: &Name) -> bool
 
 // The number of an item's table.
 fn number_of(database: &Database, item: &Item) -> Result<u32, BindFault>
-    ensures refuses { Refuses
+    ensures refuses { RefusesBlock
         (table_fault item.now (table_number database.now item.now.table)) result }
     ensures number { IfOk result
         (λ number. table_number database.now item.now.table ≡ Some number) }
@@ -91,7 +91,7 @@ pub(crate) fn named_tables<'q>(
     database: &'q Database,
     items: &'q [Item],
 ) -> Result<Vec<NamedTable<'q>>, BindFault>
-    ensures refuses { Refuses (from_fault database.now [] items.now) result }
+    ensures refuses { RefusesBlock (from_fault database.now [] items.now) result }
     ensures tables { IfOk result (λ tables. tables.items ≡ named_tables database.now items.now) }
     ensures named { IfOk result (λ tables. All IsNamed tables.items) }
     ensures narrow { IfOk result

@@ -1,8 +1,8 @@
 // Written columns, and the columns of the tables of FROM that they name.
 ghost use Rattle.std.specs.Prelude.{◌≡◌, ◌≢◌, ◌≤◌, ◌<◌, All, IfOk, length};
 ghost use Rattle.sql_values.specs.Limits.{max_relations, max_columns};
-ghost use Rattle.sql_bind.specs.Names.{places_among, places_of, place_of, column_fault, may_name, written_name};
-ghost use Rattle.sql_bind.specs.Refused.{Refuses, added, found_with};
+ghost use Rattle.sql_bind.specs.Names.{places_among, named_places, place_of, written_column_fault, may_name, written_name};
+ghost use Rattle.sql_bind.specs.Refused.{RefusesBlock, added, found_with};
 
 use crate::fault::BindFault;
 use query_block::ColumnAt;
@@ -86,7 +86,7 @@ fn may_name(written: &ColRef, table: &NamedTable<'_>) -> bool
 fn look_up(tables: &[NamedTable<'_>], written: &ColRef) -> Found
     requires few { length tables.now ≤ max_relations }
     requires narrow { All (λ table. length table.columns ≤ max_columns) tables.now }
-    ensures { result ≡ found_with Found.Nothing (places_of tables.now written.now) }
+    ensures { result ≡ found_with Found.Nothing (named_places tables.now written.now) }
 {
     let mut found = Found::Nothing;
     for number in 0..tables.len() {
@@ -139,7 +139,7 @@ pub(crate) fn check_column(
 ) -> Result<(), BindFault>
     requires few { length tables.now ≤ max_relations }
     requires narrow { All (λ table. length table.columns ≤ max_columns) tables.now }
-    ensures { Refuses (column_fault tables.now written.now) result }
+    ensures { RefusesBlock (written_column_fault tables.now written.now) result }
 {
     match look_up(tables, written) {
         Found::Nothing => Err(unknown_column(alloc, written)),

@@ -5,10 +5,10 @@ ghost use Rattle.sql_values.specs.Limits.{max_relations, max_columns};
 ghost use Rattle.query_block.specs.Blocks.{holds_texts, is_text};
 ghost use Rattle.sql_parse.specs.Trees.{condition_tree, operands};
 ghost use Rattle.sql_parse.specs.Counts.{predicates_in, predicates_in_all};
-ghost use Rattle.sql_bind.specs.Names.{first_fault};
+ghost use Rattle.sql_bind.specs.Names.{first_fault_from};
 ghost use Rattle.sql_bind.specs.Predicates.{kind_in, is_text_term, agree, term_fault, terms_fault};
 ghost use Rattle.sql_bind.specs.Predicates.{operands_fault, predicate_fault, predicates_fault, predicates_of_all};
-ghost use Rattle.sql_bind.specs.Refused.{Refuses};
+ghost use Rattle.sql_bind.specs.Refused.{RefusesBlock};
 
 use crate::fault::BindFault;
 use crate::names::{NamedTable, check_column, place_of};
@@ -92,7 +92,7 @@ fn all_agree(tables: &[NamedTable<'_>], first: &Term, others: &[Term]) -> bool
 fn check_term(alloc: Global, tables: &[NamedTable<'_>], term: &Term) -> Result<(), BindFault>
     requires few { length tables.now ≤ max_relations }
     requires narrow { All (λ table. length table.columns ≤ max_columns) tables.now }
-    ensures { Refuses (term_fault tables.now term.now) result }
+    ensures { RefusesBlock (term_fault tables.now term.now) result }
 {
     match term {
         Term::Column(written) => check_column(alloc, tables, written),
@@ -104,7 +104,7 @@ fn check_term(alloc: Global, tables: &[NamedTable<'_>], term: &Term) -> Result<(
 fn check_terms(alloc: Global, tables: &[NamedTable<'_>], terms: &[Term]) -> Result<(), BindFault>
     requires few { length tables.now ≤ max_relations }
     requires narrow { All (λ table. length table.columns ≤ max_columns) tables.now }
-    ensures { Refuses (terms_fault tables.now terms.now) result }
+    ensures { RefusesBlock (terms_fault tables.now terms.now) result }
 {
     for i in 0..terms.len() {
         check_term(alloc, tables, &terms[i])?;
@@ -121,7 +121,7 @@ fn check_term_and(
 ) -> Result<(), BindFault>
     requires few { length tables.now ≤ max_relations }
     requires narrow { All (λ table. length table.columns ≤ max_columns) tables.now }
-    ensures { Refuses (terms_fault tables.now (first.now ∷ others.now)) result }
+    ensures { RefusesBlock (terms_fault tables.now (first.now ∷ others.now)) result }
 {
     check_term(alloc, tables, first)?;
     check_terms(alloc, tables, others)
@@ -137,7 +137,7 @@ fn check_two(
 ) -> Result<(), BindFault>
     requires few { length tables.now ≤ max_relations }
     requires narrow { All (λ table. length table.columns ≤ max_columns) tables.now }
-    ensures { Refuses (operands_fault tables.now predicate (first.now ∷ second.now ∷ [])) result }
+    ensures { RefusesBlock (operands_fault tables.now predicate (first.now ∷ second.now ∷ [])) result }
 {
     check_term(alloc, tables, first)?;
     check_term(alloc, tables, second)?;
@@ -158,7 +158,7 @@ fn check_three(
 ) -> Result<(), BindFault>
     requires few { length tables.now ≤ max_relations }
     requires narrow { All (λ table. length table.columns ≤ max_columns) tables.now }
-    ensures { Refuses (operands_fault tables.now predicate (first.now ∷ second.now ∷ third.now ∷ [])) result }
+    ensures { RefusesBlock (operands_fault tables.now predicate (first.now ∷ second.now ∷ third.now ∷ [])) result }
 {
     check_term(alloc, tables, first)?;
     check_term(alloc, tables, second)?;
@@ -179,7 +179,7 @@ fn check_list(
 ) -> Result<(), BindFault>
     requires few { length tables.now ≤ max_relations }
     requires narrow { All (λ table. length table.columns ≤ max_columns) tables.now }
-    ensures { Refuses (operands_fault tables.now predicate (first.now ∷ others.now)) result }
+    ensures { RefusesBlock (operands_fault tables.now predicate (first.now ∷ others.now)) result }
 {
     check_term_and(alloc, tables, first, others)?;
     if !all_agree(tables, first, others) {
@@ -197,7 +197,7 @@ fn check_predicate(
 ) -> Result<(), BindFault>
     requires few { length tables.now ≤ max_relations }
     requires narrow { All (λ table. length table.columns ≤ max_columns) tables.now }
-    ensures { Refuses (predicate_fault tables.now number (condition_tree predicate.now)) result }
+    ensures { RefusesBlock (predicate_fault tables.now number (condition_tree predicate.now)) result }
 {
     match predicate {
         Cond::Compare(_, left, right) => check_two(alloc, tables, number, left, right),
@@ -222,7 +222,7 @@ pub(crate) fn check_predicates(
     requires few { length tables.now ≤ max_relations }
     requires narrow { All (λ table. length table.columns ≤ max_columns) tables.now }
     requires counted { number + predicates_in (condition_tree condition.now) ≤ 2 ^ 32 }
-    ensures refuses { Refuses (predicates_fault tables.now number (condition_tree condition.now)) result }
+    ensures refuses { RefusesBlock (predicates_fault tables.now number (condition_tree condition.now)) result }
     ensures next { IfOk result (λ next. next ≡ number + predicates_in (condition_tree condition.now)) }
 {
     match condition {
@@ -247,7 +247,7 @@ fn check_parts(
     requires few { length tables.now ≤ max_relations }
     requires narrow { All (λ table. length table.columns ≤ max_columns) tables.now }
     requires counted { number + predicates_in_all (operands (map condition_tree parts.now)) ≤ 2 ^ 32 }
-    ensures refuses { Refuses (first_fault (predicate_fault tables.now) number
+    ensures refuses { RefusesBlock (first_fault_from (predicate_fault tables.now) number
         (predicates_of_all (operands (map condition_tree parts.now)))) result }
     ensures next { IfOk result (λ next.
         next ≡ number + predicates_in_all (operands (map condition_tree parts.now))) }

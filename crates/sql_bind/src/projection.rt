@@ -1,9 +1,9 @@
 // The columns that SELECT asks for.
 ghost use Rattle.std.specs.Prelude.{◌≡◌, ◌≤◌, ◌++◌, All, IfOk, OnOk, length, map};
 ghost use Rattle.sql_values.specs.Limits.{max_relations, max_columns};
-ghost use Rattle.sql_bind.specs.Names.{columns_fault, place_of};
+ghost use Rattle.sql_bind.specs.Names.{written_columns_fault, place_of};
 ghost use Rattle.sql_bind.specs.Binding.{projection_fault, projection_of, columns_from, every_column};
-ghost use Rattle.sql_bind.specs.Refused.{Refuses};
+ghost use Rattle.sql_bind.specs.Refused.{RefusesBlock};
 
 use crate::fault::BindFault;
 use crate::from::check_limit;
@@ -21,7 +21,7 @@ fn check_columns(
 ) -> Result<(), BindFault>
     requires few { length tables.now ≤ max_relations }
     requires narrow { All (λ table. length table.columns ≤ max_columns) tables.now }
-    ensures { Refuses (columns_fault tables.now columns.now) result }
+    ensures { RefusesBlock (written_columns_fault tables.now columns.now) result }
 {
     for i in 0..columns.len() {
         check_column(alloc, tables, &columns[i])?;
@@ -85,7 +85,7 @@ pub(crate) fn projection(
 ) -> Result<Vec<ColumnAt>, BindFault>
     requires few { length tables.now ≤ max_relations }
     requires narrow { All (λ table. length table.columns ≤ max_columns) tables.now }
-    ensures refuses { Refuses (projection_fault tables.now columns.now) result }
+    ensures refuses { RefusesBlock (projection_fault tables.now columns.now) result }
     ensures places { IfOk result (λ places. places.items ≡ projection_of tables.now columns.now) }
 {
     match columns {

@@ -2,7 +2,7 @@
 ghost use Rattle.std.specs.Prelude.{◌≡◌, ◌≤◌, All, length, map};
 ghost use Rattle.sql_values.specs.Limits.{max_relations, max_columns};
 ghost use Rattle.sql_parse.specs.Trees.{condition_tree, operands};
-ghost use Rattle.sql_bind.specs.Conjuncts.{joined, reach_of_term, reach_of_terms, reach_of, reach_of_all};
+ghost use Rattle.sql_bind.specs.Conjuncts.{joined_reach, reach_of_term, reach_of_terms, reach_of, reach_of_all};
 
 use crate::names::{NamedTable, place_of};
 use sql_parse::{Cond, Term};
@@ -21,7 +21,7 @@ pub(crate) enum Reach {
 impl Reach {
     // The relations of two groups of columns together.
     fn joined(self, other: Reach) -> Reach
-        ensures { result ≡ joined self other }
+        ensures { result ≡ joined_reach self other }
     {
         match self {
             Reach::Nothing => other,

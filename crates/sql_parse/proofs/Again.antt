@@ -9,8 +9,8 @@ use Rattle.sql_parse.specs.declared.tree.Term.{Term}
 use Rattle.sql_parse.specs.declared.tree.Term.TheVariants as term
 use Rattle.sql_values.specs.declared.value.Value.TheVariants as value
 use Rattle.sql_parse.specs.Lexemes.{Lexeme, Word, mark, is_reserved}
-use Rattle.sql_parse.specs.Grammar.{Rule, IsName, Separated, InParentheses, IsColumnName, IsColRef, IsInteger, IsOperand}
-use Rattle.sql_parse.specs.Reading.{Reader, after_mark, name_at, number_at, text_at, more_at, list_with_first, list_at, in_parentheses_at, colref_at, unsigned_at, integer_at, kind_at, operand_at}
+use Rattle.sql_parse.specs.Grammar.{Rule, IsName, Separated, InParentheses, IsColumnName, IsColRef, IsInteger, IsTerm}
+use Rattle.sql_parse.specs.Reading.{Reader, after_mark, name_at, number_at, text_token_at, more_at, list_with_first, list_at, in_parentheses_at, colref_at, unsigned_at, integer_at, token_kind_at, operand_at}
 use Rattle.sql_parse.proofs.Lists.{more_at-end}
 
 -- each form is read again where Follows holds of what follows it
@@ -57,11 +57,11 @@ integer_at-again tokens n rest form follows = elim form.1 [
 ]
 
 kind_at-column : (alias : Option (List ℕ)) (column : List ℕ) (tokens rest : List Lexeme) → IsColumnName alias tokens column
-    → kind_at (tokens ++ rest) ≡ Some kinds.Word
+    → token_kind_at (tokens ++ rest) ≡ Some kinds.Word
 kind_at-column None column tokens rest form = rw form.0 refl
 kind_at-column (Some alias) column tokens rest form = rw form.0 refl
 
-operand_of_kind-number : (kind : Option TokenKind) (tokens rest : List Lexeme) (n : ℤ) → kind_at tokens ≡ kind → (kind ≡ Some kinds.Word → ⊥) → (kind ≡ Some kinds.Text → ⊥)
+operand_of_kind-number : (kind : Option TokenKind) (tokens rest : List Lexeme) (n : ℤ) → token_kind_at tokens ≡ kind → (kind ≡ Some kinds.Word → ⊥) → (kind ≡ Some kinds.Text → ⊥)
     → integer_at tokens ≡ Some (n, rest) → operand_at tokens ≡ Some (term.Literal (value.Int n), rest)
 unfolding operand_at
 operand_of_kind-number None tokens rest n is no_word no_text found = rw (is, found) refl
@@ -71,15 +71,15 @@ operand_of_kind-number (Some kinds.Text) tokens rest n is no_word no_text found 
 operand_of_kind-number (Some kinds.Sign) tokens rest n is no_word no_text found = rw (is, found) refl
 operand_of_kind-number (Some kinds.Comparison) tokens rest n is no_word no_text found = rw (is, found) refl
 
-integer-kind : (tokens rest : List Lexeme) (n : ℤ) → IsInteger tokens n → (kind_at (tokens ++ rest) ≡ Some kinds.Number) ⊎ (kind_at (tokens ++ rest) ≡ Some kinds.Sign)
+integer-kind : (tokens rest : List Lexeme) (n : ℤ) → IsInteger tokens n → (token_kind_at (tokens ++ rest) ≡ Some kinds.Number) ⊎ (token_kind_at (tokens ++ rest) ≡ Some kinds.Sign)
 integer-kind tokens rest n form = elim form.1 [
   | inl bare ↦ inl (rw bare.0 refl)
   | inr (inl plus) ↦ inr (rw plus.0 refl)
   | inr (inr minus) ↦ inr (rw minus.0 refl)
 ]
 
-pub operand-again : IsReadAgain IsOperand operand_at NoDot
-unfolding operand_at text_at
+pub operand-again : IsReadAgain IsTerm operand_at NoDot
+unfolding operand_at text_token_at
 operand-again tokens (term.Column column) rest form follows =
     rw (kind_at-column column.alias column.column tokens rest form, colref-again tokens column rest form follows) refl
 operand-again tokens (term.Literal (value.Int n)) rest form follows = elim (integer-kind tokens rest n form) [
@@ -98,7 +98,7 @@ unfolding after_mark
 column-begins None column tokens rest form = rw (form.0, not_reserved column (codes "NOT") form.1 refl) (refl, refl)
 column-begins (Some alias) column tokens rest form = rw (form.0, not_reserved alias (codes "NOT") form.1 refl) (refl, refl)
 
-pub operand-begins : (tokens : List Lexeme) (operand : Term) (rest : List Lexeme) → IsOperand tokens operand → BeginsOperand (tokens ++ rest)
+pub operand-begins : (tokens : List Lexeme) (operand : Term) (rest : List Lexeme) → IsTerm tokens operand → BeginsOperand (tokens ++ rest)
 unfolding after_mark
 operand-begins tokens (term.Column column) rest form = column-begins column.alias column.column tokens rest form
 operand-begins tokens (term.Literal (value.Int n)) rest form = elim form.1 [

@@ -10,12 +10,12 @@ use Rattle.sql_parse.specs.declared.tree.Term.TheVariants as term
 use Rattle.sql_parse.specs.declared.tree.ColRef.{ColRef}
 use Rattle.sql_parse.specs.Lexemes.{Lexeme, Comparison, mark}
 use Rattle.sql_parse.specs.Trees.{ConditionTree, Compare, Between, OneOf, IsNull, Not, And, Or}
-use Rattle.sql_parse.specs.Grammar.{Rule, written_if, Separated, InParentheses, IsOperand, IsPredicate, IsFactor, IsChain, IsConjunction, IsDisjunction, IsGroup}
+use Rattle.sql_parse.specs.Grammar.{Rule, written_if, Separated, InParentheses, IsTerm, IsPredicate, IsFactor, IsChain, IsConjunction, IsDisjunction, IsGroup}
 use Rattle.sql_parse.specs.Reading.{Reader, choose, after_mark, comparison_at, list_at, in_parentheses_at, operand_at, negation_at, null_test_of, between_of, range_or_list_of, predicate_of, predicate_at, separator_of, node_of, chain_at, plain_factor_at, factor_at, level_at, group_at}
 use Rattle.sql_parse.proofs.Again.{IsReadAgain, NoDot, operand-again, BeginsOperand, operand-begins, list-again, in_parentheses-again}
 
 -- a predicate, once its first operand is read
-predicate_of-read : (tokens operand tail rest : List Lexeme) (left : Term) → tokens ≡ operand ++ tail → IsOperand operand left → NoDot (tail ++ rest)
+predicate_of-read : (tokens operand tail rest : List Lexeme) (left : Term) → tokens ≡ operand ++ tail → IsTerm operand left → NoDot (tail ++ rest)
     → predicate_at (tokens ++ rest) ≡ predicate_of left (tail ++ rest)
 unfolding predicate_at
 predicate_of-read tokens operand tail rest left is form no_dot =
@@ -23,12 +23,12 @@ predicate_of-read tokens operand tail rest left is form no_dot =
     ap (λ all. operand_at (all ++ rest)) is ∙ (ap operand_at (append_assoc operand tail rest) ∙ operand-again operand left (tail ++ rest) form no_dot) in
     rw first refl
 
-compare-again : (op : Op) (left right : Term) (tokens rest : List Lexeme) → IsOperand tokens right → NoDot rest
+compare-again : (op : Op) (left right : Term) (tokens rest : List Lexeme) → IsTerm tokens right → NoDot rest
     → predicate_of left (Comparison op ∷ (tokens ++ rest)) ≡ Some (Compare op left right, rest)
 unfolding predicate_of comparison_at
 compare-again op left right tokens rest form follows = rw (operand-again tokens right rest form follows) refl
 
-between-again : (negated : Bool) (of low high : Term) (b c rest : List Lexeme) → IsOperand b low → IsOperand c high → NoDot rest
+between-again : (negated : Bool) (of low high : Term) (b c rest : List Lexeme) → IsTerm b low → IsTerm c high → NoDot rest
     → between_of negated of ((b ++ mark m.And ∷ c) ++ rest) ≡ Some (Between negated of low high, rest)
 unfolding between_of after_mark
 between-again negated of low high b c rest first second follows =
@@ -36,19 +36,19 @@ between-again negated of low high b c rest first second follows =
     ap operand_at (append_assoc b (mark m.And ∷ c) rest) ∙ operand-again b low (mark m.And ∷ (c ++ rest)) first refl in
     rw (found, operand-again c high rest second follows) refl
 
-range-again : (negated : Bool) (of low high : Term) (b c rest : List Lexeme) → IsOperand b low → IsOperand c high → NoDot rest
+range-again : (negated : Bool) (of low high : Term) (b c rest : List Lexeme) → IsTerm b low → IsTerm c high → NoDot rest
     → predicate_of of ((written_if negated (m.Not ∷ []) ++ mark m.Between ∷ (b ++ mark m.And ∷ c)) ++ rest) ≡ Some (Between negated of low high, rest)
 unfolding predicate_of comparison_at range_or_list_of negation_at after_mark
 range-again false of low high b c rest first second follows = between-again false of low high b c rest first second follows
 range-again true of low high b c rest first second follows = between-again true of low high b c rest first second follows
 
-terms-again : IsReadAgain (InParentheses (Separated m.Comma IsOperand)) (in_parentheses_at (list_at operand_at m.Comma)) (λ rest. Unit {0})
+terms-again : IsReadAgain (InParentheses (Separated m.Comma IsTerm)) (in_parentheses_at (list_at operand_at m.Comma)) (λ rest. Unit {0})
 unfolding after_mark
 terms-again =
-    in_parentheses-again (Separated m.Comma IsOperand) (list_at operand_at m.Comma) (λ rest. NoDot rest × (after_mark m.Comma rest ≡ None)) (λ rest. (refl, refl))
-    (list-again m.Comma IsOperand operand_at NoDot (λ rest. refl) (λ rest. refl) operand-again)
+    in_parentheses-again (Separated m.Comma IsTerm) (list_at operand_at m.Comma) (λ rest. NoDot rest × (after_mark m.Comma rest ≡ None)) (λ rest. (refl, refl))
+    (list-again m.Comma IsTerm operand_at NoDot (λ rest. refl) (λ rest. refl) operand-again)
 
-one_of-again : (negated : Bool) (of : Term) (terms : List Term) (b rest : List Lexeme) → InParentheses (Separated m.Comma IsOperand) b terms
+one_of-again : (negated : Bool) (of : Term) (terms : List Term) (b rest : List Lexeme) → InParentheses (Separated m.Comma IsTerm) b terms
     → predicate_of of ((written_if negated (m.Not ∷ []) ++ mark m.In ∷ b) ++ rest) ≡ Some (OneOf negated of terms, rest)
 unfolding predicate_of comparison_at range_or_list_of negation_at after_mark
 one_of-again false of terms b rest form = rw (terms-again b terms rest form tt) refl
@@ -80,7 +80,7 @@ predicate-again tokens (Not inner) rest form follows = absurd form
 predicate-again tokens (And parts) rest form follows = absurd form
 predicate-again tokens (Or parts) rest form follows = absurd form
 
-begins : (tokens operand tail rest : List Lexeme) (left : Term) → tokens ≡ operand ++ tail → IsOperand operand left → BeginsOperand (tokens ++ rest)
+begins : (tokens operand tail rest : List Lexeme) (left : Term) → tokens ≡ operand ++ tail → IsTerm operand left → BeginsOperand (tokens ++ rest)
 begins tokens operand tail rest left is form =
     subst (λ (all : List Lexeme). BeginsOperand (all ++ rest)) (sym is)
     (subst BeginsOperand (sym (append_assoc operand tail rest)) (operand-begins operand left (tail ++ rest) form))

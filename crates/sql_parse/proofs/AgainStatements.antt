@@ -9,8 +9,8 @@ use Rattle.sql_parse.specs.declared.tree.ColRef.{ColRef}
 use Rattle.sql_parse.specs.Limits.{nesting_limit}
 use Rattle.sql_parse.specs.Lexemes.{Lexeme, Word, mark}
 use Rattle.sql_parse.specs.Trees.{ConditionTree, QueryTree, StatementTree, CreateTable, CreateIndex, Load, Select, Compile, Run, Explain, SaveFile, OpenFile, Audit}
-use Rattle.sql_parse.specs.Grammar.{Rule, IsName, Separated, InParentheses, IsColumnName, IsColRef, IsItem, IsSelection, IsWhere, IsSelect, IsColumnType, IsColumn, IsPoint, IsLevel, IsStatement, written_if, IsDisjunction, IsGroup}
-use Rattle.sql_parse.specs.Reading.{Reader, ◌>>=◌, after_mark, name_at, number_at, text_at, list_at, in_parentheses_at, colref_at, item_at, selection_at, where_at, select_at, varchar_at, column_type_at, column_at, table_at, index_at, create_at, load_at, option_at, compile_at, save_at, open_at, audit_at, statement_at, statement_of, level_at, group_at}
+use Rattle.sql_parse.specs.Grammar.{Rule, IsName, Separated, InParentheses, IsColumnName, IsColRef, IsItem, IsSelection, IsWhere, IsSelect, IsColumnType, IsColumn, IsPointClause, IsLevel, IsStatement, written_if, IsDisjunction, IsGroup}
+use Rattle.sql_parse.specs.Reading.{Reader, ◌>>=◌, after_mark, name_at, number_at, text_token_at, list_at, in_parentheses_at, colref_at, item_at, selection_at, where_at, select_at, varchar_at, column_type_at, column_at, create_table_at, create_index_at, create_at, load_at, option_at, compile_at, save_at, open_at, audit_at, statement_at, statement_of, level_at, group_at}
 use Rattle.sql_parse.proofs.Again.{IsReadAgain, NoDot, not_reserved, name_at-again, colref-again, list-again, in_parentheses-again}
 use Rattle.sql_parse.proofs.AgainConditions.{EndsCondition, condition-again}
 
@@ -126,7 +126,7 @@ levels-again : IsReadAgain IsLevel number_at (λ rest. Unit {0})
 unfolding number_at
 levels-again tokens n rest form follows = rw form refl
 
-audit-again : (name levels : List ℕ) (point : List Lexeme) → IsName name → IsPoint point levels
+audit-again : (name levels : List ℕ) (point : List Lexeme) → IsName name → IsPointClause point levels
     → audit_at (Word name ∷ point) ≡ Some (Audit (record { name = name; levels = levels }), [])
 unfolding audit_at name_at after_mark
 audit-again name [] point is_name form = rw (is_name, form) refl
@@ -139,7 +139,7 @@ audit-again name (n ∷ ns) point is_name form =
 index-again : (name table column : List ℕ) → IsName name → IsName table → IsName column
     → create_at (mark m.Index ∷ Word name ∷ mark m.On ∷ Word table ∷ mark m.OpenParen ∷ Word column ∷ mark m.CloseParen ∷ [])
     ≡ Some (CreateIndex (record { name = name; table = table; column = column }), [])
-unfolding create_at index_at in_parentheses_at name_at after_mark
+unfolding create_at create_index_at in_parentheses_at name_at after_mark
 index-again name table column is_name is_table is_column = rw (is_name, is_table, is_column) refl
 
 select-first : (tokens : List Lexeme) (query : QueryTree) → select_at tokens ≡ Some (query, []) → (rest : List Lexeme) → tokens ≡ mark m.Select ∷ rest
@@ -148,7 +148,7 @@ unfolding statement_at after_mark
 select-first tokens query found rest first = rw first (ap (λ read. read >>= λ query. Some (Select query.0, query.1)) (ap select_at (sym first) ∙ found))
 
 statement-again : (tokens : List Lexeme) (statement : StatementTree) → IsStatement tokens statement → statement_at tokens ≡ Some (statement, [])
-unfolding statement_at create_at table_at load_at save_at open_at name_at text_at after_mark
+unfolding statement_at create_at create_table_at load_at save_at open_at name_at text_token_at after_mark
 statement-again tokens (CreateTable table) form =
     let found : in_parentheses_at (list_at column_at m.Comma) form.0 ≡ Some (table.columns, []) =
     read_to_end (InParentheses (Separated m.Comma IsColumn)) (in_parentheses_at (list_at column_at m.Comma)) (λ rest. Unit {0}) columns-again form.0 table.columns form.3 tt in

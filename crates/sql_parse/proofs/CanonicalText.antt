@@ -8,8 +8,8 @@ use Rattle.sql_lex.specs.declared.token.Token.{Token}
 use Rattle.sql_parse.specs.Lexemes.{lexemes}
 use Rattle.sql_parse.specs.Trees.{StatementTree}
 use Rattle.sql_parse.specs.Grammar.{IsStatement}
-use Rattle.sql_parse.specs.Canonical.{spaced, statement_parts, canonical}
-use Rattle.sql_parse.specs.Script.{IsTextOf}
+use Rattle.sql_parse.specs.Canonical.{with_spaces, statement_parts, canonical}
+use Rattle.sql_parse.specs.Script.{SpellsStatement}
 use Rattle.sql_parse.proofs.Scripts.{tokens-each}
 use Rattle.sql_parse.proofs.AgainStatements.{statements-same}
 use Rattle.sql_parse.proofs.Sound.{tokens-sound}
@@ -17,11 +17,11 @@ use Rattle.sql_parse.proofs.SoundForms.{statement-writable}
 use Rattle.sql_parse.proofs.PrintedStatements.{statement-printed}
 use Rattle.sql_parse.proofs.WrittenParts.{Writable, text-tokens, text-lexemes}
 
-pub canonical-read : (text : List ℕ) (tree : StatementTree) → IsTextOf text tree → IsTextOf (canonical tree) tree
+pub canonical-read : (text : List ℕ) (tree : StatementTree) → SpellsStatement text tree → SpellsStatement (canonical tree) tree
 canonical-read text tree written =
     let sound = tokens-sound text written.0 (tokens-each text written.0 written.1) in
     let writable : Writable (statement_parts tree) = statement-writable (lexemes text written.0) tree sound written.2 in (
-      written_tokens 0 (spaced true (statement_parts tree)),
+      written_tokens 0 (with_spaces true (statement_parts tree)),
       text-tokens (statement_parts tree) writable,
       subst (λ tokens. IsStatement tokens tree) (sym (text-lexemes (statement_parts tree) writable)) (statement-printed (lexemes text written.0) tree written.2),
     )
@@ -31,7 +31,7 @@ tokens_in (Ok tokens) other = tokens
 tokens_in fault other = other
 
 -- a text is the text of one statement at the most
-pub text-once : (text : List ℕ) (one other : StatementTree) → IsTextOf text one → IsTextOf text other → one ≡ other
+pub text-once : (text : List ℕ) (one other : StatementTree) → SpellsStatement text one → SpellsStatement text other → one ≡ other
 unfolding tokens_in
 text-once text one other first second =
     let same : first.0 ≡ second.0 = ap (λ lexing. tokens_in lexing first.0) (lexing_once text (Ok first.0) (Ok second.0) first.1 second.1) in

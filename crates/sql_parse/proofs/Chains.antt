@@ -6,7 +6,7 @@ use Rattle.sql_parse.specs.declared.fault.ReadFault.TheVariants.{NotAStatement, 
 use Rattle.sql_parse.specs.declared.mark.Mark.{Mark}
 use Rattle.sql_parse.specs.Lexemes.{Lexeme}
 use Rattle.sql_parse.specs.Trees.{ConditionTree}
-use Rattle.sql_parse.specs.Reading.{Reader, ◌>>=◌, choose, after_mark, more_at, list_with_first, list_at, chain_at, joined, node_of, separator_of, Fails}
+use Rattle.sql_parse.specs.Reading.{Reader, ◌>>=◌, choose, after_mark, more_at, list_with_first, list_at, chain_at, one_node, node_of, separator_of, Fails}
 use Rattle.sql_parse.proofs.Lists.{more_at-end}
 
 -- a part before those that reading gives
@@ -50,7 +50,7 @@ more_at-not_empty part separator [] end goes_on is = cc
 more_at-not_empty part separator (first ∷ tokens) end goes_on is =
     choose-not_empty part (more_at part separator (length tokens)) (after_mark separator (first ∷ tokens)) (first ∷ tokens) end goes_on is
 
-joined-many : (node : List ConditionTree → ConditionTree) (x : ConditionTree) (xs : List ConditionTree) → (xs ≡ [] → ⊥) → joined node (x ∷ xs) ≡ node (x ∷ xs)
+joined-many : (node : List ConditionTree → ConditionTree) (x : ConditionTree) (xs : List ConditionTree) → (xs ≡ [] → ⊥) → one_node node (x ∷ xs) ≡ node (x ∷ xs)
 joined-many node x [] many = absurd (many refl)
 joined-many node x (y ∷ ys) many = refl
 
@@ -61,14 +61,14 @@ chain_at-one connective part tokens rest x found ended =
     rw (found, more_at-end part (separator_of connective) (length rest) rest ended) refl
 
 as_tree-joined : (node : List ConditionTree → ConditionTree) (x : ConditionTree) (read : Option (List ConditionTree × List Lexeme))
-    → ((end : List Lexeme) → read ≡ Some ([], end) → ⊥) → as_tree (joined node) (with_first x read) ≡ as_tree node (with_first x read)
+    → ((end : List Lexeme) → read ≡ Some ([], end) → ⊥) → as_tree (one_node node) (with_first x read) ≡ as_tree node (with_first x read)
 as_tree-joined node x None many = refl
 as_tree-joined node x (Some xs) many =
     ap (λ tree. Some (tree, xs.1)) (joined-many node x xs.0 (λ none. many xs.1 (ap (λ ys. Some (ys, xs.1)) none)))
 
 list_with_first-joined : (node : List ConditionTree → ConditionTree) (part : Reader ConditionTree) (separator : Mark) (tokens : List Lexeme) (x : ConditionTree)
     → is_some (after_mark separator tokens) ≡ true
-    → as_tree (joined node) (list_with_first x part separator tokens) ≡ as_tree node (list_with_first x part separator tokens)
+    → as_tree (one_node node) (list_with_first x part separator tokens) ≡ as_tree node (list_with_first x part separator tokens)
 unfolding list_with_first
 list_with_first-joined node part separator tokens x goes_on =
     as_tree-joined node x (more_at part separator (length tokens) tokens) (λ end. more_at-not_empty part separator tokens end goes_on)

@@ -13,7 +13,7 @@ use Rattle.sql_parse.specs.declared.tree.Term.TheVariants as term
 use Rattle.sql_parse.specs.Limits.{nesting_limit}
 use Rattle.sql_parse.specs.Lexemes.{Lexeme, Comparison, mark, lexeme, lexemes}
 use Rattle.sql_parse.specs.Trees.{ConditionTree, ConditionTrees, Compare, Between, OneOf, IsNull, Not, And, Or, NoMore, More, operands, QueryTree, StatementTree, CreateTable, CreateIndex, Load, Select, Compile, Run, Explain, SaveFile, OpenFile, Audit, statement_tree}
-use Rattle.sql_parse.specs.Grammar.{Rule, Separated, IsColumnName, IsOperand, IsPredicate, IsFactor, IsChain, IsConjunction, IsDisjunction, IsGroup, IsWhere, IsSelect, IsStatement, option_of, written_if}
+use Rattle.sql_parse.specs.Grammar.{Rule, Separated, IsColumnName, IsTerm, IsPredicate, IsFactor, IsChain, IsConjunction, IsDisjunction, IsGroup, IsWhere, IsSelect, IsStatement, option_of, written_if}
 use Rattle.sql_parse.specs.Counts.{predicates_in, predicates_in_all, operands_in, operands_in_all, condition_of, of_condition, predicates_of, operands_of}
 use Rattle.sql_parse.specs.Script.{is_semicolon, in_front, split, not_empty, pieces, AreStatementsOf, AreStatements}
 
@@ -50,7 +50,7 @@ column-counted : (alias : Option (List ℕ)) (column : List ℕ) (tokens : List 
 column-counted None column tokens form = rw form.0 (omega arith)
 column-counted (Some alias) column tokens form = rw form.0 (omega arith)
 
-operand-counted : IsCounted (λ operand. 1) IsOperand
+operand-counted : IsCounted (λ operand. 1) IsTerm
 operand-counted tokens (term.Column column) form = column-counted column.alias column.column tokens form
 operand-counted tokens (term.Literal (value.Int n)) form = elim form.1 [
   | inl bare ↦ rw bare.0 (omega arith)
@@ -87,7 +87,7 @@ predicate-counted tokens (OneOf negated of terms) form =
       length-append written (mark m.In ∷ (mark m.OpenParen ∷ (inside ++ mark m.CloseParen ∷ []))),
       length-append inside (mark m.CloseParen ∷ []),
       operand-counted form.0 of form.3,
-      separated-counted (λ operand. 1) m.Comma IsOperand operand-counted inside terms form.4.2,
+      separated-counted (λ operand. 1) m.Comma IsTerm operand-counted inside terms form.4.2,
       total-ones terms,
     ))
 predicate-counted tokens (IsNull negated column) form =

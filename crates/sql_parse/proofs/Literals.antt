@@ -8,20 +8,20 @@ use Rattle.sql_parse.specs.declared.tree.Term.TheVariants as term
 use Rattle.sql_parse.specs.Limits.{nesting_limit}
 use Rattle.sql_parse.specs.Lexemes.{Lexeme}
 use Rattle.sql_parse.specs.Trees.{ConditionTree, Compare, Between, OneOf, IsNull, Not, And, Or, operands}
-use Rattle.sql_parse.specs.Grammar.{Rule, Separated, IsOperand, IsPredicate, IsFactor, IsConjunction, IsDisjunction, IsGroup, IsWhere}
+use Rattle.sql_parse.specs.Grammar.{Rule, Separated, IsTerm, IsPredicate, IsFactor, IsConjunction, IsDisjunction, IsGroup, IsWhere}
 use Rattle.sql_parse.specs.WellFormed.{IsNotNull, AreNotNull, IsWellFormedCondition, AreWellFormedConditions}
 
 -- what is written by a rule has no NULL
 abbrev IsFree : {A : Type 0} → (A → Type 0) → Rule A → Type 0
 IsFree {A} HasNone IsForm = (tokens : List Lexeme) (x : A) → IsForm tokens x → HasNone x
 
-operand-free : IsFree IsNotNull IsOperand
+operand-free : IsFree IsNotNull IsTerm
 operand-free tokens (term.Column column) form = tt
 operand-free tokens (term.Literal (value.Int n)) form = tt
 operand-free tokens (term.Literal (value.Text text)) form = tt
 operand-free tokens (term.Literal value.Null) form = absurd form
 
-operands-free : (tokens : List Lexeme) (terms : List Term) → Separated m.Comma IsOperand tokens terms → AreNotNull terms
+operands-free : (tokens : List Lexeme) (terms : List Term) → Separated m.Comma IsTerm tokens terms → AreNotNull terms
 operands-free tokens [] form = absurd form
 operands-free tokens (one ∷ []) form = (operand-free tokens one form, tt)
 operands-free tokens (one ∷ other ∷ more) form = (operand-free form.0 one form.3, operands-free form.1 (other ∷ more) form.4)

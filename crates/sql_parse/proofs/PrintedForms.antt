@@ -9,7 +9,7 @@ use Rattle.sql_parse.specs.declared.mark.Mark.TheVariants as m
 use Rattle.sql_parse.specs.declared.tree.Term.TheVariants as term
 use Rattle.sql_parse.specs.Lexemes.{Lexeme, Word, mark}
 use Rattle.sql_parse.specs.Trees.{Compare, Between, OneOf, IsNull, Not, And, Or}
-use Rattle.sql_parse.specs.Grammar.{Rule, written_if, option_of, Separated, InParentheses, IsColumnName, IsColRef, IsInteger, IsOperand, IsPredicate, IsItem, IsSelection, IsColumnType, IsColumn, IsLevel, IsPoint}
+use Rattle.sql_parse.specs.Grammar.{Rule, written_if, option_of, Separated, InParentheses, IsColumnName, IsColRef, IsInteger, IsTerm, IsPredicate, IsItem, IsSelection, IsColumnType, IsColumn, IsLevel, IsPointClause}
 use Rattle.sql_parse.specs.Canonical.{Part, Fixed, Name, Number, Operator, part_lexeme, listed, in_parentheses, kept_if, column_name_parts, column_parts, integer_parts, operand_parts, condition_parts, item_parts, selection_parts, type_parts, definition_parts, option_parts, point_parts}
 
 abbrev pub tokens_of : List Part → List Lexeme
@@ -59,7 +59,7 @@ pub integer-printed : (n : ℤ) → IsInteger (tokens_of (integer_parts n)) n
 integer-printed (pos n) = let not_below : int_lt (pos n) (pos 0) ≡ false = search rules in (n, inl (rw not_below refl, refl))
 integer-printed (negsuc n) = (suc n, inr (inr (refl, refl)))
 
-pub operand-printed : IsPrintedBy IsOperand operand_parts
+pub operand-printed : IsPrintedBy IsTerm operand_parts
 operand-printed tokens (term.Column column) form = colref-printed tokens column form
 operand-printed tokens (term.Literal (value.Int n)) form = integer-printed n
 operand-printed tokens (term.Literal (value.Text text)) form = refl
@@ -92,7 +92,7 @@ predicate-printed tokens (OneOf negated of terms) form =
       tokens-append (operand_parts of) (kept_if negated (m.Not ∷ []) ++ values)
           ∙ ap (λ ts. tokens_of (operand_parts of) ++ ts) (kept-before negated (m.Not ∷ []) values),
       operand-printed form.0 of form.3,
-      in_parentheses-printed (Separated m.Comma IsOperand) (listed operand_parts) (separated-printed IsOperand operand_parts operand-printed) form.1 terms form.4,
+      in_parentheses-printed (Separated m.Comma IsTerm) (listed operand_parts) (separated-printed IsTerm operand_parts operand-printed) form.1 terms form.4,
     )
 predicate-printed tokens (IsNull negated column) form = (
   tokens_of (column_parts column),
@@ -138,7 +138,7 @@ pub option-printed : (keyword : Mark) (number : Option ℕ) → tokens_of (optio
 option-printed keyword None = refl
 option-printed keyword (Some n) = refl
 
-pub point-printed : IsPrintedBy IsPoint point_parts
+pub point-printed : IsPrintedBy IsPointClause point_parts
 point-printed tokens [] form = refl
 point-printed tokens (n ∷ ns) form = (
   tokens_of (listed (λ level. Number level ∷ []) (n ∷ ns)),

@@ -8,8 +8,8 @@ use Rattle.sql_parse.specs.declared.mark.Mark.{Mark}
 use Rattle.sql_parse.specs.declared.mark.Mark.TheVariants as m
 use Rattle.sql_parse.specs.declared.tree.Term.TheVariants as term
 use Rattle.sql_parse.specs.Lexemes.{Lexeme, Word, Number, Text, Sign, mark, is_reserved}
-use Rattle.sql_parse.specs.Grammar.{Rule, IsName, Separated, InParentheses, IsColRef, IsInteger, IsOperand}
-use Rattle.sql_parse.specs.Reading.{Reader, ◌>>=◌, choose, same, after_mark, name_at, number_at, text_at, more_at, list_with_first, list_at, in_parentheses_at, colref_at, unsigned_at, integer_at, kind_at, operand_of_kind, operand_at}
+use Rattle.sql_parse.specs.Grammar.{Rule, IsName, Separated, InParentheses, IsColRef, IsInteger, IsTerm}
+use Rattle.sql_parse.specs.Reading.{Reader, ◌>>=◌, choose, same, after_mark, name_at, number_at, text_token_at, more_at, list_with_first, list_at, in_parentheses_at, colref_at, unsigned_at, integer_at, token_kind_at, operand_of_kind, operand_at}
 
 -- where there is a value, this holds of it
 abbrev pub IfFound : {A : Type 0} → (A → Type 0) → Option A → Type 0
@@ -93,8 +93,8 @@ number_each [] = tt
 number_each (Number n ∷ rest) = (Number n ∷ [], refl, refl)
 number_each (other ∷ rest) = tt
 
-text_each : (tokens : List Lexeme) → IfFound (IsRead (λ tokens text. tokens ≡ Text text ∷ []) tokens) (text_at tokens)
-unfolding text_at
+text_each : (tokens : List Lexeme) → IfFound (IsRead (λ tokens text. tokens ≡ Text text ∷ []) tokens) (text_token_at tokens)
+unfolding text_token_at
 text_each [] = tt
 text_each (Text text ∷ rest) = (Text text ∷ [], refl, refl)
 text_each (other ∷ rest) = tt
@@ -105,7 +105,7 @@ name-reads = record { each = name_each }
 pub number-reads : Reads (λ tokens n. tokens ≡ Number n ∷ []) number_at
 number-reads = record { each = number_each }
 
-pub text-reads : Reads (λ tokens text. tokens ≡ Text text ∷ []) text_at
+pub text-reads : Reads (λ tokens text. tokens ≡ Text text ∷ []) text_token_at
 text-reads = record { each = text_each }
 
 pub colref-reads : Reads IsColRef colref_at
@@ -145,10 +145,10 @@ integer-reads = record {
       (mark m.Minus ∷ number.0, minus ∙ ap (λ all. mark m.Minus ∷ all) number.1, (n.0, inr (inr (ap (λ all. mark m.Minus ∷ all) number.2, refl))))));
 }
 
-operand_of_kind-integer : (tokens : List Lexeme) → IfFound (IsRead IsOperand tokens) (integer_at tokens >>= λ n. Some (term.Literal (value.Int n.0), n.1))
+operand_of_kind-integer : (tokens : List Lexeme) → IfFound (IsRead IsTerm tokens) (integer_at tokens >>= λ n. Some (term.Literal (value.Int n.0), n.1))
 operand_of_kind-integer tokens = then_read integer-reads tokens _ _ (λ n number. number)
 
-operand_each : (kind : Option TokenKind) (tokens : List Lexeme) → IfFound (IsRead IsOperand tokens) (operand_of_kind kind tokens)
+operand_each : (kind : Option TokenKind) (tokens : List Lexeme) → IfFound (IsRead IsTerm tokens) (operand_of_kind kind tokens)
 operand_each None tokens = operand_of_kind-integer tokens
 operand_each (Some kinds.Word) tokens = then_read colref-reads tokens _ _ (λ column form. form)
 operand_each (Some kinds.Number) tokens = operand_of_kind-integer tokens
@@ -156,9 +156,9 @@ operand_each (Some kinds.Text) tokens = then_read text-reads tokens _ _ (λ text
 operand_each (Some kinds.Sign) tokens = operand_of_kind-integer tokens
 operand_each (Some kinds.Comparison) tokens = operand_of_kind-integer tokens
 
-pub operand-reads : Reads IsOperand operand_at
+pub operand-reads : Reads IsTerm operand_at
 unfolding operand_at
-operand-reads = record { each = λ tokens. operand_each (kind_at tokens) tokens }
+operand-reads = record { each = λ tokens. operand_each (token_kind_at tokens) tokens }
 
 -- the further parts of a list
 more-reads : {A : Type 0} {IsPart : Rule A} {part : Reader A} → Reads IsPart part → (separator : Mark) (most : ℕ) (tokens front later : List Lexeme) (x : A)

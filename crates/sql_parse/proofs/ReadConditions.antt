@@ -7,8 +7,8 @@ use Rattle.sql_parse.specs.declared.tree.Term.{Term}
 use Rattle.sql_parse.specs.declared.tree.Term.TheVariants as term
 use Rattle.sql_parse.specs.Lexemes.{Lexeme, Comparison, mark}
 use Rattle.sql_parse.specs.Trees.{ConditionTree}
-use Rattle.sql_parse.specs.Grammar.{Rule, written_if, Separated, IsOperand, IsPredicate, IsFactor, IsChain, IsConjunction, IsDisjunction, IsGroup}
-use Rattle.sql_parse.specs.Reading.{Reader, choose, after_mark, comparison_at, negation_at, null_test_of, between_of, range_or_list_of, predicate_of, predicate_at, joined, separator_of, node_of, chain_at, plain_factor_at, factor_at, level_at, group_at}
+use Rattle.sql_parse.specs.Grammar.{Rule, written_if, Separated, IsTerm, IsPredicate, IsFactor, IsChain, IsConjunction, IsDisjunction, IsGroup}
+use Rattle.sql_parse.specs.Reading.{Reader, choose, after_mark, comparison_at, negation_at, null_test_of, between_of, range_or_list_of, predicate_of, predicate_at, one_node, separator_of, node_of, chain_at, plain_factor_at, factor_at, level_at, group_at}
 use Rattle.sql_parse.proofs.Read.{IfFound, found_weaker, IsRead, Reads, then_read, either_found, also, after_mark-reads, then_after, either_after, operand-reads, list-reads, in_parentheses-reads}
 
 comparison-reads : (tokens : List Lexeme) → IfFound (λ op. tokens ≡ Comparison op.0 ∷ op.1) (comparison_at tokens)
@@ -26,7 +26,7 @@ negation-reads : (tokens : List Lexeme) → tokens ≡ written_if (negation_at t
 unfolding negation_at
 negation-reads tokens = negation_of (after_mark m.Not tokens) tokens (after_mark-reads m.Not tokens)
 
-null_test-reads : (left : Term) (tokens operand later rest : List Lexeme) → tokens ≡ operand ++ later → IsOperand operand left → later ≡ mark m.Is ∷ rest
+null_test-reads : (left : Term) (tokens operand later rest : List Lexeme) → tokens ≡ operand ++ later → IsTerm operand left → later ≡ mark m.Is ∷ rest
     → IfFound (IsRead IsPredicate tokens) (null_test_of left rest)
 unfolding null_test_of
 null_test-reads (term.Column column) tokens operand later rest is form first =
@@ -38,7 +38,7 @@ null_test-reads (term.Column column) tokens operand later rest is form first =
     ))
 null_test-reads (term.Literal literal) tokens operand later rest is form first = tt
 
-between-reads : (negated : Bool) (of : Term) (tokens operand later rest : List Lexeme) → tokens ≡ operand ++ later → IsOperand operand of
+between-reads : (negated : Bool) (of : Term) (tokens operand later rest : List Lexeme) → tokens ≡ operand ++ later → IsTerm operand of
     → later ≡ written_if negated (m.Not ∷ []) ++ mark m.Between ∷ rest → IfFound (IsRead IsPredicate tokens) (between_of negated of rest)
 unfolding between_of
 between-reads negated of tokens operand later rest is form first =
@@ -51,7 +51,7 @@ between-reads negated of tokens operand later rest is form first =
       (operand, b.0, c.0, refl, form, b.2, c.2),
     ))))
 
-range_or_list-reads : (of : Term) (tokens operand later : List Lexeme) → tokens ≡ operand ++ later → IsOperand operand of
+range_or_list-reads : (of : Term) (tokens operand later : List Lexeme) → tokens ≡ operand ++ later → IsTerm operand of
     → IfFound (IsRead IsPredicate tokens) (range_or_list_of of later)
 unfolding range_or_list_of
 range_or_list-reads of tokens operand later is form =
@@ -66,7 +66,7 @@ range_or_list-reads of tokens operand later is form =
     ))))
     (λ rest first. between-reads negation.0 of tokens operand later rest is form (written ∙ ap (λ all. written_if negation.0 (m.Not ∷ []) ++ all) first))
 
-predicate_of-reads : (left : Term) (tokens operand later : List Lexeme) → tokens ≡ operand ++ later → IsOperand operand left
+predicate_of-reads : (left : Term) (tokens operand later : List Lexeme) → tokens ≡ operand ++ later → IsTerm operand left
     → IfFound (IsRead IsPredicate tokens) (predicate_of left later)
 unfolding predicate_of
 predicate_of-reads left tokens operand later is form =
@@ -112,7 +112,7 @@ factor-reads nesting group = record {
 }
 
 chain_of : (connective : Connective) (IsPart : Rule ConditionTree) (tokens : List Lexeme) (parts : List ConditionTree) → Separated (separator_of connective) IsPart tokens parts
-    → IsChain (separator_of connective) (node_of connective) IsPart tokens (joined (node_of connective) parts)
+    → IsChain (separator_of connective) (node_of connective) IsPart tokens (one_node (node_of connective) parts)
 chain_of connective IsPart tokens [] form = absurd form
 chain_of connective IsPart tokens (part ∷ []) form = inl form
 chain_of connective IsPart tokens (first ∷ second ∷ more) form = inr (first, second, more, refl, form)

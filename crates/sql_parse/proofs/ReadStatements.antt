@@ -7,8 +7,8 @@ use Rattle.sql_parse.specs.declared.mark.Mark.TheVariants as m
 use Rattle.sql_parse.specs.Limits.{nesting_limit}
 use Rattle.sql_parse.specs.Lexemes.{Lexeme, mark}
 use Rattle.sql_parse.specs.Trees.{StatementTree, Run, Explain}
-use Rattle.sql_parse.specs.Grammar.{Rule, Separated, IsItem, IsSelection, IsWhere, IsSelect, IsColumnType, IsColumn, IsLevel, IsPoint, IsStatement, option_of}
-use Rattle.sql_parse.specs.Reading.{◌>>=◌, name_at, item_at, selection_at, where_at, select_at, varchar_at, column_type_at, column_at, table_at, index_at, create_at, load_at, option_at, compile_at, save_at, open_at, audit_at, statement_at, statement_of}
+use Rattle.sql_parse.specs.Grammar.{Rule, Separated, IsItem, IsSelection, IsWhere, IsSelect, IsColumnType, IsColumn, IsLevel, IsPointClause, IsStatement, option_of}
+use Rattle.sql_parse.specs.Reading.{◌>>=◌, name_at, item_at, selection_at, where_at, select_at, varchar_at, column_type_at, column_at, create_table_at, create_index_at, create_at, load_at, option_at, compile_at, save_at, open_at, audit_at, statement_at, statement_of}
 use Rattle.sql_parse.proofs.Read.{IfFound, found_weaker, IsRead, Reads, then_read, either_found, also, then_after, either_after, IsNameToken, name-reads, number-reads, text-reads, colref-reads, list-reads, in_parentheses-reads}
 use Rattle.sql_parse.proofs.ReadConditions.{condition-reads}
 
@@ -105,8 +105,8 @@ after_keyword sign tokens rest read first found =
     found_weaker (IsRead (IsAfter (mark sign ∷ [])) rest) (IsRead IsStatement tokens) read
     (λ statement form. (mark sign ∷ form.0, first ∙ ap (λ all. mark sign ∷ all) form.1, form.2)) found
 
-table-reads : Reads (IsAfter (mark m.Create ∷ mark m.Table ∷ [])) table_at
-unfolding table_at
+table-reads : Reads (IsAfter (mark m.Create ∷ mark m.Table ∷ [])) create_table_at
+unfolding create_table_at
 table-reads = record {
   each = λ tokens.
       then_read name-reads tokens _ _ (λ name a.
@@ -114,8 +114,8 @@ table-reads = record {
       (a.0 ++ b.0, also _ _ _ a.1 b.1, (b.0, rw a.2.0 refl, a.2.1, b.2))));
 }
 
-index-reads : Reads (IsAfter (mark m.Create ∷ mark m.Index ∷ [])) index_at
-unfolding index_at
+index-reads : Reads (IsAfter (mark m.Create ∷ mark m.Index ∷ [])) create_index_at
+unfolding create_index_at
 index-reads = record {
   each = λ tokens.
       then_read name-reads tokens _ _ (λ name a.
@@ -134,9 +134,9 @@ create-reads = record {
   each = λ tokens.
       either_after m.Table tokens _ _ _
       (then_after m.Index tokens _ _ (λ rest index.
-      found_weaker (IsRead (IsAfter (mark m.Create ∷ mark m.Index ∷ [])) rest) _ (index_at rest)
+      found_weaker (IsRead (IsAfter (mark m.Create ∷ mark m.Index ∷ [])) rest) _ (create_index_at rest)
       (λ statement form. (mark m.Index ∷ form.0, index ∙ ap (λ all. mark m.Index ∷ all) form.1, form.2)) (index-reads.each rest)))
-      (λ rest table. found_weaker (IsRead (IsAfter (mark m.Create ∷ mark m.Table ∷ [])) rest) _ (table_at rest)
+      (λ rest table. found_weaker (IsRead (IsAfter (mark m.Create ∷ mark m.Table ∷ [])) rest) _ (create_table_at rest)
       (λ statement form. (mark m.Table ∷ form.0, table ∙ ap (λ all. mark m.Table ∷ all) form.1, form.2)) (table-reads.each rest));
 }
 
@@ -198,7 +198,7 @@ open-reads = record {
       ))))));
 }
 
-point-of : (levels : List ℕ) (tokens : List Lexeme) → Separated m.Comma IsLevel tokens levels → IsPoint (mark m.At ∷ tokens) levels
+point-of : (levels : List ℕ) (tokens : List Lexeme) → Separated m.Comma IsLevel tokens levels → IsPointClause (mark m.At ∷ tokens) levels
 point-of [] tokens form = absurd form
 point-of (n ∷ ns) tokens form = (tokens, refl, form)
 

@@ -24,7 +24,7 @@ use Rattle.sql_values.specs.declared.op.Op.TheVariants as ops
 use Rattle.sql_parse.specs.declared.mark.Mark.{Mark}
 use Rattle.sql_parse.specs.declared.mark.Mark.TheVariants as m
 use Rattle.sql_parse.specs.Lexemes.{Lexeme, Word, Number, Text, Sign, Comparison, lexeme_of, lexemes, mark}
-use Rattle.sql_parse.specs.Canonical.{spelled, kind_of}
+use Rattle.sql_parse.specs.Canonical.{spelled, lexeme_kind}
 
 -- the token can be spelled, and is read again from that
 abbrev pub IsSound : Lexeme → Type 0
@@ -117,7 +117,7 @@ tokens-sound script (token ∷ tokens) all =
 
 -- a sound token as it is spelled
 
-pub sound-form : (token : Lexeme) → IsSound token → HasForm (kind_of token) (spelled token)
+pub sound-form : (token : Lexeme) → IsSound token → HasForm (lexeme_kind token) (spelled token)
 sound-form (Word word) sound = sound.0
 sound-form (Number n) sound = (decimal-length n sound, decimal-digits n sound)
 sound-form (Text text) sound = (text, refl)
@@ -129,14 +129,14 @@ sound-form (Comparison ops.Le) sound = refl
 sound-form (Comparison ops.Gt) sound = refl
 sound-form (Comparison ops.Ge) sound = refl
 
-pub sound-limit : (token : Lexeme) → IsSound token → KeepsTokenLimit (kind_of token) (spelled token)
+pub sound-limit : (token : Lexeme) → IsSound token → KeepsTokenLimit (lexeme_kind token) (spelled token)
 sound-limit (Word word) sound = sound.1
 sound-limit (Number n) sound = subst (λ k. k ≤ max_number) (sym (decimal-value n sound)) sound
 sound-limit (Text text) sound = subst IsUtf8 (sym (quoted-text text)) sound
 sound-limit (Sign bytes) sound = tt
 sound-limit (Comparison op) sound = tt
 
-pub sound-again : (token : Lexeme) → IsSound token → lexeme_of (kind_of token) (spelled token) ≡ token
+pub sound-again : (token : Lexeme) → IsSound token → lexeme_of (lexeme_kind token) (spelled token) ≡ token
 sound-again (Word word) sound = ap Word sound.2
 sound-again (Number n) sound = ap Number (decimal-value n sound)
 sound-again (Text text) sound = ap Text (quoted-text text)

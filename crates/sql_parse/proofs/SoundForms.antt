@@ -9,7 +9,7 @@ use Rattle.sql_parse.specs.Limits.{nesting_limit}
 use Rattle.sql_parse.specs.Lexemes.{Lexeme, Word, mark}
 use Rattle.sql_parse.specs.Lexemes as lexeme
 use Rattle.sql_parse.specs.Trees.{ConditionTree, Compare, Between, OneOf, IsNull, Not, And, Or, operands, CreateTable, CreateIndex, Load, Select, Compile, Run, Explain, SaveFile, OpenFile, Audit}
-use Rattle.sql_parse.specs.Grammar.{Rule, written_if, option_of, Separated, InParentheses, IsColumnName, IsColRef, IsInteger, IsOperand, IsPredicate, IsFactor, IsConjunction, IsDisjunction, IsGroup, IsItem, IsSelection, IsWhere, IsSelect, IsColumnType, IsColumn, IsLevel, IsPoint, IsStatement}
+use Rattle.sql_parse.specs.Grammar.{Rule, written_if, option_of, Separated, InParentheses, IsColumnName, IsColRef, IsInteger, IsTerm, IsPredicate, IsFactor, IsConjunction, IsDisjunction, IsGroup, IsItem, IsSelection, IsWhere, IsSelect, IsColumnType, IsColumn, IsLevel, IsPointClause, IsStatement}
 use Rattle.sql_parse.specs.Canonical.{Part, Fixed, Name, Number, Operator, listed, in_parentheses, kept_if, column_name_parts, column_parts, integer_parts, operand_parts, is_or, is_chain, is_no_predicate, grouped_if, condition_parts, and_parts, or_parts, item_parts, selection_parts, where_parts, query_parts, type_parts, definition_parts, option_parts, point_parts, statement_parts}
 use Rattle.sql_parse.proofs.Sound.{IsSound, EachSound, mark-sound}
 use Rattle.sql_parse.proofs.WrittenParts.{Writable, writable-append}
@@ -66,7 +66,7 @@ integer-writable tokens n sound form = elim form.1 [
   | inr (inr minus) ↦ let all = subst EachSound minus.0 sound in subst (λ k. Writable (integer_parts k)) (sym minus.1) (negated-number form.0 all.1.0)
 ]
 
-operand-writable : IsWritable IsOperand operand_parts
+operand-writable : IsWritable IsTerm operand_parts
 operand-writable tokens (term.Column column) sound form = colref-writable tokens column sound form
 operand-writable tokens (term.Literal (value.Int n)) sound form = integer-writable tokens n sound form
 operand-writable tokens (term.Literal (value.Text text)) sound form = let all = subst EachSound form sound in (all.0, tt, tt)
@@ -104,7 +104,7 @@ predicate-writable tokens (OneOf negated of terms) sound form =
     (negated-writable negated (Fixed m.In ∷ in_parentheses (listed operand_parts terms)) (
       mark-sound m.In,
       tt,
-      in_parentheses-writable (Separated m.Comma IsOperand) (listed operand_parts) (listed-writable IsOperand operand_parts operand-writable) form.1 terms later.1 form.4,
+      in_parentheses-writable (Separated m.Comma IsTerm) (listed operand_parts) (listed-writable IsTerm operand_parts operand-writable) form.1 terms later.1 form.4,
     ))
 predicate-writable tokens (IsNull negated column) sound form =
     let all = subst EachSound form.1 sound in
@@ -250,7 +250,7 @@ threshold-writable (Some n) sound = (mark-sound m.Threshold, tt, (sound.1.0, tt,
 level-writable : IsWritable IsLevel (λ level. Number level ∷ [])
 level-writable tokens level sound form = let all = subst EachSound form sound in (all.0, tt, tt)
 
-point-writable : IsWritable IsPoint point_parts
+point-writable : IsWritable IsPointClause point_parts
 point-writable tokens [] sound form = tt
 point-writable tokens (n ∷ ns) sound form =
     let all : EachSound (mark m.At ∷ form.0) = subst EachSound form.1 sound in

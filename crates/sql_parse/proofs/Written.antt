@@ -6,7 +6,7 @@ use Rattle.sql_lex.specs.Written.{written_text}
 use Rattle.sql_parse.specs.declared.mark.Mark.TheVariants as m
 use Rattle.sql_parse.specs.declared.tree.Cond.{Cond}
 use Rattle.sql_parse.specs.Trees.{ConditionTree, ConditionTrees, NoMore, More, operands, condition_tree}
-use Rattle.sql_parse.specs.Canonical.{Part, spaced, text_of, space_before, spelled, part_lexeme, is_chain, is_or, grouped_if, condition_parts, and_parts, more_and_parts, or_parts, more_or_parts}
+use Rattle.sql_parse.specs.Canonical.{Part, with_spaces, parts_text, space_before, spelled, part_lexeme, is_chain, is_or, grouped_if, condition_parts, and_parts, more_and_parts, or_parts, more_or_parts}
 use Rattle.sql_parse.specs.Printing.{Line, nothing, put, put_all, between}
 
 pub ruleset of_lines = (fold-append)
@@ -103,7 +103,7 @@ pub or-last : (start line : Line) (parts : List Cond) (i : ℕ) → length parts
 or-last start line parts i past left =
     ap (λ ps. put_all line ps) (sym (ap (λ ps. or_from i (operands (map condition_tree ps))) (drop_all i parts past) ∙ or_from-end i)) ∙ left
 
-pub put_all-text : (line : Line) (parts : List Part) → (put_all line parts).text ≡ line.text ++ written_text (spaced line.joined parts)
+pub put_all-text : (line : Line) (parts : List Part) → (put_all line parts).text ≡ line.text ++ written_text (with_spaces line.joined parts)
 unfolding put
 put_all-text line [] = search rules
 put_all-text line (part ∷ parts) =
@@ -112,5 +112,5 @@ put_all-text line (part ∷ parts) =
     ∙ (append_assoc line.text (space_before line.joined part ++ token) _ ∙ ap (λ more. line.text ++ more) (append_assoc (space_before line.joined part) token _))
 
 -- what is put after nothing is the text of the parts
-pub text_of-put : (start line : Line) (parts : List Part) → start ≡ nothing → line ≡ put_all start parts → line.text ≡ text_of parts
+pub text_of-put : (start line : Line) (parts : List Part) → start ≡ nothing → line ≡ put_all start parts → line.text ≡ parts_text parts
 text_of-put start line parts none put = ap (λ (l : Line). l.text) put ∙ (ap (λ (l : Line). (put_all l parts).text) none ∙ put_all-text nothing parts)

@@ -18,7 +18,7 @@ use Rattle.sql_values.specs.declared.op.Op.{Op}
 use Rattle.sql_values.specs.declared.op.Op.TheVariants as ops
 use Rattle.sql_parse.specs.declared.mark.Mark.TheVariants as m
 use Rattle.sql_parse.specs.Lexemes.{lexeme_of, lexemes}
-use Rattle.sql_parse.specs.Canonical.{Part, Fixed, Name, Number, Text, Operator, part_lexeme, spelled, kind_of, joins_next, spaced, text_of}
+use Rattle.sql_parse.specs.Canonical.{Part, Fixed, Name, Number, Text, Operator, part_lexeme, spelled, lexeme_kind, joins_next, with_spaces, parts_text}
 use Rattle.sql_parse.proofs.PrintedForms.{tokens_of}
 use Rattle.sql_parse.proofs.Sound.{IsSound, sound-form, sound-limit, sound-again, decimal-digits, decimal-length}
 
@@ -63,7 +63,7 @@ writable-append (x ∷ xs) ys front back = (front.0, follows-append x xs ys fron
 abbrev IsQuiet : ℕ → Type 0
 IsQuiet b = (b ≡ 0) ⊎ (b ≡ 32) ⊎ (b ≡ 41) ⊎ (b ≡ 44) ⊎ (b ≡ 46)
 
-next-quiet : (parts : List Part) → IsQuiet (slice_index (written_text (spaced false parts)) 0)
+next-quiet : (parts : List Part) → IsQuiet (slice_index (written_text (with_spaces false parts)) 0)
 next-quiet [] = inl refl
 next-quiet (Fixed m.CloseParen ∷ parts) = inr (inr (inl refl))
 next-quiet (Fixed m.Comma ∷ parts) = inr (inr (inr (inl refl)))
@@ -79,10 +79,10 @@ quiet-stops test at_end at_space at_close at_comma at_point b quiet = elim quiet
   | inr (inr (inr (inr is))) ↦ ap test is ∙ at_point
 ]
 
-word-stops : (parts : List Part) → is_word_byte (slice_index (written_text (spaced false parts)) 0) ≡ false
+word-stops : (parts : List Part) → is_word_byte (slice_index (written_text (with_spaces false parts)) 0) ≡ false
 word-stops parts = quiet-stops is_word_byte refl refl refl refl refl _ (next-quiet parts)
 
-comparison-stops : (op : Op) (parts : List Part) → is_comparison (comparison_text op ++ slice_index (written_text (spaced false parts)) 0 ∷ []) ≡ false
+comparison-stops : (op : Op) (parts : List Part) → is_comparison (comparison_text op ++ slice_index (written_text (with_spaces false parts)) 0 ∷ []) ≡ false
 comparison-stops ops.Eq parts = quiet-stops (λ b. is_comparison (comparison_text ops.Eq ++ b ∷ [])) refl refl refl refl refl _ (next-quiet parts)
 comparison-stops ops.Ne parts = quiet-stops (λ b. is_comparison (comparison_text ops.Ne ++ b ∷ [])) refl refl refl refl refl _ (next-quiet parts)
 comparison-stops ops.Lt parts = quiet-stops (λ b. is_comparison (comparison_text ops.Lt ++ b ∷ [])) refl refl refl refl refl _ (next-quiet parts)
@@ -101,21 +101,21 @@ first-passes test (x ∷ xs) some all = All-head (λ b. test b ≡ true) x xs al
 digit-no_minus : (b : ℕ) → is_ascii_digit b ≡ true → nat_eq b 45 ≡ false
 digit-no_minus b digit = grind (arith, nat_tests)
 
-minus-stops : (parts : List Part) → Follows (Fixed m.Minus) parts → Writable parts → nat_eq (slice_index (written_text (spaced true parts)) 0) 45 ≡ false
+minus-stops : (parts : List Part) → Follows (Fixed m.Minus) parts → Writable parts → nat_eq (slice_index (written_text (with_spaces true parts)) 0) 45 ≡ false
 minus-stops [] follows sound = absurd follows
 minus-stops (Number n ∷ parts) follows sound =
-    ap (λ b. nat_eq b 45) (first-append (decimal n) (written_text (spaced false parts)) (decimal-length n sound.0))
+    ap (λ b. nat_eq b 45) (first-append (decimal n) (written_text (with_spaces false parts)) (decimal-length n sound.0))
     ∙ digit-no_minus _ (first-passes is_ascii_digit (decimal n) (decimal-length n sound.0) (decimal-digits n sound.0))
 minus-stops (other ∷ parts) follows sound = absurd follows
 
-varchar-stops : (parts : List Part) → Follows (Fixed m.Varchar) parts → is_word_byte (slice_index (written_text (spaced true parts)) 0) ≡ false
+varchar-stops : (parts : List Part) → Follows (Fixed m.Varchar) parts → is_word_byte (slice_index (written_text (with_spaces true parts)) 0) ≡ false
 varchar-stops [] follows = absurd follows
 varchar-stops (Fixed m.OpenParen ∷ parts) follows = refl
 varchar-stops (other ∷ parts) follows = absurd follows
 
 -- no token goes on with what is written after it
 stops : (part : Part) (parts : List Part) → Follows part parts → Writable parts
-    → goes_on (kind_of (part_lexeme part)) (spelled (part_lexeme part)) (slice_index (written_text (spaced (joins_next part) parts)) 0) ≡ false
+    → goes_on (lexeme_kind (part_lexeme part)) (spelled (part_lexeme part)) (slice_index (written_text (with_spaces (joins_next part) parts)) 0) ≡ false
 stops (Fixed m.And) parts follows sound = word-stops parts
 stops (Fixed m.As) parts follows sound = word-stops parts
 stops (Fixed m.At) parts follows sound = word-stops parts
@@ -162,7 +162,7 @@ space-white : (joined : Bool) → AllPass is_white (cond joined [] (codes " "))
 space-white true = All-nil (λ b. is_white b ≡ true)
 space-white false = AllPass-from_list_all is_white (codes " ") refl
 
-may_be_written : (joined : Bool) (parts : List Part) → Writable parts → MayBeWritten (spaced joined parts)
+may_be_written : (joined : Bool) (parts : List Part) → Writable parts → MayBeWritten (with_spaces joined parts)
 may_be_written joined [] sound = tt
 may_be_written joined (part ∷ parts) sound = (
   space-white _,
@@ -194,14 +194,14 @@ lexemes-written s from (this ∷ tokens) in_script same (space, form, keeps, sto
     let here : drop start s ≡ this.bytes ++ drop end s = at_start ∙ ap (λ l. this.bytes ++ l) (sym at_end) in
     rw (between_is_front s this.bytes start end in_order inside here) (ap (λ more. lexeme_of this.kind this.bytes ∷ more) (lexemes-written s end tokens inside at_end others))
 
-spaced-lexemes : (joined : Bool) (parts : List Part) → Writable parts → map (λ token. lexeme_of token.kind token.bytes) (spaced joined parts) ≡ tokens_of parts
+spaced-lexemes : (joined : Bool) (parts : List Part) → Writable parts → map (λ token. lexeme_of token.kind token.bytes) (with_spaces joined parts) ≡ tokens_of parts
 spaced-lexemes joined [] sound = refl
 spaced-lexemes joined (part ∷ parts) sound =
     rw (sound-again (part_lexeme part) sound.0) (ap (λ more. part_lexeme part ∷ more) (spaced-lexemes (joins_next part) parts sound.2))
 
-pub text-tokens : (parts : List Part) → Writable parts → Tokens (text_of parts) (written_tokens 0 (spaced true parts))
-text-tokens parts sound = written_once (spaced true parts) (may_be_written true parts sound)
+pub text-tokens : (parts : List Part) → Writable parts → Tokens (parts_text parts) (written_tokens 0 (with_spaces true parts))
+text-tokens parts sound = written_once (with_spaces true parts) (may_be_written true parts sound)
 
-pub text-lexemes : (parts : List Part) → Writable parts → lexemes (text_of parts) (written_tokens 0 (spaced true parts)) ≡ tokens_of parts
+pub text-lexemes : (parts : List Part) → Writable parts → lexemes (parts_text parts) (written_tokens 0 (with_spaces true parts)) ≡ tokens_of parts
 text-lexemes parts sound =
-    lexemes-written (text_of parts) 0 (spaced true parts) (omega arith) refl (may_be_written true parts sound) ∙ spaced-lexemes true parts sound
+    lexemes-written (parts_text parts) 0 (with_spaces true parts) (omega arith) refl (may_be_written true parts sound) ∙ spaced-lexemes true parts sound

@@ -45,12 +45,12 @@ spelled (lexeme.Text text) = quoted text
 spelled (lexeme.Sign bytes) = bytes
 spelled (lexeme.Comparison op) = comparison_text op
 
-abbrev pub kind_of : Lexeme → TokenKind
-kind_of (lexeme.Word upper) = kinds.Word
-kind_of (lexeme.Number n) = kinds.Number
-kind_of (lexeme.Text text) = kinds.Text
-kind_of (lexeme.Sign bytes) = kinds.Sign
-kind_of (lexeme.Comparison op) = kinds.Comparison
+abbrev pub lexeme_kind : Lexeme → TokenKind
+lexeme_kind (lexeme.Word upper) = kinds.Word
+lexeme_kind (lexeme.Number n) = kinds.Number
+lexeme_kind (lexeme.Text text) = kinds.Text
+lexeme_kind (lexeme.Sign bytes) = kinds.Sign
+lexeme_kind (lexeme.Comparison op) = kinds.Comparison
 
 -- no space stands before a closing parenthesis, a comma and a point
 abbrev pub joins_previous : Part → Bool
@@ -72,11 +72,11 @@ abbrev pub space_before : (joined : Bool) → Part → List ℕ
 space_before joined part = if joined || joins_previous part then [] else codes " "
 
 -- the tokens with one space between each two that aren't joined
-abbrev pub spaced : (joined : Bool) → List Part → List Written
-spaced joined [] = []
-spaced joined (part ∷ parts) =
-    record { space = space_before joined part; kind = kind_of (part_lexeme part); bytes = spelled (part_lexeme part) }
-    ∷ spaced (joins_next part) parts
+abbrev pub with_spaces : (joined : Bool) → List Part → List Written
+with_spaces joined [] = []
+with_spaces joined (part ∷ parts) =
+    record { space = space_before joined part; kind = lexeme_kind (part_lexeme part); bytes = spelled (part_lexeme part) }
+    ∷ with_spaces (joins_next part) parts
 
 -- one or more, with a comma between each two
 abbrev pub listed : {A : Type 0} → (A → List Part) → List A → List Part
@@ -221,12 +221,12 @@ statement_parts (OpenFile name file query) =
 statement_parts (Audit audit) = Fixed m.Audit ∷ Name audit.name ∷ point_parts audit.levels
 
 -- the text of parts, the first of which has no space before it
-abbrev pub text_of : List Part → List ℕ
-text_of parts = written_text (spaced true parts)
+abbrev pub parts_text : List Part → List ℕ
+parts_text parts = written_text (with_spaces true parts)
 
 -- the canonical text of a query, and of a statement
 abbrev pub canonical_query : QueryTree → List ℕ
-canonical_query query = text_of (query_parts query)
+canonical_query query = parts_text (query_parts query)
 
 abbrev pub canonical : StatementTree → List ℕ
-canonical statement = text_of (statement_parts statement)
+canonical statement = parts_text (statement_parts statement)

@@ -66,24 +66,24 @@ IsInteger tokens value =
     )
 
 -- operand = colref | [ "+" | "-" ] number | text
-abbrev pub IsOperand : Rule Term
-IsOperand tokens (term.Column column) = IsColRef tokens column
-IsOperand tokens (term.Literal (value.Int n)) = IsInteger tokens n
-IsOperand tokens (term.Literal (value.Text text)) = tokens ≡ Text text ∷ []
-IsOperand tokens (term.Literal value.Null) = ⊥
+abbrev pub IsTerm : Rule Term
+IsTerm tokens (term.Column column) = IsColRef tokens column
+IsTerm tokens (term.Literal (value.Int n)) = IsInteger tokens n
+IsTerm tokens (term.Literal (value.Text text)) = tokens ≡ Text text ∷ []
+IsTerm tokens (term.Literal value.Null) = ⊥
 
 -- operand comparison operand, operand [ NOT ] BETWEEN operand AND operand,
 -- operand [ NOT ] IN "(" operand { "," operand } ")", colref IS [ NOT ] NULL
 abbrev pub IsPredicate : Rule ConditionTree
 IsPredicate tokens (Compare op left right) =
-    (a b : List Lexeme) × (tokens ≡ a ++ Comparison op ∷ b) × IsOperand a left × IsOperand b right
+    (a b : List Lexeme) × (tokens ≡ a ++ Comparison op ∷ b) × IsTerm a left × IsTerm b right
 IsPredicate tokens (Between negated of low high) =
     (a b c : List Lexeme)
     × (tokens ≡ a ++ (written_if negated (m.Not ∷ []) ++ mark m.Between ∷ (b ++ mark m.And ∷ c)))
-    × IsOperand a of × IsOperand b low × IsOperand c high
+    × IsTerm a of × IsTerm b low × IsTerm c high
 IsPredicate tokens (OneOf negated of terms) =
     (a b : List Lexeme) × (tokens ≡ a ++ (written_if negated (m.Not ∷ []) ++ mark m.In ∷ b))
-    × IsOperand a of × InParentheses (Separated m.Comma IsOperand) b terms
+    × IsTerm a of × InParentheses (Separated m.Comma IsTerm) b terms
 IsPredicate tokens (IsNull negated column) =
     (a : List Lexeme) × (tokens ≡ a ++ mark m.Is ∷ (written_if negated (m.Not ∷ []) ++ mark m.Null ∷ []))
     × IsColRef a column
@@ -172,9 +172,9 @@ abbrev pub IsLevel : Rule ℕ
 IsLevel tokens level = tokens ≡ Number level ∷ []
 
 -- [ AT number { "," number } ]
-abbrev pub IsPoint : Rule (List ℕ)
-IsPoint tokens [] = tokens ≡ []
-IsPoint tokens (n ∷ ns) =
+abbrev pub IsPointClause : Rule (List ℕ)
+IsPointClause tokens [] = tokens ≡ []
+IsPointClause tokens (n ∷ ns) =
     (rest : List Lexeme) × (tokens ≡ mark m.At ∷ rest)
     × Separated m.Comma IsLevel rest (n ∷ ns)
 
@@ -220,4 +220,4 @@ IsStatement tokens (OpenFile name file query) =
 -- AUDIT name [ AT number { "," number } ]
 IsStatement tokens (Audit audit) =
     (point : List Lexeme) × (tokens ≡ mark m.Audit ∷ Word audit.name ∷ point)
-    × IsName audit.name × IsPoint point audit.levels
+    × IsName audit.name × IsPointClause point audit.levels

@@ -82,9 +82,9 @@ unfoldable pub number_at : Reader ℕ
 number_at (Number n ∷ rest) = Some (n, rest)
 number_at other = None
 
-unfoldable pub text_at : Reader (List ℕ)
-text_at (Text text ∷ rest) = Some (text, rest)
-text_at other = None
+unfoldable pub text_token_at : Reader (List ℕ)
+text_token_at (Text text ∷ rest) = Some (text, rest)
+text_token_at other = None
 
 unfoldable pub comparison_at : Reader Op
 comparison_at (Comparison op ∷ rest) = Some (op, rest)
@@ -138,27 +138,27 @@ integer_at tokens =
       Some (neg_ℤ (pos n.0), n.1))
 
 -- the kind of the first token
-abbrev pub kind_at : List Lexeme → Option TokenKind
-kind_at [] = None
-kind_at (Word word ∷ rest) = Some kinds.Word
-kind_at (Number n ∷ rest) = Some kinds.Number
-kind_at (Text text ∷ rest) = Some kinds.Text
-kind_at (Sign bytes ∷ rest) = Some kinds.Sign
-kind_at (Comparison op ∷ rest) = Some kinds.Comparison
+abbrev pub token_kind_at : List Lexeme → Option TokenKind
+token_kind_at [] = None
+token_kind_at (Word word ∷ rest) = Some kinds.Word
+token_kind_at (Number n ∷ rest) = Some kinds.Number
+token_kind_at (Text text ∷ rest) = Some kinds.Text
+token_kind_at (Sign bytes ∷ rest) = Some kinds.Sign
+token_kind_at (Comparison op ∷ rest) = Some kinds.Comparison
 
 abbrev pub operand_of_kind : Option TokenKind → Reader Term
 operand_of_kind (Some kinds.Word) tokens = do
   column ← colref_at tokens
   Some (term.Column column.0, column.1)
 operand_of_kind (Some kinds.Text) tokens = do
-  text ← text_at tokens
+  text ← text_token_at tokens
   Some (term.Literal (value.Text text.0), text.1)
 operand_of_kind other tokens = do
   n ← integer_at tokens
   Some (term.Literal (value.Int n.0), n.1)
 
 unfoldable pub operand_at : Reader Term
-operand_at tokens = operand_of_kind (kind_at tokens) tokens
+operand_at tokens = operand_of_kind (token_kind_at tokens) tokens
 
 -- whether NOT stands here, and what follows it
 unfoldable pub negation_at : List Lexeme → Bool × List Lexeme
@@ -200,10 +200,10 @@ predicate_at tokens = do
   predicate_of left.0 left.1
 
 -- one condition is itself, several are one node
-abbrev pub joined : (List ConditionTree → ConditionTree) → List ConditionTree → ConditionTree
-joined node [] = node []
-joined node (part ∷ []) = part
-joined node (first ∷ second ∷ more) = node (first ∷ second ∷ more)
+abbrev pub one_node : (List ConditionTree → ConditionTree) → List ConditionTree → ConditionTree
+one_node node [] = node []
+one_node node (part ∷ []) = part
+one_node node (first ∷ second ∷ more) = node (first ∷ second ∷ more)
 
 abbrev pub separator_of : Connective → Mark
 separator_of connectives.And = m.And
@@ -216,7 +216,7 @@ node_of connectives.Or parts = Or (operands parts)
 unfoldable pub chain_at : Connective → Reader ConditionTree → Reader ConditionTree
 chain_at connective part tokens = do
   parts ← list_at part (separator_of connective) tokens
-  Some (joined (node_of connective) parts.0, parts.1)
+  Some (one_node (node_of connective) parts.0, parts.1)
 
 -- a predicate, or a condition in parentheses
 unfoldable pub plain_factor_at : (group : Reader ConditionTree) → Reader ConditionTree
@@ -294,14 +294,14 @@ column_at tokens = do
     end ← after_mark m.Null rest
     Some (record { name = name.0; kind = kind.0; not_null = true }, end))
 
-unfoldable pub table_at : Reader StatementTree
-table_at tokens = do
+unfoldable pub create_table_at : Reader StatementTree
+create_table_at tokens = do
   name ← name_at tokens
   columns ← in_parentheses_at (list_at column_at m.Comma) name.1
   Some (CreateTable (record { name = name.0; columns = columns.0 }), columns.1)
 
-unfoldable pub index_at : Reader StatementTree
-index_at tokens = do
+unfoldable pub create_index_at : Reader StatementTree
+create_index_at tokens = do
   name ← name_at tokens
   rest ← after_mark m.On name.1
   table ← name_at rest
@@ -313,12 +313,12 @@ create_at tokens =
     choose (after_mark m.Table tokens)
     (do
       rest ← after_mark m.Index tokens
-      index_at rest)
-    table_at
+      create_index_at rest)
+    create_table_at
 
 unfoldable pub load_at : Reader StatementTree
 load_at tokens = do
-  file ← text_at tokens
+  file ← text_token_at tokens
   rest ← after_mark m.Into file.1
   table ← name_at rest
   Some (Load (record { file = file.0; table = table.0 }), table.1)
@@ -343,14 +343,14 @@ unfoldable pub save_at : Reader StatementTree
 save_at tokens = do
   name ← name_at tokens
   rest ← after_mark m.To name.1
-  file ← text_at rest
+  file ← text_token_at rest
   Some (SaveFile (record { name = name.0; file = file.0 }), file.1)
 
 unfoldable pub open_at : Reader StatementTree
 open_at tokens = do
   name ← name_at tokens
   rest ← after_mark m.From name.1
-  file ← text_at rest
+  file ← text_token_at rest
   later ← after_mark m.As file.1
   query ← select_at later
   Some (OpenFile name.0 file.0 query.0, query.1)

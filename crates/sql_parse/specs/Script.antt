@@ -61,5 +61,5 @@ IsCause script tokens (Syntax place) = IsFirstRefused script tokens place
 IsCause script tokens NoMemory = Unit {0}
 
 -- the text of one statement: its tokens are written for the statement
-abbrev pub IsTextOf : List ℕ → StatementTree → Type 0
-IsTextOf text tree = (tokens : List Token) × Tokens text tokens × IsStatement (lexemes text tokens) tree
+abbrev pub SpellsStatement : List ℕ → StatementTree → Type 0
+SpellsStatement text tree = (tokens : List Token) × Tokens text tokens × IsStatement (lexemes text tokens) tree

@@ -58,18 +58,18 @@ pub data StatementTree : Type 0 where
   Audit : AuditDef → StatementTree
 
 -- one node, with the trees of its operands in their places
-abbrev pub node_tree : Cond-F ConditionTree → ConditionTree
-node_tree (layer.Compare op left right) = Compare op left right
-node_tree (layer.Between negated term low high) = Between negated term low high
-node_tree (layer.OneOf negated term terms) = OneOf negated term terms
-node_tree (layer.IsNull negated column) = IsNull negated column
-node_tree (layer.Not inner) = Not inner.value
-node_tree (layer.And parts) = And (operands parts.items)
-node_tree (layer.Or parts) = Or (operands parts.items)
+abbrev pub condition_node : Cond-F ConditionTree → ConditionTree
+condition_node (layer.Compare op left right) = Compare op left right
+condition_node (layer.Between negated term low high) = Between negated term low high
+condition_node (layer.OneOf negated term terms) = OneOf negated term terms
+condition_node (layer.IsNull negated column) = IsNull negated column
+condition_node (layer.Not inner) = Not inner.value
+condition_node (layer.And parts) = And (operands parts.items)
+condition_node (layer.Or parts) = Or (operands parts.items)
 
 -- the tree of a condition
 abbrev pub condition_tree : Cond → ConditionTree
-condition_tree = fold-Cond ConditionTree node_tree
+condition_tree = fold-Cond ConditionTree condition_node
 
 abbrev pub query_tree : Query → QueryTree
 query_tree query =

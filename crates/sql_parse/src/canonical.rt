@@ -1,7 +1,7 @@
 // The canonical text of statements and of queries: the one text in which each is written.
 
 ghost use Rattle.std.specs.Prelude.{◌≡◌, ◌∷◌, [], ℕ, List, flat_map, option_map, IfOk, OnOk};
-ghost use Rattle.sql_parse.specs.Script.{IsTextOf};
+ghost use Rattle.sql_parse.specs.Script.{SpellsStatement};
 ghost use Rattle.sql_parse.specs.Trees.{StatementTree, statement_tree, query_tree, condition_tree, CreateTable, CreateIndex, Load, Compile, SaveFile, OpenFile, Audit};
 ghost use Rattle.sql_parse.specs.Canonical.{Fixed, Name as NamePart, Number, listed, in_parentheses, kept_if, column_parts, operand_parts, item_parts, type_parts, definition_parts, selection_parts, where_parts, query_parts, option_parts, point_parts, statement_parts, canonical, canonical_query};
 ghost use Rattle.sql_parse.specs.Printing.{put_all};
@@ -40,10 +40,10 @@ pub fn print_query(alloc: Global, query: &Query) -> Result<Vec<u8>, AllocError>
 /// Canonical text is read as its statement, and as no other: of a statement that has a text at all, the canonical text
 /// is one, and two statements that both have one text are the same.
 pub fn canonical_text_is_read()
-    ensures read { (text : List ℕ) (tree : StatementTree) → IsTextOf text tree →
-        IsTextOf (canonical tree) tree }
+    ensures read { (text : List ℕ) (tree : StatementTree) → SpellsStatement text tree →
+        SpellsStatement (canonical tree) tree }
     ensures once { (text : List ℕ) (one other : StatementTree) →
-        IsTextOf text one → IsTextOf text other → one ≡ other }
+        SpellsStatement text one → SpellsStatement text other → one ≡ other }
 {}
 
 // What can be an item of a list.

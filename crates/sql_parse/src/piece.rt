@@ -5,7 +5,7 @@ ghost use Rattle.std.specs.List.{All};
 ghost use Rattle.sql_lex.specs.Forms.{HasForm, KeepsTokenLimit};
 ghost use Rattle.sql_lex.specs.Tokens.{IsToken};
 ghost use Rattle.sql_parse.specs.Lexemes.{lexeme_of, lexemes};
-ghost use Rattle.sql_parse.specs.Reading.{GivesValue, after_mark, name_at, number_at, text_at, comparison_at, kind_at};
+ghost use Rattle.sql_parse.specs.Reading.{GivesValue, after_mark, name_at, number_at, text_token_at, comparison_at, token_kind_at};
 
 use crate::fault::ReadFault;
 use crate::mark::{Mark, is_reserved};
@@ -78,7 +78,7 @@ impl<'s> Piece<'s> {
 
     // The kind of the first token.
     pub(crate) fn kind(&self) -> Option<TokenKind>
-        ensures { result ≡ kind_at self.now }
+        ensures { result ≡ token_kind_at self.now }
     {
         Some(self.lead()?.kind)
     }
@@ -130,9 +130,9 @@ impl<'s> Piece<'s> {
         }
     }
 
-    #[tactic(auto, unfolding(crate::specs::Reading::text_at))]
+    #[tactic(auto, unfolding(crate::specs::Reading::text_token_at))]
     pub(crate) fn text(&self, alloc: Global) -> Result<(Text, Piece<'s>), ReadFault>
-        ensures { GivesValue result (text_at self.now) }
+        ensures { GivesValue result (text_token_at self.now) }
     {
         let Some(lead) = self.lead() else {
             return Err(ReadFault::NotAStatement);

@@ -1,7 +1,7 @@
 // CREATE TABLE and CREATE INDEX.
 
 ghost use Rattle.sql_parse.specs.Trees.{statement_tree};
-ghost use Rattle.sql_parse.specs.Reading.{GivesValue, GivesStatement, varchar_at, column_type_at, column_at, table_at, index_at, create_at};
+ghost use Rattle.sql_parse.specs.Reading.{GivesValue, GivesStatement, varchar_at, column_type_at, column_at, create_table_at, create_index_at, create_at};
 
 use crate::fault::ReadFault;
 use crate::mark::Mark;
@@ -61,9 +61,9 @@ impl Parse for ColumnDef {
 }
 
 // From the name of the table on.
-#[tactic(auto, unfolding(crate::specs::Reading::table_at))]
+#[tactic(auto, unfolding(crate::specs::Reading::create_table_at))]
 fn table<'s>(alloc: Global, piece: Piece<'s>) -> Result<(Statement, Piece<'s>), ReadFault>
-    ensures { GivesStatement result (table_at piece.entry) }
+    ensures { GivesStatement result (create_table_at piece.entry) }
 {
     let (name, rest) = piece.name(alloc)?;
     let (columns, rest) = list_in_parentheses(alloc, rest)?;
@@ -71,9 +71,9 @@ fn table<'s>(alloc: Global, piece: Piece<'s>) -> Result<(Statement, Piece<'s>), 
 }
 
 // From the name of the index on.
-#[tactic(auto, unfolding(crate::specs::Reading::index_at, crate::specs::Reading::in_parentheses_at))]
+#[tactic(auto, unfolding(crate::specs::Reading::create_index_at, crate::specs::Reading::in_parentheses_at))]
 fn index<'s>(alloc: Global, piece: Piece<'s>) -> Result<(Statement, Piece<'s>), ReadFault>
-    ensures { GivesStatement result (index_at piece.entry) }
+    ensures { GivesStatement result (create_index_at piece.entry) }
 {
     let (name, rest) = piece.name(alloc)?;
     let rest = rest.expect(Mark::On)?;

@@ -1,3 +1,4 @@
 pub mod Dictionary
 pub mod ValueOrder
 pub mod Stored
+pub mod Ascending

@@ -13,7 +13,7 @@ use Rattle.sql_values.specs.declared.column.ColumnType.{ColumnType}
 use Rattle.sql_values.specs.declared.column.ColumnType.TheVariants.{Integer, Varchar}
 use Rattle.sql_values.specs.declared.column.ColumnDef.{ColumnDef}
 use Rattle.sql_values.specs.Dictionary.{has_text, code_of, text_of, Begins}
-use Rattle.sql_values.specs.Words.{null_word, word_of, meaning_of, value_of, IsTextWord, IsWord}
+use Rattle.sql_values.specs.Words.{null_word, word_of, word_meaning, value_of, IsTextWord, IsWord}
 use Rattle.sql_values.specs.Stored.{ValueRow, IsTextOf, IsValueOf, IsRowOf, AreWords, row_of, StandsFor}
 use Rattle.sql_values.proofs.Dictionary.{position-below, position_none}
 
@@ -101,7 +101,7 @@ own_place (x ∷ xs) (suc place) distinct there =
 
 -- NULL's word is NULL in every column
 pub NULL_is_null : (texts : List (List ℕ)) (kind : ColumnType) → value_of texts kind null_word ≡ value.Null
-NULL_is_null texts kind = ap (λ b. if b then value.Null else meaning_of texts kind null_word) ((Decides-int_eq null_word null_word).1 refl)
+NULL_is_null texts kind = ap (λ b. if b then value.Null else word_meaning texts kind null_word) ((Decides-int_eq null_word null_word).1 refl)
 
 -- a word gives its value's word again
 word_of-value_of : (texts : List (List ℕ)) (kind : ColumnType) (word : ℤ) → IsDistinct bytes_eq texts → IsWord texts kind word → word_of texts (value_of texts kind word) ≡ word

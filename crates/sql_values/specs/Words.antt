@@ -20,13 +20,13 @@ word_of texts (value.Int number) = number
 word_of texts (value.Text text) = pos (position_or_len (bytes_eq text) texts)
 
 -- what a word other than NULL's means in a column of this kind
-abbrev pub meaning_of : List (List ℕ) → ColumnType → ℤ → Value
-meaning_of texts Integer word = value.Int word
-meaning_of texts (Varchar _) word = value.Text (unwrap_or (text_of texts word) [])
+abbrev pub word_meaning : List (List ℕ) → ColumnType → ℤ → Value
+word_meaning texts Integer word = value.Int word
+word_meaning texts (Varchar _) word = value.Text (unwrap_or (text_of texts word) [])
 
 -- the value for which a word stands in a column of this kind
 abbrev pub value_of : List (List ℕ) → ColumnType → ℤ → Value
-value_of texts kind word = if int_eq word null_word then value.Null else meaning_of texts kind word
+value_of texts kind word = if int_eq word null_word then value.Null else word_meaning texts kind word
 
 -- a place in the list of texts, or NULL's word
 abbrev pub IsTextWord : List (List ℕ) → ℤ → Type 0

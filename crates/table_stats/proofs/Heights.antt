@@ -6,7 +6,7 @@ use Rattle.std.proofs.lemmas.Bool.Decides.{nat_tests}
 use Rattle.std.proofs.Math.Nat.{pow-le-pow_right}
 use Rattle.sql_values.specs.Limits.{max_rows}
 use Rattle.btree_index.specs.Height.{height_of}
-use Rattle.cost_model.proofs.Bits.{least-is}
+use Rattle.plan_tree.proofs.Digits.{least-is}
 
 -- the least height with room, where one level fewer has none
 pub height-is : (entries height : ℕ) → 1 ≤ height → height ≤ 1 + entries → entries ≤ 64 ^ height → (1 < height → 64 ^ (height - 1) < entries) → height_of entries ≡ height

@@ -15,7 +15,7 @@ use Rattle.db_catalog.specs.Database.{DatabaseState}
 use Rattle.cost_model.specs.declared.stats.RelationStats.{RelationStats}
 use Rattle.table_stats.specs.Product.{first_past, row_counts}
 use Rattle.cost_model.specs.declared.stats.Stale.{Stale}
-use Rattle.table_stats.specs.Fresh.{IsFirst, first_stale, stale_in}
+use Rattle.table_stats.specs.Fresh.{RefusesFirst, first_stale, stale_in}
 
 pub at-tree : (P : RelationTree → Type 0) (relations : List Relation) (place : ℕ) (relation : Relation) → All P (map relation_tree relations) → place < length relations
     → relation ≡ get_or relations place relation → P (relation_tree relation)
@@ -68,8 +68,8 @@ next-stale database relations stats n relation one below below' is is' =
     ∙ ap (λ s. option_or (stale_in database n (relation_tree relation) s) rest) (sym is')
 
 -- a refusal that is handed on, of what stands before the rest
-pub handed-on : {T E : Type 0} (found rest : Option Stale) (result : Result T Stale) (stale : Stale) → IsErrAnd result (λ one. one ≡ stale) → IsFirst {T = E} found (Err stale)
-    → IsFirst {T = T} (option_or found rest) result
+pub handed-on : {T E : Type 0} (found rest : Option Stale) (result : Result T Stale) (stale : Stale) → IsErrAnd result (λ one. one ≡ stale) → RefusesFirst {T = E} found (Err stale)
+    → RefusesFirst {T = T} (option_or found rest) result
 handed-on found rest (Ok value) stale is first = absurd is
 handed-on found rest (Err one) stale is first = record {
   answered = tt;

@@ -12,7 +12,7 @@ use Rattle.sql_values.specs.declared.column.ColumnDef.{ColumnDef}
 use Rattle.sql_values.specs.declared.column.ColumnType.{ColumnType}
 use Rattle.sql_values.specs.declared.column.ColumnType.TheVariants.{Integer, Varchar}
 use Rattle.sql_values.specs.declared.value.Value.TheVariants as value
-use Rattle.sql_values.specs.Words.{null_word, value_of, meaning_of}
+use Rattle.sql_values.specs.Words.{null_word, value_of, word_meaning}
 use Rattle.sql_values.specs.Stored.{StoredTable, ValueRow, AreWords, AreWordsOf, row_of, values_of}
 use Rattle.sql_values.specs.Truth.{is_null}
 use Rattle.query_block.specs.Conditions.{FilterTree}
@@ -56,11 +56,11 @@ row-for database relation i words fits row =
 
 -- ---- a row in a tally
 
-meaning-some : (texts : List (List ℕ)) (kind : ColumnType) (word : ℤ) → is_null (meaning_of texts kind word) ≡ false
+meaning-some : (texts : List (List ℕ)) (kind : ColumnType) (word : ℤ) → is_null (word_meaning texts kind word) ≡ false
 meaning-some texts Integer word = refl
 meaning-some texts (Varchar most) word = refl
 
-null-by : (b : Bool) (texts : List (List ℕ)) (kind : ColumnType) (word : ℤ) → is_null (cond b value.Null (meaning_of texts kind word)) ≡ b
+null-by : (b : Bool) (texts : List (List ℕ)) (kind : ColumnType) (word : ℤ) → is_null (cond b value.Null (word_meaning texts kind word)) ≡ b
 null-by true texts kind word = refl
 null-by false texts kind word = meaning-some texts kind word
 

@@ -27,6 +27,6 @@ first_stale database number (relation ∷ relations) (one ∷ more) =
     option_or (stale_in database number relation one) (first_stale database (number + 1) relations more)
 
 -- a call is refused with what is found, and only then
-pub record IsFirst {T : Type 0} (found : Option Stale) (result : Result T Stale) : Type 0 where
+pub record RefusesFirst {T : Type 0} (found : Option Stale) (result : Result T Stale) : Type 0 where
   pub answered : OnOk result (found ≡ None)
   pub refused : IfErr result (λ stale. found ≡ Some stale)

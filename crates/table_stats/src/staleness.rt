@@ -3,7 +3,7 @@ ghost use Rattle.std.specs.Prelude.{◌<◌, length};
 ghost use Rattle.query_block.specs.Blocks.{block_tree, relation_tree};
 ghost use Rattle.db_catalog.specs.Fits.{Fits};
 ghost use Rattle.cost_model.specs.Fits.{FitsBlock};
-ghost use Rattle.table_stats.specs.Fresh.{IsFirst, changed, first_stale, stale_in};
+ghost use Rattle.table_stats.specs.Fresh.{RefusesFirst, changed, first_stale, stale_in};
 
 use cost_model::{CountName, RelationStats, Stale, Stats};
 use db_catalog::Database;
@@ -11,7 +11,7 @@ use query_block::{Block, Relation};
 
 // Refuses a count that isn't what it was.
 fn check(relation: u32, count: CountName, kept: u64, present: u64) -> Result<(), Stale>
-    ensures { IsFirst (changed relation count kept present) result }
+    ensures { RefusesFirst (changed relation count kept present) result }
 {
     if kept != present {
         return Err(Stale {
@@ -32,7 +32,7 @@ fn check_relation(
     kept: &RelationStats,
 ) -> Result<(), Stale>
     requires { relation.now.table < length db.now.tables }
-    ensures { IsFirst (stale_in db.now number (relation_tree relation.now) kept.now) result }
+    ensures { RefusesFirst (stale_in db.now number (relation_tree relation.now) kept.now) result }
 {
     check(number, CountName::Rows, kept.rows, db.rows(relation.table))?;
     let indexed = db.indexes(relation.table).len() as u64;
@@ -45,7 +45,7 @@ fn check_relation(
 pub fn fresh(db: &Database, block: &Block, stats: &Stats) -> Result<(), Stale>
     requires fits { Fits db.now (block_tree block.now) }
     requires stats { FitsBlock (block_tree block.now) stats.now }
-    ensures { IsFirst
+    ensures { RefusesFirst
         (first_stale db.now 0 (block_tree block.now).relations stats.now.relations) result }
 {
     let kept = stats.relations.as_slice();

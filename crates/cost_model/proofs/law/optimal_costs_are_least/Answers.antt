@@ -1,9 +1,5 @@
-use Rattle.cost_model.proofs.Enumerated.{plans-listed}
 use Rattle.cost_model.proofs.Least.{optimal-least, optimal-cheapest}
 use Rattle.cost_model.proofs.law.optimal_costs_are_least.Goals as goal
-
-pub returns-clause-plans : goal.returns-clause-plans
-returns-clause-plans c = plans-listed
 
 pub returns-clause-least : goal.returns-clause-least
 returns-clause-least c = optimal-least

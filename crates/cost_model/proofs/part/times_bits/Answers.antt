@@ -2,7 +2,7 @@ use Rattle.std.proofs.Common.{◌≡◌, ◌*◌, ap, arith}
 use Rattle.std.proofs.lemmas.Nat.{leading_length}
 use Rattle.std.proofs.Math.Nat.{mul-le-mul_left}
 use Rattle.plan_tree.specs.Work.{bits}
-use Rattle.cost_model.proofs.Bits.{bits-is, bits-few}
+use Rattle.plan_tree.proofs.Digits.{bits-is, bits-few}
 use Rattle.cost_model.proofs.part.times_bits.Goals as goal
 
 pub returns-clause-product : goal.returns-clause-product

@@ -1,5 +1,5 @@
 use Rattle.std.proofs.Common.{◌≡◌, ◌+◌, [], ◌++◌, map, length}
-use Rattle.csv_load.specs.Entries.{entries_left, GivesEntries}
+use Rattle.csv_load.specs.Entries.{records_left, GivesEntries}
 use Rattle.csv_load.specs.Load.{entries_fault, entry_row}
 use Rattle.csv_load.proofs.Rows.{entries_fault_from}
 use Rattle.csv_load.proofs.loading.put_entries.Given as goal
@@ -9,7 +9,7 @@ invariant-loop-n g l = record {
   goes_on : GivesEntries g.R.Read.remaining l.reader;
   columns : l.batch.columns ≡ l.columns;
   whole : l.batch.row ≡ [];
-  rows : l.batch.rows ++ map (entry_row l.columns) (entries_left g.R.Read.remaining l.reader) ≡ map (entry_row l.columns) (entries_left g.R.Read.remaining l.initial.reader);
-  good : entries_fault l.columns (entries_left g.R.Read.remaining l.initial.reader) ≡ entries_fault_from l.n l.columns (entries_left g.R.Read.remaining l.reader);
-  count : l.n + length (entries_left g.R.Read.remaining l.reader) ≡ 1 + length (entries_left g.R.Read.remaining l.initial.reader);
+  rows : l.batch.rows ++ map (entry_row l.columns) (records_left g.R.Read.remaining l.reader) ≡ map (entry_row l.columns) (records_left g.R.Read.remaining l.initial.reader);
+  good : entries_fault l.columns (records_left g.R.Read.remaining l.initial.reader) ≡ entries_fault_from l.n l.columns (records_left g.R.Read.remaining l.reader);
+  count : l.n + length (records_left g.R.Read.remaining l.reader) ≡ 1 + length (records_left g.R.Read.remaining l.initial.reader);
 }

@@ -1,6 +1,6 @@
 use Rattle.std.proofs.Common.{arith}
 use Rattle.cost_model.specs.Costing.{costing_tree}
-use Rattle.cost_model.specs.Cards.{set_of}
+use Rattle.plan_tree.specs.Sets.{set_of}
 use Rattle.cost_model.proofs.Bounds.{card-below}
 use Rattle.plan_space.proofs.prices.card_at.Goals as goal
 

@@ -1,6 +1,6 @@
 use Rattle.std.proofs.Common.{◌^◌, ◌<◌, sym, subst, ◌∙◌, arith}
 use Rattle.plan_space.specs.Roots.{IsSplit}
-use Rattle.plan_space.specs.Steps.{Considers, IsReading}
+use Rattle.plan_space.specs.Steps.{Considers, ReadsRelation}
 use Rattle.plan_space.proofs.Filled.{highest-split, least-alone, least-split}
 use Rattle.plan_space.proofs.table.entry_of.Goals as goal
 use Rattle.plan_space.proofs.table.entry_of.Goals.{then-set-alone, else-set-alone}
@@ -19,7 +19,7 @@ returns c =
     let alone = c.set_of_one-alone.ensures in
     elim c.if-set-alone.branch [
       | then-set-alone w ↦
-          least-alone at table set c.if-set-alone.start c.joins.result (subst (λ e. Considers at table set IsReading e e) (sym w.start-is) w.readings-start.ensures) c.joins.ensures
+          least-alone at table set c.if-set-alone.start c.joins.result (subst (λ e. Considers at table set ReadsRelation e e) (sym w.start-is) w.readings-start.ensures) c.joins.ensures
       | else-set-alone w ↦
           let more : 2 ^ c.args.relation < set = omega (arith, alone, c.requires.least, w.if-set-alone.false) in
           least-split at table set c.args.relation c.if-set-alone.start c.joins.result more c.requires.highest c.joins.ensures

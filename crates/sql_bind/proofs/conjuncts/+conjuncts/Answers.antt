@@ -2,7 +2,7 @@ use Rattle.std.proofs.Common.{◌∙◌, ◌++◌, ◌∷◌, [], List, ap, arit
 use Rattle.std.proofs.lemmas.List.{take_more}
 use Rattle.sql_parse.specs.Trees.{ConditionTree}
 use Rattle.sql_bind.specs.Conjuncts.{conjunct_fault}
-use Rattle.sql_bind.specs.Collected.{Adds}
+use Rattle.sql_bind.specs.Collected.{AddsConjuncts}
 use Rattle.sql_bind.proofs.Faults.{all_conjuncts, conjuncts_in_part, conjuncts-flat, conjuncts-push, conjuncts-counted, passed, refused_at, handed_on}
 use Rattle.sql_bind.proofs.Collected.{adds-nothing, adds-both}
 use Rattle.sql_bind.proofs.conjuncts.+conjuncts.Goals as goal
@@ -23,7 +23,7 @@ add_all-loop-i-preserved t c =
     let before = take c.loop-i.i chain in
     let one_more : all_conjuncts before ++ conjuncts_in_part part ≡ all_conjuncts (take (c.loop-i.i + 1) chain) =
     sym (ap all_conjuncts (take_more chain c.loop-i.i part c.loop-i-test.true ∙ ap (λ one. before ++ one ∷ []) (sym c.index-chain-i.is)) ∙ conjuncts-push before part) in
-    let Added : List ConditionTree → Type 0 = λ some. Adds c.args.tables.now some c.args.parts.now c.add_conjuncts.new.parts in (
+    let Added : List ConditionTree → Type 0 = λ some. AddsConjuncts c.args.tables.now some c.args.parts.now c.add_conjuncts.new.parts in (
       passed (conjunct_fault c.args.tables.now) all_conjuncts conjuncts_in_part conjuncts-flat _ c.loop-i.next c.in_ok-next.next chain c.loop-i.i part c.loop-i-test.true
           c.index-chain-i.is c.loop-i.invariant.0 c.in_ok-next.ensures.refuses.answered c.in_ok-next.ensures.next,
       omega (arith, conjuncts-counted chain c.loop-i.i part c.loop-i-test.true c.index-chain-i.is, c.loop-i.invariant.1, c.in_ok-next.ensures.next),

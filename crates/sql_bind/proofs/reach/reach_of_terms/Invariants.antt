@@ -1,6 +1,6 @@
 use Rattle.std.proofs.Common.{◌≡◌, drop}
-use Rattle.sql_bind.specs.Conjuncts.{joined, reach_of_terms}
+use Rattle.sql_bind.specs.Conjuncts.{joined_reach, reach_of_terms}
 use Rattle.sql_bind.proofs.reach.reach_of_terms.Given as goal
 
 abbrev pub invariant-loop-i : goal.invariant-loop-i
-invariant-loop-i l = reach_of_terms l.tables l.terms ≡ joined l.reach (reach_of_terms l.tables (drop l.i l.terms))
+invariant-loop-i l = reach_of_terms l.tables l.terms ≡ joined_reach l.reach (reach_of_terms l.tables (drop l.i l.terms))

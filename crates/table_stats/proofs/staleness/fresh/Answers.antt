@@ -6,7 +6,7 @@ use Rattle.query_block.specs.Blocks.{RelationTree, relation_tree}
 use Rattle.db_catalog.specs.Fits.{FitsTable}
 use Rattle.cost_model.specs.Fits.{FitsRelation}
 use Rattle.table_stats.proofs.Relations.{at-tree, next-stale, handed-on}
-use Rattle.table_stats.specs.Fresh.{IsFirst, first_stale, stale_in}
+use Rattle.table_stats.specs.Fresh.{RefusesFirst, first_stale, stale_in}
 use Rattle.table_stats.proofs.staleness.fresh.Goals as goal
 
 pub bounds-kept-number : goal.bounds-kept-number
@@ -48,7 +48,7 @@ returns-in_err-check_relation c =
     sym (ap₂ (λ relations stats. first_stale database 0 (map relation_tree relations) stats) c.relations-relation-items.ensures.relations c.as_slice-kept.ensures)
     ∙ c.loop-number.invariant
     ∙ next-stale database lent kept number c.relation-item.result c.index-kept-number.result c.loop-number-test.true there c.relation-item.is c.index-kept-number.is in
-    subst (λ due. IsFirst due c.from_residual.result) (sym whole)
+    subst (λ due. RefusesFirst due c.from_residual.result) (sym whole)
     (handed-on found rest c.from_residual.result c.in_err-check_relation.field-0.0 c.from_residual.ensures.1 c.in_err-check_relation.ensures)
 
 pub loop-number-preserved : goal.loop-number-preserved

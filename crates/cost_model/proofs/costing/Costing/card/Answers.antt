@@ -2,7 +2,8 @@ use Rattle.std.proofs.Common.{◌∙◌, List, ap, sym}
 use Rattle.std.proofs.lemmas.List.{drop_all}
 use Rattle.query_block.specs.declared.edge.Edge.{Edge}
 use Rattle.cost_model.specs.Costing.{CostingShape}
-use Rattle.cost_model.specs.Cards.{set_of, kept_product, scaled_by_edges, card_of}
+use Rattle.cost_model.specs.Cards.{kept_product, scaled_by_edges, card_of}
+use Rattle.plan_tree.specs.Sets.{set_of}
 use Rattle.cost_model.proofs.costing.Costing.card.Goals as goal
 
 pub returns-clause-card : goal.returns-clause-card

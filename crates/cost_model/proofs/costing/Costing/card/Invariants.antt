@@ -1,6 +1,7 @@
 use Rattle.std.proofs.Common.{◌≡◌, ◌≤◌, drop}
 use Rattle.sql_values.specs.Limits.{max_product}
-use Rattle.cost_model.specs.Cards.{set_of, kept_product, scaled_by_edges}
+use Rattle.cost_model.specs.Cards.{kept_product, scaled_by_edges}
+use Rattle.plan_tree.specs.Sets.{set_of}
 use Rattle.cost_model.proofs.costing.Costing.card.Given as goal
 
 abbrev pub invariant-loop-number : goal.invariant-loop-number

@@ -1,6 +1,7 @@
 use Rattle.std.proofs.Common.{◌≡◌, ◌∙◌, ◌+◌, ◌*◌, ◌≤◌, All, length, cond, drop, ap, sym, subst, arith}
 use Rattle.cost_model.specs.Fits.{row_product}
-use Rattle.cost_model.specs.Cards.{set_of, kept_product}
+use Rattle.cost_model.specs.Cards.{kept_product}
+use Rattle.plan_tree.specs.Sets.{set_of}
 use Rattle.std.proofs.Math.Nat.{mul_assoc}
 use Rattle.sql_values.specs.Limits.{max_product}
 use Rattle.cost_model.proofs.Bounds.{HasFewKept, few-stats, fits-kept, next-kept, next-product, one-times}

@@ -4,7 +4,7 @@ use Rattle.query_block.specs.Conditions.{filter_tree}
 use Rattle.query_block.specs.Blocks.{RelationTree, block_tree}
 use Rattle.query_block.specs.Meaning.{meets_filter}
 use Rattle.exec_scan.specs.State.{IndexScanState}
-use Rattle.exec_scan.specs.Places.{placed, KeepsOthers}
+use Rattle.exec_scan.specs.Places.{placed_row, KeepsOtherWords}
 use Rattle.exec_scan.specs.IndexScanning.{IsInIndex, index_scan_left, read_due}
 use Rattle.exec_scan.proofs.Relations.{own_relation}
 use Rattle.exec_scan.proofs.ReadRows.{read_of}
@@ -87,8 +87,8 @@ returns-then-meets_filter-clause-gives c =
     let of = c.read.ensures.index.numbers in
     let done = written_of block c.args.self.now.relation c.read.new.self.relation c.read.new.self.table c.read.new.self.columns c.read.new.self.offset c.in-Some.row.now c.loop-row.out c.write.new.out of
     (ap (λ (s : IndexScanState). s.relation) c.read.ensures.moves ∙ same) (ap length c.loop-row.invariant.out ∙ c.requires.width) seen.wide c.write.ensures in (
-      placed block.relations r seen.row,
-      sym c.loop-row.invariant.rest ∙ leaves.rest ∙ ap (λ (n : ℕ). placed block.relations n seen.row ∷ (index_scan_left c.args.meter.now.database block c.read.new.self).rest) same,
+      placed_row block.relations r seen.row,
+      sym c.loop-row.invariant.rest ∙ leaves.rest ∙ ap (λ (n : ℕ). placed_row block.relations n seen.row ∷ (index_scan_left c.args.meter.now.database block c.read.new.self).rest) same,
       is-part texts r block.relations seen.row c.in-Some.row.now c.write.new.out c.requires.index.numbers.exists done.long done.stand
           (subst (λ (relation : RelationTree). AreWordsOf texts relation.columns c.in-Some.row.now) (sym own) seen.are)
           (ap (λ (relation : RelationTree). values_of texts relation.columns c.in-Some.row.now) own ∙ seen.values),
@@ -133,7 +133,7 @@ returns-then-meets_filter-clause-others c =
     let of = c.read.ensures.index.numbers in
     let done = written_of block c.args.self.now.relation c.read.new.self.relation c.read.new.self.table c.read.new.self.columns c.read.new.self.offset c.in-Some.row.now c.loop-row.out c.write.new.out of
     (ap (λ (s : IndexScanState). s.relation) c.read.ensures.moves ∙ same) (ap length c.loop-row.invariant.out ∙ c.requires.width) seen.wide c.write.ensures in
-    subst (λ old. KeepsOthers block c.args.self.now.relation old c.write.new.out) c.loop-row.invariant.out done.others
+    subst (λ old. KeepsOtherWords block c.args.self.now.relation old c.write.new.out) c.loop-row.invariant.out done.others
 
 pub loop-row-preserved : goal.loop-row-preserved
 loop-row-preserved c =

@@ -6,11 +6,11 @@ use Rattle.std.proofs.lemmas.Bool.{cases_Bool}
 use Rattle.std.proofs.lemmas.Bool.Decides.{nat_tests}
 use Rattle.query_block.specs.Blocks.{BlockTree, relation_at}
 use Rattle.plan_tree.specs.Plans.{PlanTree, Scan, IndexScan, Nest, Hash, Merge, IndexLoop, leaves_of, has_leaf}
-use Rattle.plan_tree.specs.Usable.{is_usable}
-use Rattle.plan_tree.specs.Enumerated.{edge_at, crosses, AreApart, Crosses, IsLookUp, IsSubPlan, IsPlan}
-use Rattle.cost_model.specs.Optimal.{readings, crossing, joins, has_index, look_ups, sub_plans, plans_of}
-use Rattle.cost_model.proofs.Members.{IsIn, in-contained, contained-in, in-left, in-right, of-either, in-map, of-map, in-filter, of-filter, in-flat, of-flat, in-range, of-range, any-in, of-any, all-in, of-all}
-use Rattle.cost_model.proofs.Sets.{apart-sets, alone, size_of, size-few, leaf-size, both-sizes}
+use Rattle.plan_tree.specs.Enumerated.{edge_at, has_usable, AreApart, Crosses, IsLookUp, IsSubPlan, IsPlan}
+use Rattle.plan_tree.specs.Sets.{is_between}
+use Rattle.plan_tree.specs.AllPlans.{readings, crossing, joins, has_index, look_ups, sub_plans, plans_of}
+use Rattle.plan_tree.proofs.Members.{IsIn, in-contained, contained-in, in-left, in-right, of-either, in-map, of-map, in-filter, of-filter, in-flat, of-flat, in-range, of-range, any-in, of-any, all-in, of-all}
+use Rattle.plan_tree.proofs.LeafSets.{apart-sets, alone, size_of, size-few, leaf-size, both-sizes}
 
 -- ---- an indexed column is among the indexes
 
@@ -31,20 +31,20 @@ of-readings block relation p below (inr more) =
     let tree = relation_at block.relations relation in
     let found = of-map (IndexScan relation) p _ more in
     let column = found.0 in
-    let kept = of-filter (λ one. list_any (is_usable tree.columns one) tree.filter) column tree.indexes found.1 in
+    let kept = of-filter (has_usable tree) column tree.indexes found.1 in
     let there : IsSubPlan block (IndexScan relation column) =
     record { exists = below; indexed = in-indexed tree.indexes column kept.0; usable = kept.1 } in
     subst (IsSubPlan block) found.2 there
 
 of-crossing : (block : BlockTree) (left right : PlanTree) (edge : ℕ) → IsIn edge (crossing block left right) → Crosses block.edges edge left right
 of-crossing block left right edge is =
-    let found = of-filter (λ one. crosses (edge_at block.edges one) left right) edge (range_with_len 0 (length block.edges)) is in
+    let found = of-filter (λ one. is_between (has_leaf left) (has_leaf right) (edge_at block.edges one)) edge (range_with_len 0 (length block.edges)) is in
     let range = of-range edge 0 (length block.edges) found.0 in
     (omega (arith, range.1), found.1)
 
 in-crossing : (block : BlockTree) (left right : PlanTree) (edge : ℕ) → Crosses block.edges edge left right → IsIn edge (crossing block left right)
 in-crossing block left right edge crossed =
-    in-filter (λ one. crosses (edge_at block.edges one) left right) edge (range_with_len 0 (length block.edges))
+    in-filter (λ one. is_between (has_leaf left) (has_leaf right) (edge_at block.edges one)) edge (range_with_len 0 (length block.edges))
     (in-range edge 0 (length block.edges) (omega arith) (omega (arith, crossed.0))) crossed.1
 
 abbrev by_edge : (left right : PlanTree) → ℕ → List PlanTree
@@ -193,7 +193,7 @@ complete block zero p plan low = absurd (omega (arith, low, deep p))
 complete block (suc depth) (Scan relation) plan low = in-leaves block depth relation (Scan relation) plan (inl refl)
 complete block (suc depth) (IndexScan relation column) plan low =
     let tree = relation_at block.relations relation in
-    let test : ℕ → Bool = λ one. list_any (is_usable tree.columns one) tree.filter in
+    let test : ℕ → Bool = has_usable tree in
     in-leaves block depth relation (IndexScan relation column) plan.exists
     (inr (in-map (IndexScan relation) column (filter test tree.indexes) (in-filter test column tree.indexes (indexed-in tree.indexes column plan.indexed) plan.usable)))
 complete block (suc depth) (Nest left right) plan low =

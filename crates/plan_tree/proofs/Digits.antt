@@ -1,10 +1,11 @@
 -- The number of binary digits.
-use Rattle.std.proofs.Common.{◌≡◌, ℕ, zero, suc, ◌+◌, ◌*◌, ◌^◌, ◌<◌, ◌≤◌, ltb, nat_lt, refl, ap, ◌∙◌, inl, inr, arith}
+use Rattle.std.proofs.Common.{◌≡◌, ℕ, zero, suc, ◌+◌, ◌*◌, ◌^◌, ◌<◌, ◌≤◌, ltb, ap, ◌∙◌, inl, inr, arith}
 use Rattle.std.specs.Prelude.{Bool, true, false}
 use Rattle.std.proofs.lemmas.Bool.{cases_order}
 use Rattle.std.proofs.lemmas.Bool.Decides.{nat_tests}
+use Rattle.std.proofs.lemmas.Nat.{leading_length}
 use Rattle.std.proofs.lemmas.Grind.{pow_more}
-use Rattle.std.proofs.Math.Nat.{pow-le-pow_right}
+use Rattle.std.proofs.Math.Nat.{pow-le-pow_right, lt_of_not-le}
 use Rattle.btree_index.specs.Height.{least_from}
 use Rattle.plan_tree.specs.Work.{bits}
 
@@ -44,15 +45,35 @@ bits-is n digits has =
     let met : ltb n (2 ^ digits) ≡ true = grind (arith, nat_tests, has.below) in
     least-is n 0 digits (λ d. ltb n (2 ^ d)) (omega arith) (omega (arith, few-digits n digits has)) (λ j _. before j) met
 
--- a number of at most 64 digits has that many
-pub bits-few : (n digits : ℕ) → n < 2 ^ 64 → HasDigits n digits → digits ≤ 64
-bits-few n zero few has = omega arith
-bits-few n (suc digits) few has =
-    by (nat_lt 64 (suc digits)) refl
-  where
-    by : (more : Bool) → nat_lt 64 (suc digits) ≡ more → suc digits ≤ 64
-    by false is = grind (arith, nat_tests)
-    by true is =
-        let past : 65 ≤ suc digits = grind (arith, nat_tests) in
-        let least : 2 ^ 65 ≤ 2 ^ suc digits = pow-le-pow_right (omega arith) past in
-        absurd (omega (arith, least, has.above, few))
+-- fewer digits for a smaller number
+pub digits-le : (n m digits more : ℕ) → n ≤ m → HasDigits n digits → HasDigits m more → digits ≤ more
+digits-le n m digits more le has has' =
+    let below : digits < more + 1 = lt_of_not-le (λ past.
+    let least : 2 ^ (more + 1) ≤ 2 ^ digits = pow-le-pow_right (omega arith) past in
+    omega (arith, least, pow_more 2 more, has.above, has'.below, le)) in
+    omega (arith, below)
+
+pub some-digits : (n : ℕ) → (digits : ℕ) × HasDigits n digits
+some-digits n =
+    let found = leading_length n n (below-pow n) in
+    (found.0, record { below = found.2; above = found.3 })
+
+pub bits-le : (n m : ℕ) → n ≤ m → bits n ≤ bits m
+bits-le n m le =
+    let one = some-digits n in
+    let other = some-digits m in
+    omega (arith, bits-is n one.0 one.1, bits-is m other.0 other.1, digits-le n m one.0 other.0 le one.1 other.1)
+
+-- a number below a power of two has no more digits than the exponent
+pub digits-within : (n digits most : ℕ) → n < 2 ^ most → HasDigits n digits → digits ≤ most
+digits-within n digits most few has =
+    let below : digits < most + 1 = lt_of_not-le (λ past.
+    let least : 2 ^ (most + 1) ≤ 2 ^ digits = pow-le-pow_right (omega arith) past in
+    omega (arith, least, pow_more 2 most, has.above, few)) in
+    omega (arith, below)
+
+-- the limit of combinations has 101 digits
+pub bits-few : (n : ℕ) → n ≤ 2 ^ 100 → bits n ≤ 101
+bits-few n few =
+    let found = some-digits n in
+    omega (arith, bits-is n found.0 found.1, digits-within n found.0 101 (omega (arith, few)) found.1)
