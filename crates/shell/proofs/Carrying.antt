@@ -10,7 +10,7 @@ use Rattle.shell.specs.declared.status.Status.TheVariants as status
 use Rattle.shell.specs.declared.refusal.Refusal.{Refusal}
 use Rattle.sql_parse.specs.Trees.{StatementTree}
 use Rattle.shell.specs.Refusal.{line_of}
-use Rattle.shell.specs.Script.{SessionState, Outcome, Prints, Refuses, Answer, Step, outcome, and_then, script_answer, nothing_made, refused_work}
+use Rattle.shell.specs.Script.{SessionState, Outcome, Prints, Refuses, Answer, AsksForFile, Step, outcome, and_then, script_answer, nothing_made, refused_work, left_by, state_after}
 use Rattle.shell.specs.Serve.{IsGivenFor, statements_of_steps}
 use Rattle.shell.specs.Due.{CarriesAll}
 use Rattle.shell.proofs.Beginning.{whole_begins}
@@ -51,6 +51,7 @@ pub record IsCarried (all : List StatementTree) (i : ℕ) (before now : FolderSt
   pub put : Appends had got printed
   pub spent : paid ≡ old + work
   pub whole : (rest : List Step) → script_answer nothing_made (steps ++ rest) ≡ after printed work (script_answer state rest)
+  pub leaves : (rest : List Step) → state_after nothing_made (steps ++ rest) ≡ state_after state rest
 
 pub carried_none : (all : List StatementTree) (before : FolderState) (had : Option (List ℕ)) (old : ℕ) → IsCarried all 0 before before nothing_made had had old old
 carried_none all before had old = record {
@@ -62,6 +63,7 @@ carried_none all before had old = record {
   put = appends_none had;
   spent = omega arith;
   whole = λ rest. after_nothing (script_answer nothing_made rest);
+  leaves = λ rest. refl;
 }
 
 given_on : (before mid now : FolderState) (steps : List Step) → mid.misses ≤ now.misses → AreGiven before mid steps → AreGiven before now steps
@@ -96,11 +98,13 @@ abbrev pub cost_of : Outcome → ℕ
 cost_of (Prints text work state) = work
 cost_of (Refuses why) = refused_work why
 
--- a run that ends at a statement: refused where that is due, with the whole line, and else for another cause
-pub record EndsAt (due : Outcome) (ended : Status) (had got : Option (List ℕ)) (old new : ℕ) : Type 0 where
+-- a run that ends at a statement: refused where that is due, with the whole line, and else for another cause; by a fault of
+-- reading where it asks for a file, and then nothing was put
+pub record EndsAt (due : Outcome) (asks : Type 0) (ended : Status) (had got : Option (List ℕ)) (old new : ℕ) : Type 0 where
   pub refused : ended ≡ status.Refused → ((why : Refusal) × (due ≡ Refuses why)) × Appends had got (text_of due)
   pub paid : ended ≡ status.Refused → new ≡ old + cost_of due
   pub not_done : ended ≡ status.Done → ⊥
+  pub read_fault : ended ≡ status.ReadFault → asks × (got ≡ had)
   pub beginning : (n : ℕ) × Appends had got (take n (text_of due))
 
 refused_whole : (due : Outcome) (go : SessionState → Answer) → ((why : Refusal) × (due ≡ Refuses why)) → and_then due go ≡ record { text = text_of due; work = cost_of due; refused = true }
@@ -121,6 +125,16 @@ nothing_after text work =
     let same : text ++ [] ≡ text = append-nil text in
     let none : work + 0 ≡ work = omega arith in
     λ i. record { text = same i; work = none i; refused = false }
+
+-- the answer to the steps so far, and the state that they leave
+answer_so_far : (all : List StatementTree) (i : ℕ) (before now : FolderState) (state : SessionState) (had got : Option (List ℕ)) (old paid : ℕ) (carried : IsCarried all i before now state had got old paid)
+    → script_answer nothing_made carried.steps ≡ record { text = carried.printed; work = carried.work; refused = false }
+answer_so_far all i before now state had got old paid carried =
+    ap (script_answer nothing_made) (sym (append-nil carried.steps)) ∙ carried.whole [] ∙ nothing_after carried.printed carried.work
+
+state_so_far : (all : List StatementTree) (i : ℕ) (before now : FolderState) (state : SessionState) (had got : Option (List ℕ)) (old paid : ℕ) (carried : IsCarried all i before now state had got old paid)
+    → state_after nothing_made carried.steps ≡ Some state
+state_so_far all i before now state had got old paid carried = ap (state_after nothing_made) (sym (append-nil carried.steps)) ∙ carried.leaves []
 
 module _ (all : List StatementTree) (i : ℕ) (before mid now : FolderState) (state next : SessionState) (statement : StatementTree) (file : Option (List ℕ)) (had got : Option (List ℕ)) (old paid : ℕ)
     (below : i < length all) (is : get_or all i statement ≡ statement) (same : mid.files ≡ before.files) (first : before.misses ≤ mid.misses) (last : mid.misses ≤ now.misses)
@@ -147,6 +161,9 @@ module _ (all : List StatementTree) (i : ℕ) (before mid now : FolderState) (st
         ap (script_answer nothing_made) (append_assoc carried.steps (here ∷ []) rest) ∙ from_here rest
         ∙ ap (λ o. after carried.printed carried.work (and_then o (λ s. script_answer s rest))) prints
         ∙ after_after carried.printed text carried.work work (script_answer next rest);
+    leaves = λ rest.
+        ap (state_after nothing_made) (append_assoc carried.steps (here ∷ []) rest) ∙ carried.leaves (here ∷ rest)
+        ∙ ap (λ o. left_by o (λ s. state_after s rest)) prints;
   }
 
   -- the statements after this one, as steps, and the whole answer
@@ -166,7 +183,7 @@ module _ (all : List StatementTree) (i : ℕ) (before mid now : FolderState) (st
       ∙ take-append-drop (i + 1) all
 
   -- a run that ends at this statement
-  pub carried_to : (new : Option (List ℕ)) (due : ℕ) (ended : Status) → EndsAt (outcome state statement file) ended got new paid due → CarriesAll all before now ended had new old due
+  pub carried_to : (new : Option (List ℕ)) (due : ℕ) (ended : Status) → EndsAt (outcome state statement file) (AsksForFile state statement) ended got new paid due → CarriesAll all before now ended had new old due
   carried_to new due ended ends =
       let what = outcome state statement file in
       let go : SessionState → Answer = λ s. script_answer s others.0 in
@@ -188,6 +205,16 @@ module _ (all : List StatementTree) (i : ℕ) (before mid now : FolderState) (st
             rw (text, cut ends.beginning.0 carried.printed (text_of what) more.0) (appends_on had got new carried.printed (take ends.beginning.0 (text_of what)) carried.put ends.beginning.1),
           );
         };
+        read_fault = λ e.
+            let read = ends.read_fault e in
+            record {
+              earlier = carried.steps;
+              step = here;
+              later = others.0;
+              are = refl;
+              put = rw (answer_so_far all i before mid state had got old paid carried, read.1) carried.put;
+              asks = rw (state_so_far all i before mid state had got old paid carried) read.0;
+            };
         pays = record {
           done = λ e. absurd (ends.not_done e);
           refused = λ e.
@@ -201,8 +228,7 @@ module _ (all : List StatementTree) (i : ℕ) (before mid now : FolderState) (st
 pub carried_all : (all : List StatementTree) (i : ℕ) (before now : FolderState) (state : SessionState) (had got : Option (List ℕ)) (old paid : ℕ) → length all ≤ i
     → IsCarried all i before now state had got old paid → CarriesAll all before now status.Done had got old paid
 carried_all all i before now state had got old paid past carried =
-    let is : script_answer nothing_made carried.steps ≡ record { text = carried.printed; work = carried.work; refused = false } =
-    ap (script_answer nothing_made) (sym (append-nil carried.steps)) ∙ carried.whole [] ∙ nothing_after carried.printed carried.work in
+    let is = answer_so_far all i before now state had got old paid carried in
     let whole : Appends had got (script_answer nothing_made carried.steps).text = rw is carried.put in
     record {
       steps = carried.steps;
@@ -213,6 +239,7 @@ carried_all all i before now state had got old paid past carried =
         refused = λ ended. cc ended;
         beginning = whole_begins had got (script_answer nothing_made carried.steps).text whole;
       };
+      read_fault = λ ended. cc ended;
       pays = record {
         done = λ _. let work : (script_answer nothing_made carried.steps).work ≡ carried.work = ap (λ (a : Answer). a.work) is in omega (arith, work, carried.spent);
         refused = λ ended. cc ended;

@@ -11,12 +11,13 @@ use Rattle.shell.specs.declared.stop.Stop.{Stop}
 use Rattle.shell.specs.declared.stop.Stop.TheVariants as stop
 use Rattle.shell.specs.declared.refusal.Refusal.{Refusal}
 use Rattle.shell.specs.Refusal.{line_of}
-use Rattle.shell.specs.Script.{SessionState, Outcome, Prints, Refuses, outcome, refused_work}
+use Rattle.shell.specs.Script.{SessionState, Outcome, Prints, Refuses, AsksForFile, outcome, refused_work}
 use Rattle.outside_io.specs.Files.{FolderState, OnlyReads}
 use Rattle.sql_parse.specs.declared.tree.Statement.{Statement}
 use Rattle.sql_parse.specs.Trees.{StatementTree, statement_tree}
 use Rattle.shell.specs.Serve.{IsGivenFor}
 use Rattle.shell.specs.Due.{IsCarriedOut, Puts, CarriesAll}
+use Rattle.shell.proofs.Beginning.{IsUnput, IsRefused, unput_not_read, refused_not_done, refused_not_read}
 use Rattle.shell.proofs.Carrying.{EndsAt, IsCarried, appends_none, carried_on, carried_to}
 
 -- the run ended for a cause that isn't the script's
@@ -34,39 +35,36 @@ not_refused ended (inr (inl fault)) is = cc (fault, is)
 not_refused ended (inr (inr memory)) is = cc (memory, is)
 
 -- the text that was due was put in part
-pub ends_in_part : (due : Outcome) (text : List ℕ) (work : ℕ) (next : SessionState) (ended : Status) (had got : Option (List ℕ)) (old new : ℕ) → EndsElsewhere ended → due ≡ Prints text work next
-    → ((n : ℕ) × Appends had got (take n text)) → EndsAt due ended had got old new
-ends_in_part due text work next ended had got old new elsewhere is part = record {
-  refused = λ e. absurd (not_refused ended elsewhere e);
-  paid = λ e. absurd (not_refused ended elsewhere e);
-  not_done = not_done ended elsewhere;
+pub ends_in_part : (due : Outcome) (asks : Type 0) (text : List ℕ) (work : ℕ) (next : SessionState) (ended : Status) (had got : Option (List ℕ)) (old new : ℕ) → IsUnput ended → due ≡ Prints text work next
+    → ((n : ℕ) × Appends had got (take n text)) → EndsAt due asks ended had got old new
+ends_in_part due asks text work next ended had got old new unput is part = record {
+  refused = λ e. absurd (not_refused ended (inr unput) e);
+  paid = λ e. absurd (not_refused ended (inr unput) e);
+  not_done = not_done ended (inr unput);
+  read_fault = λ e. absurd (unput_not_read ended unput e);
   beginning = (part.0, rw is part.1);
 }
 
 -- nothing was put
-pub ends_with_nothing : (due : Outcome) (ended : Status) (had : Option (List ℕ)) (old new : ℕ) → EndsElsewhere ended → EndsAt due ended had had old new
-ends_with_nothing due ended had old new elsewhere = record {
+pub ends_with_nothing : (due : Outcome) (asks : Type 0) (ended : Status) (had : Option (List ℕ)) (old new : ℕ) → EndsElsewhere ended → (ended ≡ status.ReadFault → asks) → EndsAt due asks ended had had old new
+ends_with_nothing due asks ended had old new elsewhere fault = record {
   refused = λ e. absurd (not_refused ended elsewhere e);
   paid = λ e. absurd (not_refused ended elsewhere e);
   not_done = not_done ended elsewhere;
+  read_fault = λ e. (fault e, refl);
   beginning = (0, appends_none had);
 }
 
 -- the line of the refusal that is due was put, whole or in part
-pub ends_refused : (due : Outcome) (why : Refusal) (ended : Status) (had got : Option (List ℕ)) (old new : ℕ) → due ≡ Refuses why → new ≡ old + refused_work why
-    → (ended ≡ status.Refused → Appends had got (line_of why)) → ((n : ℕ) × Appends had got (take n (line_of why)))
-    → (ended ≡ status.Refused) ⊎ ((ended ≡ status.WriteFault) ⊎ (ended ≡ status.NoMemory)) → EndsAt due ended had got old new
-ends_refused due why ended had got old new is paid whole part kinds = record {
+pub ends_refused : (due : Outcome) (asks : Type 0) (why : Refusal) (ended : Status) (had got : Option (List ℕ)) (old new : ℕ) → due ≡ Refuses why → new ≡ old + refused_work why
+    → (ended ≡ status.Refused → Appends had got (line_of why)) → ((n : ℕ) × Appends had got (take n (line_of why))) → IsRefused ended → EndsAt due asks ended had got old new
+ends_refused due asks why ended had got old new is paid whole part kinds = record {
   refused = λ e. ((why, is), rw is (whole e));
   paid = λ _. rw is paid;
-  not_done = not_this kinds;
+  not_done = refused_not_done ended kinds;
+  read_fault = λ e. absurd (refused_not_read ended kinds e);
   beginning = (part.0, rw is part.1);
 }
-  where
-    not_this : (ended ≡ status.Refused) ⊎ ((ended ≡ status.WriteFault) ⊎ (ended ≡ status.NoMemory)) → ended ≡ status.Done → ⊥
-    not_this (inl refused) e = cc (refused, e)
-    not_this (inr (inl fault)) e = cc (fault, e)
-    not_this (inr (inr memory)) e = cc (memory, e)
 
 -- the tree of the statement in this place
 tree_at : (statements : List Statement) (i : ℕ) (statement : Statement) → statement ≡ get_or statements i statement → get_or (map statement_tree statements) i (statement_tree statement) ≡ statement_tree statement
@@ -84,28 +82,31 @@ module _ (statements : List Statement) (i : ℕ) (before mid now : FolderState) 
   inside : i < length all
   inside = omega (arith, below, length-map statements statement_tree)
 
-  ends_at : (file : Option (List ℕ)) → IsGivenFor mid now tree file → (ended : Status) (new : Option (List ℕ)) → EndsAt (outcome state tree file) ended got new paid due
+  abbrev asks : Type 0
+  asks = AsksForFile state tree
+
+  ends_at : (file : Option (List ℕ)) → IsGivenFor mid now tree file → (ended : Status) (new : Option (List ℕ)) → EndsAt (outcome state tree file) asks ended got new paid due
       → CarriesAll all before now ended had new old due
   ends_at file given ended new ends =
       carried_to all i before mid now state next tree file had got old paid inside (tree_at statements i statement is) first.files first.misses.never_falls last.misses.never_falls carried given new due ended ends
 
   -- the statement was refused
   pub refused_at : (why : Refusal) (ended : Status) (new : Option (List ℕ)) → IsCarriedOut tree mid now state next paid due (Err (stop.Refused why))
-      → (ended ≡ status.Refused → Appends got new (line_of why)) → ((n : ℕ) × Appends got new (take n (line_of why)))
-      → (ended ≡ status.Refused) ⊎ ((ended ≡ status.WriteFault) ⊎ (ended ≡ status.NoMemory)) → CarriesAll all before now ended had new old due
+      → (ended ≡ status.Refused → Appends got new (line_of why)) → ((n : ℕ) × Appends got new (take n (line_of why))) → IsRefused ended → CarriesAll all before now ended had new old due
   refused_at why ended new out whole part kinds =
-      ends_at out.file out.given ended new (ends_refused (outcome state tree out.file) why ended got new paid due out.returns.0 out.returns.1 whole part kinds)
+      ends_at out.file out.given ended new (ends_refused (outcome state tree out.file) asks why ended got new paid due out.returns.0 out.returns.1 whole part kinds)
 
   -- the statement stopped for another cause
-  pub stopped_at : (result : Result (Vec ℕ Global) Stop) (ended : Status) → IsCarriedOut tree mid now state next paid due result → EndsElsewhere ended → CarriesAll all before now ended had got old due
-  stopped_at result ended out elsewhere =
-      ends_at out.file out.given ended got (ends_with_nothing (outcome state tree out.file) ended got paid due elsewhere)
+  pub stopped_at : (result : Result (Vec ℕ Global) Stop) (ended : Status) → IsCarriedOut tree mid now state next paid due result → EndsElsewhere ended → (ended ≡ status.ReadFault → asks)
+      → CarriesAll all before now ended had got old due
+  stopped_at result ended out elsewhere fault =
+      ends_at out.file out.given ended got (ends_with_nothing (outcome state tree out.file) asks ended got paid due elsewhere fault)
 
   -- the statement's text wasn't put whole
-  pub unput_at : (text : Vec ℕ Global) (ended : Status) (new : Option (List ℕ)) → IsCarriedOut tree mid now state next paid due (Ok text) → EndsElsewhere ended → ((n : ℕ) × Appends got new (take n text.items))
+  pub unput_at : (text : Vec ℕ Global) (ended : Status) (new : Option (List ℕ)) → IsCarriedOut tree mid now state next paid due (Ok text) → IsUnput ended → ((n : ℕ) × Appends got new (take n text.items))
       → CarriesAll all before now ended had new old due
-  unput_at text ended new out elsewhere part =
-      ends_at out.file out.given ended new (ends_in_part (outcome state tree out.file) text.items out.returns.0 next ended got new paid due elsewhere out.returns.1 part)
+  unput_at text ended new out unput part =
+      ends_at out.file out.given ended new (ends_in_part (outcome state tree out.file) asks text.items out.returns.0 next ended got new paid due unput out.returns.1 part)
 
   -- the statement's text was put
   pub put_at : (text : Vec ℕ Global) (new : Option (List ℕ)) → IsCarriedOut tree mid now state next paid due (Ok text) → Appends got new text.items → IsCarried all (i + 1) before now next had new old due
@@ -115,10 +116,10 @@ module _ (statements : List Statement) (i : ℕ) (before mid now : FolderState) 
   -- the run ended there
   pub ended_at : (T : Type 0) (returned : Result (Vec ℕ Global) Stop) (ended : Status) (new : Option (List ℕ)) → IsCarriedOut tree mid now state next paid due returned
       → Puts {T = T} returned (Err ended) got new → CarriesAll all before now ended had new old due
-  ended_at T (Ok text) ended new out puts = unput_at text ended new out (inr puts.0) puts.1
+  ended_at T (Ok text) ended new out puts = unput_at text ended new out puts.0 puts.1
   ended_at T (Err (stop.Refused why)) ended new out puts = refused_at why ended new out puts.0 puts.1 puts.2
-  ended_at T (Err stop.ReadFault) ended new out puts = rw puts.1 (stopped_at (Err stop.ReadFault) ended out (inl puts.0))
-  ended_at T (Err stop.NoMemory) ended new out puts = rw puts.1 (stopped_at (Err stop.NoMemory) ended out (inr (inr puts.0)))
+  ended_at T (Err stop.ReadFault) ended new out puts = rw puts.1 (stopped_at (Err stop.ReadFault) ended out (inl puts.0) (λ _. out.read_fault refl))
+  ended_at T (Err stop.NoMemory) ended new out puts = rw puts.1 (stopped_at (Err stop.NoMemory) ended out (inr (inr puts.0)) (λ e. absurd (unput_not_read ended (inr puts.0) e)))
 
   -- the run goes on behind it
   pub on_at : {T : Type 0} (returned : Result (Vec ℕ Global) Stop) (done : T) (new : Option (List ℕ)) → IsCarriedOut tree mid now state next paid due returned

@@ -100,20 +100,20 @@ reads_stopped name old new why any =
     record { file = there.0; given = there.1; fits = λ state number. any (load_file state number name there.0) }
 
 -- the file isn't read where the table isn't there
-pub loads_nothing : (load : LoadDef) (old new : FolderState) (state next : SessionState) (why : Stop) → table_number state load.table ≡ None → StopsAt (Refuses (refusal.NoTable load.table)) why → LoadsFile load old new state next (Err why)
-loads_nothing load old new state next why none stops =
+pub loads_nothing : (load : LoadDef) (old new : FolderState) (state next : SessionState) (why : Stop) → table_number state load.table ≡ None → StopsAt (Refuses (refusal.NoTable load.table)) why → (why ≡ stop.ReadFault → ⊥) → LoadsFile load old new state next (Err why)
+loads_nothing load old new state next why none stops no_fault =
     let there = any_given old.files old.misses new.misses load.file in
-    record { file = there.0; given = there.1; returns = rw none stops }
+    record { file = there.0; given = there.1; returns = rw none stops; read_fault = λ is. absurd (no_fault (cc is)) }
 
 -- the file couldn't be had
 pub loads_unread : (load : LoadDef) (old new : FolderState) (state next : SessionState) (number : ℕ) (why : Stop) → table_number state load.table ≡ Some number
     → ReadsFile load.file old new (Err why) → LoadsFile load old new state next (Err why)
 loads_unread load old new state next number why there read =
-    record { file = read.file; given = read.given; returns = rw there (read.fits state number) }
+    record { file = read.file; given = read.given; returns = rw there (read.fits state number); read_fault = λ _. rw there refl }
 
 -- the file was read, and this came of it
 pub loads_bytes : (load : LoadDef) (old new : FolderState) (state next : SessionState) (number : ℕ) (bytes : Vec ℕ Global) (result : Result (Vec ℕ Global) Stop) → table_number state load.table ≡ Some number
     → ReadsFile load.file old new (Ok bytes) → ReturnsFree (with_loaded state number (load_due state number bytes.items)) result next → LoadsFile load old new state next result
 loads_bytes load old new state next number bytes result there read returns =
     let within : nat_le (length bytes.items) max_file_bytes ≡ true = le-leb _ _ read.fits.1 in
-    record { file = read.file; given = read.given; returns = rw (there, read.fits.0, within) returns }
+    record { file = read.file; given = read.given; returns = rw (there, read.fits.0, within) returns; read_fault = λ _. rw there refl }

@@ -4,7 +4,7 @@ use Rattle.std.specs.List.{list_any}
 use Rattle.std.proofs.lemmas.Bool.{cases_lt, ne_eqb, eq-eqb}
 use Rattle.std.proofs.lemmas.List.Folds.{list_any-append}
 use Rattle.query_block.specs.Blocks.{BlockTree}
-use Rattle.plan_tree.specs.Plans.{PlanTree, Scan, Nest, leaves_of, has_leaf}
+use Rattle.plan_tree.specs.Plans.{Scan, Nest, leaves_of, has_leaf}
 use Rattle.plan_tree.specs.Enumerated.{IsSubPlan, IsPlan}
 use Rattle.shell.specs.PlainPlan.{nested_plan, plain_plan}
 

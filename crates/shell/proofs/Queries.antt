@@ -1,6 +1,6 @@
 -- What is due to a query, by what binding says of it.
 use Rattle.std.proofs.Common.{◌≡◌, ◌≢◌, ℕ, ◌+◌, ◌<◌, ◌≤◌, List, length, true, false, Some, None, refl, sym, ap, subst, ◌∙◌, arith}
-use Rattle.std.specs.Prelude.{nat_le, if◌then◌else◌, Option, Result, Ok, Err, Vec, IsErrAnd}
+use Rattle.std.specs.Prelude.{nat_le, Option, Result, Ok, Err, Vec, IsErrAnd}
 use Rattle.std.specs.declared.alloc.Global.{Global}
 use borrow.Author.Tests.{le-leb, lt-leb}
 use Rattle.query_block.specs.Blocks.{BlockTree}

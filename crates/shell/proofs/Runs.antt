@@ -1,9 +1,10 @@
 -- What is said of a whole run of the program.
-use Rattle.std.proofs.Common.{◌≡◌, ◌⊎◌, inl, inr, ℕ, ◌≤◌, List, [], ◌∷◌, length, take, drop, Option, Some, None, refl, sym, ap, ◌∙◌, subst, arith}
+use Rattle.std.proofs.Common.{◌≡◌, inl, inr, ℕ, ◌≤◌, List, [], ◌∷◌, length, take, drop, Option, Some, None, refl, sym, ap, ◌∙◌, subst, arith}
 use Rattle.std.specs.Prelude.{IfSome, IsSome, Result, Ok, Err, IfOk}
 use Rattle.std.specs.Io.KnownBytes.{Appends}
 use Rattle.std.proofs.lemmas.List.{drop_all, length-take}
 use Rattle.std.proofs.lemmas.List.Elements.{All-head, All-tail}
+use Rattle.outside_io.specs.Count.{Rose}
 use Rattle.outside_io.specs.Files.{FolderState}
 use Rattle.sql_values.specs.Limits.{max_script_bytes}
 use Rattle.sql_parse.specs.Trees.{StatementTree, Load}
@@ -12,9 +13,10 @@ use Rattle.shell.specs.declared.status.Status.TheVariants as status
 use Rattle.shell.specs.declared.refusal.Refusal.{Refusal}
 use Rattle.shell.specs.Refusal.{line_of}
 use Rattle.shell.specs.Script.{Answer, Step, answer_of}
-use Rattle.shell.specs.Serve.{IsScript, IsGivenFor, IsAnswer, Serves, IsDecided, statements_of_steps, statements_read}
+use Rattle.shell.specs.Serve.{IsScript, IsGivenFor, IsAnswer, Serves, IsDecided, HasReadCause, statements_of_steps, statements_read}
 use Rattle.shell.specs.Due.{CarriesAll}
 use Rattle.shell.specs.Source.{TakesAtMost}
+use Rattle.shell.proofs.Beginning.{IsRefused, refused_not_done, refused_not_read}
 use Rattle.shell.proofs.Carrying.{appends_none}
 use Rattle.shell.proofs.Ends.{EndsElsewhere, not_done, not_refused}
 use Rattle.shell.proofs.Given.{AreGiven, any_steps, one_file}
@@ -27,10 +29,11 @@ answer_for script before after (Ok statements) reads =
     let steps = any_steps before after statements in
     (answer_of (Ok steps.0), record { steps = Ok steps.0; reads = subst (λ (l : List StatementTree). IsScript script (Ok l)) (sym steps.1) reads; given = steps.2; is = refl })
 
-pub serves_nothing : (script : List ℕ) (before after : FolderState) (ended : Status) (had : Option (List ℕ)) → EndsElsewhere ended → Serves script before after ended had had
-serves_nothing script before after ended had elsewhere =
+pub serves_nothing : (source_failed : Type 0) (script : List ℕ) (folder : FolderState) (ended : Status) (had : Option (List ℕ)) → EndsElsewhere ended → (ended ≡ status.ReadFault → source_failed)
+    → Serves source_failed script folder folder ended had had
+serves_nothing source_failed script folder ended had elsewhere fault =
     let read = some_reading script in
-    let due = answer_for script before after read.0 read.1 in
+    let due = answer_for script folder folder read.0 read.1 in
     record {
       answer = due.0;
       due = due.1;
@@ -39,50 +42,54 @@ serves_nothing script before after ended had elsewhere =
         refused = λ is. absurd (not_refused ended elsewhere is);
         beginning = (0, appends_none had);
       };
+      read_fault = λ is. inl (fault is, refl, refl);
     }
 
-pub known_nothing : (source : Option (List ℕ)) (before after : FolderState) (ended : Status) (had : Option (List ℕ)) → EndsElsewhere ended → IfSome source (λ script. Serves script before after ended had had)
-known_nothing None before after ended had elsewhere = tt
-known_nothing (Some script) before after ended had elsewhere = serves_nothing script before after ended had elsewhere
+pub known_nothing : (source_failed : Type 0) (source : Option (List ℕ)) (folder : FolderState) (ended : Status) (had : Option (List ℕ)) → EndsElsewhere ended → (ended ≡ status.ReadFault → source_failed)
+    → IfSome source (λ script. Serves source_failed script folder folder ended had had)
+known_nothing source_failed None folder ended had elsewhere fault = tt
+known_nothing source_failed (Some script) folder ended had elsewhere fault = serves_nothing source_failed script folder ended had elsewhere fault
 
 -- statements that were carried out are those of the script
 pub serves_statements : (script : List ℕ) (statements : List StatementTree) (before after : FolderState) (ended : Status) (had got : Option (List ℕ)) (old new : ℕ) → IsScript script (Ok statements)
-    → CarriesAll statements before after ended had got old new → Serves script before after ended had got
-serves_statements script statements before after ended had got old new reads carried = record {
+    → CarriesAll statements before after ended had got old new → (ended ≡ status.ReadFault → Rose before.read_faults after.read_faults) → Serves ⊥ script before after ended had got
+serves_statements script statements before after ended had got old new reads carried rose = record {
   answer = answer_of (Ok carried.steps);
   due = record { steps = Ok carried.steps; reads = subst (λ (l : List StatementTree). IsScript script (Ok l)) (sym carried.are) reads; given = carried.given; is = refl };
   carries = carried.carries;
+  read_fault = λ is. inr (rose is, carried.read_fault is);
 }
 
 -- the line of a script that is refused whole
 pub serves_refusal : (script : List ℕ) (why : Refusal) (before after : FolderState) (ended : Status) (had got : Option (List ℕ)) → IsScript script (Err why)
-    → (ended ≡ status.Refused → Appends had got (line_of why)) → ((n : ℕ) × Appends had got (take n (line_of why)))
-    → (ended ≡ status.Refused) ⊎ ((ended ≡ status.WriteFault) ⊎ (ended ≡ status.NoMemory)) → Serves script before after ended had got
+    → (ended ≡ status.Refused → Appends had got (line_of why)) → ((n : ℕ) × Appends had got (take n (line_of why))) → IsRefused ended → Serves ⊥ script before after ended had got
 serves_refusal script why before after ended had got reads whole part kinds = record {
   answer = answer_of (Err why);
   due = record { steps = Err why; reads = reads; given = tt; is = refl };
   carries = record {
-    done = λ is. absurd (not_this kinds is);
+    done = λ is. absurd (refused_not_done ended kinds is);
     refused = λ is. (refl, whole is);
     beginning = part;
   };
+  read_fault = λ is. absurd (refused_not_read ended kinds is);
 }
-  where
-    not_this : (ended ≡ status.Refused) ⊎ ((ended ≡ status.WriteFault) ⊎ (ended ≡ status.NoMemory)) → ended ≡ status.Done → ⊥
-    not_this (inl refused) e = cc (refused, e)
-    not_this (inr (inl fault)) e = cc (fault, e)
-    not_this (inr (inr memory)) e = cc (memory, e)
+
+-- what caused a fault where the source didn't fail
+from_folder : (source_failed : Type 0) (steps : Result (List Step) Refusal) (before after : FolderState) (had got : Option (List ℕ)) → HasReadCause ⊥ steps before after had got → HasReadCause source_failed steps before after had got
+from_folder source_failed steps before after had got (inl none) = absurd none.0
+from_folder source_failed steps before after had got (inr read) = inr read
 
 -- a run over what was read is a run over the whole
-pub known_whole : (source : Option (List ℕ)) (before after : FolderState) (bytes : List ℕ) (ended : Status) (had got : Option (List ℕ)) → IfSome source (λ left. bytes ≡ take enough left)
-    → Serves bytes before after ended had got → IfSome source (λ script. Serves script before after ended had got)
-known_whole None before after bytes ended had got read serves = tt
-known_whole (Some left) before after bytes ended had got read serves =
-    let on = subst (λ (l : List ℕ). Serves l before after ended had got) read serves in
+pub known_whole : (source_failed : Type 0) (source : Option (List ℕ)) (before after : FolderState) (bytes : List ℕ) (ended : Status) (had got : Option (List ℕ)) → IfSome source (λ left. bytes ≡ take enough left)
+    → Serves ⊥ bytes before after ended had got → IfSome source (λ script. Serves source_failed script before after ended had got)
+known_whole source_failed None before after bytes ended had got read serves = tt
+known_whole source_failed (Some left) before after bytes ended had got read serves =
+    let on = subst (λ (l : List ℕ). Serves ⊥ l before after ended had got) read serves in
     record {
       answer = on.answer;
       due = record { steps = on.due.steps; reads = reads_whole left (statements_read on.due.steps) on.due.reads; given = on.due.given; is = on.due.is };
       carries = on.carries;
+      read_fault = λ is. from_folder source_failed on.due.steps before after had got (on.read_fault is);
     }
 
 -- a folder isn't read for a script that is refused whole
@@ -112,20 +119,20 @@ pub known_read : (source now : Option (List ℕ)) (bytes : List ℕ) → IfSome 
 known_read None now bytes read = tt
 known_read (Some left) now bytes read = read.0
 
-decided_by : (script : List ℕ) (before after : FolderState) (ended : Status) (had got : Option (List ℕ)) → (ended ≡ status.BadWords → ⊥) → (ended ≡ status.ReadFault → ⊥) → (ended ≡ status.WriteFault → ⊥)
-    → Serves script before after ended had got → IsDecided script before after ended
-decided_by script before after status.Done had got words reads writes serves = record { answer = serves.answer; due = serves.due; ends = inl (rw (serves.carries.done refl).0 refl) }
-decided_by script before after status.Refused had got words reads writes serves = record { answer = serves.answer; due = serves.due; ends = inl (rw (serves.carries.refused refl).0 refl) }
-decided_by script before after status.BadWords had got words reads writes serves = absurd (words refl)
-decided_by script before after status.ReadFault had got words reads writes serves = absurd (reads refl)
-decided_by script before after status.WriteFault had got words reads writes serves = absurd (writes refl)
-decided_by script before after status.NoMemory had got words reads writes serves = record { answer = serves.answer; due = serves.due; ends = inr refl }
+decided_by : (source_failed : Type 0) (script : List ℕ) (before after : FolderState) (ended : Status) (had got : Option (List ℕ)) → (ended ≡ status.BadWords → ⊥) → (ended ≡ status.ReadFault → ⊥) → (ended ≡ status.WriteFault → ⊥)
+    → Serves source_failed script before after ended had got → IsDecided script before after ended
+decided_by source_failed script before after status.Done had got words reads writes serves = record { answer = serves.answer; due = serves.due; ends = inl (rw (serves.carries.done refl).0 refl) }
+decided_by source_failed script before after status.Refused had got words reads writes serves = record { answer = serves.answer; due = serves.due; ends = inl (rw (serves.carries.refused refl).0 refl) }
+decided_by source_failed script before after status.BadWords had got words reads writes serves = absurd (words refl)
+decided_by source_failed script before after status.ReadFault had got words reads writes serves = absurd (reads refl)
+decided_by source_failed script before after status.WriteFault had got words reads writes serves = absurd (writes refl)
+decided_by source_failed script before after status.NoMemory had got words reads writes serves = record { answer = serves.answer; due = serves.due; ends = inr refl }
 
 -- a run that met no fault ends as the script does
-pub known_decided : (source : Option (List ℕ)) (before after : FolderState) (ended : Status) (had got : Option (List ℕ)) → (ended ≡ status.BadWords → ⊥) → (ended ≡ status.ReadFault → ⊥) → (ended ≡ status.WriteFault → ⊥)
-    → IfSome source (λ script. Serves script before after ended had got) → IfSome source (λ script. IsDecided script before after ended)
-known_decided None before after ended had got words reads writes serves = tt
-known_decided (Some script) before after ended had got words reads writes serves = decided_by script before after ended had got words reads writes serves
+pub known_decided : (source_failed : Type 0) (source : Option (List ℕ)) (before after : FolderState) (ended : Status) (had got : Option (List ℕ)) → (ended ≡ status.BadWords → ⊥) → (ended ≡ status.ReadFault → ⊥) → (ended ≡ status.WriteFault → ⊥)
+    → IfSome source (λ script. Serves source_failed script before after ended had got) → IfSome source (λ script. IsDecided script before after ended)
+known_decided source_failed None before after ended had got words reads writes serves = tt
+known_decided source_failed (Some script) before after ended had got words reads writes serves = decided_by source_failed script before after ended had got words reads writes serves
 
 one_file_for : (old new other : FolderState) (statement : StatementTree) (a b : Option (List ℕ)) → IsSome old.files → IsGivenFor old new statement a → IsGivenFor old other statement b → a ≡ b
 one_file_for old new other (Load load) a b known first second = one_file old.files old.misses new.misses other.misses load.file a b known first second

@@ -1,5 +1,5 @@
 -- What statements return and do, held against what is due to them.
-use Rattle.std.specs.Prelude.{◌≡◌, ◌⊎◌, ℕ, ◌+◌, ⊤, take, All, Result, Ok, Err, Vec, List, Option, Some, length, ◌≤◌}
+use Rattle.std.specs.Prelude.{◌≡◌, ◌⊎◌, ℕ, ◌+◌, ⊤, take, All, IsErrOf, Result, Ok, Err, Vec, List, Option, Some, length, ◌≤◌}
 use Rattle.std.specs.declared.alloc.Global.{Global}
 use Rattle.std.specs.Io.KnownBytes.{Appends}
 use Rattle.sql_values.specs.Limits.{max_file_bytes}
@@ -11,10 +11,10 @@ use Rattle.shell.specs.declared.script.ScriptFault.TheVariants as script_fault
 use Rattle.shell.specs.declared.status.Status.{Status}
 use Rattle.shell.specs.declared.status.Status.TheVariants as status
 use Rattle.sql_parse.specs.declared.tree.LoadDef.{LoadDef}
-use Rattle.sql_parse.specs.Trees.{StatementTree}
+use Rattle.sql_parse.specs.Trees.{StatementTree, Load}
 use Rattle.shell.specs.Refusal.{line_of}
-use Rattle.shell.specs.Script.{Answer, Outcome, Prints, Refuses, SessionState, Step, at_table, load_file, outcome, refused_work, script_answer, nothing_made}
-use Rattle.shell.specs.Serve.{Carries, IsGiven, IsGivenFor, IsScript, statements_of_steps}
+use Rattle.shell.specs.Script.{Answer, AsksForFile, Outcome, Prints, Refuses, SessionState, Step, at_table, load_file, outcome, refused_work, script_answer, nothing_made}
+use Rattle.shell.specs.Serve.{Carries, EndsAtRead, IsGiven, IsGivenFor, IsScript, statements_of_steps}
 use Rattle.shell.specs.Stop.{StopsAt}
 
 -- a refusal of the whole script is the one that is due; out of memory fits any script
@@ -44,6 +44,7 @@ pub record LoadsFile (load : LoadDef) (before after : FolderState) (state next :
   pub file : Option (List ℕ)
   pub given : IsGiven before after load.file file
   pub returns : ReturnsFree (at_table state load.table (λ number. load_file state number load.file file)) result next
+  pub read_fault : IsErrOf result stop.ReadFault → AsksForFile state (Load load)
 
 -- what is returned is what is due: a text, whose work was paid, and the state after it; or a refusal, for which the work
 -- that it prints was paid
@@ -53,11 +54,13 @@ ReturnsDue due (Err (stop.Refused why)) state old new = (due ≡ Refuses why) ×
 ReturnsDue due (Err stop.ReadFault) state old new = ⊤
 ReturnsDue due (Err stop.NoMemory) state old new = ⊤
 
--- a statement returned what is due to it with the file that the folder gave for it
+-- a statement returned what is due to it with the file that the folder gave for it, and a fault of reading only where it asks
+-- for one
 pub record IsCarriedOut (statement : StatementTree) (before after : FolderState) (state next : SessionState) (old new : ℕ) (result : Result (Vec ℕ Global) Stop) : Type 0 where
   pub file : Option (List ℕ)
   pub given : IsGivenFor before after statement file
   pub returns : ReturnsDue (outcome state statement file) result next old new
+  pub read_fault : IsErrOf result stop.ReadFault → AsksForFile state statement
 
 -- what a statement returned was put: its text; or the run ends there, behind a text in part, the line of a refusal in
 -- whole or in part, or nothing
@@ -89,4 +92,5 @@ pub record CarriesAll (statements : List StatementTree) (before after : FolderSt
   pub are : statements_of_steps steps ≡ statements
   pub given : All (λ step. IsGivenFor before after step.statement step.file) steps
   pub carries : Carries (script_answer nothing_made steps) ended had got
+  pub read_fault : ended ≡ status.ReadFault → EndsAtRead steps had got
   pub pays : PaysFor (script_answer nothing_made steps) ended old new

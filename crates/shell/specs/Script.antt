@@ -1,5 +1,5 @@
 -- The answer to a script: its statements one after another, up to and with the first that is refused.
-use Rattle.std.specs.Prelude.{ℕ, ◌+◌, nat_le, map, position, Bool, true, false, List, [], ◌∷◌, ◌++◌, length, Option, Some, None, Result, Ok, Err, if◌then◌else◌}
+use Rattle.std.specs.Prelude.{ℕ, ◌+◌, nat_le, map, position, Bool, true, false, List, [], ◌∷◌, ◌++◌, length, Option, Some, None, IsSome, Result, Ok, Err, if◌then◌else◌}
 use Rattle.std.specs.Str.{bytes_eq}
 use Rattle.sql_values.specs.Limits.{max_file_bytes}
 use Rattle.sql_values.specs.declared.column.ColumnDef.{ColumnDef}
@@ -113,6 +113,11 @@ outcome state (SaveFile save) file = Refuses (refusal.Later later.Statement)
 outcome state (OpenFile name file_name query) file = Refuses (refusal.Later later.Statement)
 outcome state (Audit audit) file = Refuses (refusal.Later later.Statement)
 
+-- a statement asks for a file: a LOAD into a table that is there, and no other
+abbrev pub AsksForFile : SessionState → StatementTree → Type 0
+AsksForFile state (Load load) = IsSome (table_number state load.table)
+AsksForFile state other = ⊥
+
 -- a statement, and the file that the folder gives for it
 pub record Step : Type 0 where
   pub statement : StatementTree
@@ -144,6 +149,16 @@ script_answer state (step ∷ rest) = and_then (outcome state step.statement ste
 -- before the first statement there is nothing
 abbrev pub nothing_made : SessionState
 nothing_made = record { tables = []; texts = []; index_names = [] }
+
+-- what comes of the state that an outcome leaves; a refusal leaves none
+abbrev pub left_by : Outcome → (SessionState → Option SessionState) → Option SessionState
+left_by (Prints text work state) rest = rest state
+left_by (Refuses why) rest = None
+
+-- the state that these steps leave, where none of them is refused
+abbrev pub state_after : SessionState → List Step → Option SessionState
+state_after state [] = Some state
+state_after state (step ∷ rest) = left_by (outcome state step.statement step.file) (λ next. state_after next rest)
 
 -- the answer to a script of these statements, or to one that is refused whole
 abbrev pub answer_of : Result (List Step) Refusal → Answer

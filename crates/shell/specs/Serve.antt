@@ -1,5 +1,5 @@
 -- What is due to a script, and what a run of the program did of it.
-use Rattle.std.specs.Prelude.{◌≡◌, ◌⊎◌, ℕ, ◌+◌, ◌<◌, ◌≤◌, true, false, All, List, take, length, map, Option, None, Result, Ok, Err, IfOk, IsSomeAnd, MatchOption, if◌then◌else◌}
+use Rattle.std.specs.Prelude.{◌≡◌, ◌⊎◌, ℕ, ◌+◌, ◌<◌, ◌≤◌, true, false, All, List, ◌∷◌, ◌++◌, take, length, map, Option, None, Result, Ok, Err, IfOk, IsOkAnd, IsSomeAnd, MatchOption, if◌then◌else◌}
 use Rattle.std.specs.Io.KnownBytes.{Appends}
 use Rattle.outside_io.specs.Count.{Rose}
 use Rattle.outside_io.specs.Files.{FolderState, file_of}
@@ -13,7 +13,7 @@ use Rattle.sql_values.specs.Limits.{max_script_bytes}
 use Rattle.sql_values.specs.declared.limit.LimitName.TheVariants as limit
 use Rattle.shell.specs.declared.refusal.Refusal.{Refusal}
 use Rattle.shell.specs.declared.refusal.Refusal.TheVariants as refusal
-use Rattle.shell.specs.Script.{Answer, Step, answer_of}
+use Rattle.shell.specs.Script.{Answer, AsksForFile, Step, answer_of, nothing_made, script_answer, state_after}
 use Rattle.shell.specs.declared.status.Status.{Status}
 use Rattle.shell.specs.declared.status.Status.TheVariants as status
 
@@ -73,11 +73,29 @@ pub record Carries (answer : Answer) (ended : Status) (old new : Option (List �
   pub refused : ended ≡ status.Refused → (answer.refused ≡ true) × Appends old new answer.text
   pub beginning : (n : ℕ) × Appends old new (take n answer.text)
 
--- the run carried out the script's statements, up to and with the first refusal, or a part of them
-pub record Serves (script : List ℕ) (old new : FolderState) (ended : Status) (before after : Option (List ℕ)) : Type 0 where
+-- a run of these steps that ended at a read of the folder: the text of those before one of them went out whole and nothing
+-- more, and this one asks for a file in the state that they leave
+pub record EndsAtRead (steps : List Step) (old new : Option (List ℕ)) : Type 0 where
+  pub earlier : List Step
+  pub step : Step
+  pub later : List Step
+  pub are : steps ≡ earlier ++ step ∷ later
+  pub put : Appends old new (script_answer nothing_made earlier).text
+  pub asks : IsSomeAnd (state_after nothing_made earlier) (λ state. AsksForFile state step.statement)
+
+-- what a fault of reading came from: the source failed, before anything was carried out; or a read of the folder did
+abbrev pub HasReadCause : (source_failed : Type 0) → Result (List Step) Refusal → (old new : FolderState) → (before after : Option (List ℕ)) → Type 0
+HasReadCause source_failed steps old new before after =
+    (source_failed × (new ≡ old) × (after ≡ before))
+    ⊎ (Rose old.read_faults new.read_faults × IsOkAnd steps (λ these. EndsAtRead these before after))
+
+-- the run carried out the script's statements, up to and with the first refusal, or a part of them; a fault of reading has its
+-- cause
+pub record Serves (source_failed : Type 0) (script : List ℕ) (old new : FolderState) (ended : Status) (before after : Option (List ℕ)) : Type 0 where
   pub answer : Answer
   pub due : IsAnswer script old new answer
   pub carries : Carries answer ended before after
+  pub read_fault : ended ≡ status.ReadFault → HasReadCause source_failed due.steps old new before after
 
 -- the run ended as the script's text does, or out of memory
 pub record IsDecided (script : List ℕ) (old new : FolderState) (ended : Status) : Type 0 where

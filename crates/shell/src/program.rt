@@ -33,6 +33,7 @@ fn put_text<K: Sink>(sink: &mut K, text: &[u8]) -> Result<(), Status>
     ensures whole { OnOk result (Appends (K.got sink.old) (K.got sink.new) text.now) }
     ensures part { OnErr result
         ((n : ℕ) × Appends (K.got sink.old) (K.got sink.new) (take n text.now)) }
+    ensures untouched { text.now ≡ [] → sink.new ≡ sink.old }
     ensures kinds { IfErr result
         (λ ended. (ended ≡ Status.WriteFault) ⊎ (ended ≡ Status.NoMemory)) }
     ensures sink { HasCause (IsErrOf result Status.WriteFault)
@@ -170,7 +171,7 @@ fn carry_out_script<F: Folder, K: Sink>(
     folder: &mut F,
     sink: &mut K,
 ) -> Status
-    ensures serves { Serves script.now (F.state folder.old) (F.state folder.new) result
+    ensures serves { Serves ⊥ script.now (F.state folder.old) (F.state folder.new) result
         (K.got sink.old) (K.got sink.new) }
     ensures fits { result ≡ Status.Done → length script.now ≤ max_script_bytes }
     ensures kinds { result ≢ Status.BadWords }
@@ -202,10 +203,11 @@ pub fn serve<S: Source, F: Folder, K: Sink>(
         RefusesWords usage_line result (K.got sink.old) (K.got sink.new) }
     ensures untaken { words.now ≢ [] → S.left source.new ≡ S.left source.old }
 
-    // Else the text of the script goes out, whole or, after a fault and out of memory, its beginning.
+    // Else the text of the script goes out, whole or, after a fault and out of memory, its beginning. ReadFault comes where
+    // the source failed, or the folder for a LOAD whose table is there.
     ensures serves { words.now ≡ [] → IfSome (S.left source.old) (λ script.
-        Serves script (F.state folder.old) (F.state folder.new) result
-        (K.got sink.old) (K.got sink.new)) }
+        Serves (Rose (S.faults source.old) (S.faults source.new)) script
+        (F.state folder.old) (F.state folder.new) result (K.got sink.old) (K.got sink.new)) }
     ensures emptied { result ≡ Status.Done →
         IfSome (S.left source.old) (λ _. S.left source.new ≡ Some []) }
     ensures bounded { IfSome (S.left source.old)

@@ -1,5 +1,5 @@
 // Answers a query: its plan runs under the budget of a query, its rows are sorted and printed, and its work is reported. It
-// relies on the meter for what was paid, and never prints a work that wasn't spent.
+// reaches the database by its meter alone, on which it relies for what was paid, and never prints a work that wasn't spent.
 ghost use Rattle.std.specs.Prelude.{◌≡◌, ◌≤◌, IfOk, IsErrOf, length};
 ghost use Rattle.query_block.specs.Blocks.{block_tree, width_of};
 ghost use Rattle.plan_tree.specs.Plans.{plan_tree};
@@ -8,20 +8,20 @@ ghost use Rattle.exec_pipe.specs.Executions.{AreRowsOf};
 ghost use Rattle.shell.specs.Due.{ReturnsDue};
 ghost use Rattle.shell.specs.Limits.{max_work};
 ghost use Rattle.shell.specs.PlainPlan.{plain_contour};
-ghost use Rattle.shell.specs.Printed.{answer_text};
+ghost use Rattle.shell.specs.Printed.{answer_text, header_of};
 ghost use Rattle.shell.specs.Script.{answer_block};
 
-use crate::columns::header_of;
 use crate::lines;
 use crate::plan::plain_plan;
 use crate::refusal::Refusal;
 use crate::stop::Stop;
-use db_catalog::{Database, Metered};
+use db_catalog::Metered;
 use exec_pipe::{Outcome, run_plan};
 use plan_tree::Plan;
 use query_block::Block;
 use result_text::print_rows;
 use row_stack::{RowStack, Space};
+use sql_values::Text;
 use std::alloc::{AllocError, Global};
 
 // The most units of work of a query: 2^62.
@@ -34,57 +34,50 @@ fn plain_contour(relations: usize) -> u128
     if relations <= 1 { 1 } else { 0 }
 }
 
-// What a block prints whose rows a plan found by this work.
+// What a block prints under these names, whose rows a plan found by what the meter spent.
 fn print_answer(
     alloc: Global,
-    database: &Database,
+    names: &[Text],
+    meter: &Metered<'_>,
     block: &Block,
     plan: &Plan,
-    work: u128,
     rows: &RowStack,
 ) -> Result<Vec<u8>, AllocError>
-    requires fits { Fits database.now (block_tree block.now) }
-    requires rows { AreRowsOf database.now (block_tree block.now) rows.now.rows }
+    requires names { names.now ≡ header_of meter.now.database (block_tree block.now) }
+    requires fits { Fits meter.now.database (block_tree block.now) }
+    requires rows { AreRowsOf meter.now.database (block_tree block.now) rows.now.rows }
     requires wide { rows.now.width ≡ width_of (block_tree block.now) }
     ensures { let tree = block_tree block.now in
-        IfOk result (λ text. text.items ≡ answer_text database.now tree work
-        (plain_contour (length tree.relations)) (plan_tree plan.now)) }
+        IfOk result (λ text. text.items ≡ answer_text meter.now.database tree
+        meter.now.account.spent (plain_contour (length tree.relations)) (plan_tree plan.now)) }
 {
-    let names = header_of(alloc, database, block)?;
-    let mut text = print_rows(alloc, database.texts(), block, &names, rows)?;
+    let mut text = print_rows(alloc, meter.texts(), block, names, rows)?;
     let count = u128::from(rows.len());
     let contour = plain_contour(block.relations().len());
-    lines::push_report(alloc, &mut text, count, work, contour, plan)?;
+    lines::push_report(alloc, &mut text, count, meter.spent(), contour, plan)?;
     Ok(text)
 }
 
-/// What a block prints, by a meter that has spent nothing; the work that it prints is what the meter spent. It is refused
-/// where its plan's work is past the most of a query, and exactly that was spent then.
+/// What a block prints under the names of its columns, by a meter that has spent nothing; the work that it prints is what the
+/// meter spent. It is refused where its plan's work is past the most of a query, and exactly that was spent then.
 pub(crate) fn answer(
     alloc: Global,
-    database: &Database,
+    names: &[Text],
     meter: &mut Metered<'_>,
     block: &Block,
 ) -> Result<Vec<u8>, Stop>
-    requires fits { Fits database.now (block_tree block.now) }
-    requires same { meter.old.database ≡ database.now }
+    requires names { names.now ≡ header_of meter.old.database (block_tree block.now) }
+    requires fits { Fits meter.old.database (block_tree block.now) }
     requires unspent { meter.old.account.spent ≡ 0 }
-    ensures due { ReturnsDue (answer_block database.now (block_tree block.now)) result database.now
-        0 meter.new.account.spent }
+    ensures due { ReturnsDue (answer_block meter.old.database (block_tree block.now))
+        result meter.old.database 0 meter.new.account.spent }
     ensures within { meter.new.account.spent ≤ max_work }
     ensures no_fault { IsErrOf result Stop.ReadFault → ⊥ }
 {
     let plan = plain_plan(alloc, block.relations().len() as u8)?;
     let mut space = Space::new(alloc, block.width());
     match run_plan(alloc, block, &plan, meter, &mut space, MAX_WORK)? {
-        Outcome::Done => Ok(print_answer(
-            alloc,
-            database,
-            block,
-            &plan,
-            meter.spent(),
-            &space.result,
-        )?),
+        Outcome::Done => Ok(print_answer(alloc, names, meter, block, &plan, &space.result)?),
         Outcome::Exhausted => Err(Stop::Refused(Refusal::PastWork(meter.spent()))),
     }
 }

@@ -13,6 +13,7 @@ ghost use Rattle.shell.specs.Stop.{StopsAt};
 ghost use Rattle.shell.specs.Due.{ReadsFile, ReturnsDue, ReturnsFree, LoadsFile, IsCarriedOut};
 
 use crate::book::Book;
+use crate::columns::header_of;
 use crate::lines;
 use crate::named::{column_of, no_column, no_table};
 use crate::query::answer;
@@ -182,8 +183,9 @@ impl Session {
         ensures no_fault { IsErrOf result Stop.ReadFault → ⊥ }
     {
         let block = bind(alloc, &self.database, query)?;
+        let names = header_of(alloc, &self.database, &block)?;
         let mut meter = Metered::new(&self.database);
-        let answered = answer(alloc, &self.database, &mut meter, &block);
+        let answered = answer(alloc, &names, &mut meter, &block);
         book.enter(&meter);
         answered
     }

@@ -9,7 +9,7 @@ use Rattle.shell.proofs.program.carry_out_script.Goals as goal
 pub returns-in-Ok-clause-serves : goal.returns-in-Ok-clause-serves
 returns-in-Ok-clause-serves g c =
     serves_statements c.args.script.now (map statement_tree c.in-Ok.statements.items) (g.F.Folder.state c.args.folder.now) (g.F.Folder.state c.carry_out_all.new.folder) c.carry_out_all.result
-    (g.K.Sink.got c.args.sink.now) (g.K.Sink.got c.carry_out_all.new.sink) c.new.result c.carry_out_all.new.book c.in-Ok.ensures.read (rw c.deref.ensures.value at c.carry_out_all.ensures.carries)
+    (g.K.Sink.got c.args.sink.now) (g.K.Sink.got c.carry_out_all.new.sink) c.new.result c.carry_out_all.new.book c.in-Ok.ensures.read (rw c.deref.ensures.value at c.carry_out_all.ensures.carries) c.carry_out_all.ensures.folder.read_faults.rose
 
 pub returns-in-Ok-clause-unread : goal.returns-in-Ok-clause-unread
 returns-in-Ok-clause-unread g c = λ why refused.
@@ -22,4 +22,4 @@ returns-in-Err-Refused-clause-serves g c =
 
 pub returns-in-Err-NoMemory-clause-serves : goal.returns-in-Err-NoMemory-clause-serves
 returns-in-Err-NoMemory-clause-serves g c =
-    serves_nothing c.args.script.now (g.F.Folder.state c.args.folder.now) (g.F.Folder.state c.args.folder.now) status.NoMemory (g.K.Sink.got c.args.sink.now) (inr (inr refl))
+    serves_nothing ⊥ c.args.script.now (g.F.Folder.state c.args.folder.now) status.NoMemory (g.K.Sink.got c.args.sink.now) (inr (inr refl)) (λ is. cc is)

@@ -1,9 +1,9 @@
 -- The plan that runs is a plan of the block.
-use Rattle.std.proofs.Common.{◌≡◌, ◌∙◌, ◌-◌, ℕ, length, ap, subst, sym, arith}
+use Rattle.std.proofs.Common.{◌≡◌, ◌∙◌, length, ap, subst, sym, arith}
 use Rattle.std.proofs.lemmas.List.{length-map}
 use Rattle.query_block.specs.Blocks.{block_tree, relation_tree}
 use Rattle.plan_tree.specs.Enumerated.{IsPlan}
-use Rattle.plan_tree.specs.Plans.{PlanTree, plan_tree}
+use Rattle.plan_tree.specs.Plans.{plan_tree}
 use Rattle.shell.specs.PlainPlan.{plain_plan}
 use Rattle.shell.proofs.PlainPlans.{is_plan}
 use Rattle.shell.proofs.Widths.{width_some}

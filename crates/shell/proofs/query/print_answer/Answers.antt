@@ -12,21 +12,20 @@ use Rattle.shell.proofs.RowsPrinted.{printed_meaning, meaning_count}
 use Rattle.shell.proofs.query.print_answer.Goals as goal
 
 pub print_rows-requires-clause-words : goal.print_rows-requires-clause-words
-print_rows-requires-clause-words c = rw c.texts.ensures.texts c.requires.rows.allowed
+print_rows-requires-clause-words c = rw c.texts.ensures c.requires.rows.allowed
 
 pub returns : goal.returns
 returns c =
-    let database = c.args.database.now in
+    let database = c.args.meter.now.database in
     let block = block_tree c.args.block.now in
     let words = c.args.rows.now.rows in
     let are = c.requires.rows in
     let found : printed_rows c.texts.result.now block words ≡ printed_rows database.texts block words =
-    ap (λ (texts : List (List ℕ)). printed_rows texts block words) c.texts.ensures.texts in
-    let names : c.deref.result.now ≡ header_of database block = c.deref.ensures.value ∙ c.in_ok-names.ensures in
-    let text : table_text c.deref.result.now (printed_rows c.texts.result.now block words) ≡ printed (header_of database block) database.tables block =
-    (λ i. table_text (names i) (found i)) ∙ printed_meaning database block words are (header_of database block) in
+    ap (λ (texts : List (List ℕ)). printed_rows texts block words) c.texts.ensures in
+    let text : table_text c.args.names.now (printed_rows c.texts.result.now block words) ≡ printed (header_of database block) database.tables block =
+    (λ i. table_text (c.requires.names i) (found i)) ∙ printed_meaning database block words are (header_of database block) in
     let count : c.from-count.result ≡ length (meaning_of database.tables block) = c.from-count.ensures ∙ c.len.ensures.count ∙ sym (meaning_count database block words are) in
     let relations : length c.relations.result.now ≡ length block.relations = ap length c.relations.ensures.relations ∙ sym (length-map c.args.block.now.relations relation_tree) in
     let contour : c.plain_contour-contour.result ≡ plain_contour (length block.relations) = c.plain_contour-contour.ensures ∙ ap plain_contour relations in
     c.in_ok-push_report.ensures
-    ∙ (λ i. (c.in_ok-text.ensures ∙ text) i ++ report_line (count i) c.args.work (contour i) (plan_tree c.args.plan.now))
+    ∙ (λ i. (c.in_ok-text.ensures ∙ text) i ++ report_line (count i) (c.spent.ensures.spent i) (contour i) (plan_tree c.args.plan.now))

@@ -7,7 +7,7 @@ use Rattle.shell.proofs.session.Session.load.Goals as goal
 pub returns-in_default-clause-due : goal.returns-in_default-clause-due
 returns-in_default-clause-due g c =
     let none : table_number c.args.self.now c.args.load.now.table ≡ None = cc in
-    loads_nothing c.args.load.now (g.F.Folder.state c.args.folder.now) (g.F.Folder.state c.args.folder.now) c.args.self.now c.args.self.now c.no_table.result none c.no_table.ensures.refusal
+    loads_nothing c.args.load.now _ _ c.args.self.now c.args.self.now c.no_table.result none c.no_table.ensures.refusal c.no_table.ensures.no_fault
 
 pub returns-in-Err-clause-due : goal.returns-in-Err-clause-due
 returns-in-Err-clause-due g c =

@@ -1,5 +1,4 @@
 -- What binding says of the query decides what is due to it.
-use Rattle.std.proofs.Common.{sym}
 use Rattle.query_block.specs.Blocks.{block_tree}
 use Rattle.sql_parse.specs.Trees.{query_tree}
 use Rattle.shell.specs.Script.{answer_block}
@@ -17,4 +16,4 @@ returns-clause-due c =
     let state = c.self.inside.database in
     let due = query_bound state (query_tree c.args.query.now) block c.in_ok-block.ensures.refuses.answered c.in_ok-block.ensures.block in
     rw (← c.self.view_is, due)
-    (returns_entered (answer_block state block) c.answer-answered.result state c.answer-answered.new.meter.account.spent c.args.book.now c.enter.new.self c.answer-answered.ensures.due c.enter.ensures)
+    (returns_entered (answer_block state block) c.answer-answered.result state c.answer-answered.new.meter.account.spent c.args.book.now c.enter.new.self (rw c.new-meter.ensures.database at c.answer-answered.ensures.due) c.enter.ensures)
