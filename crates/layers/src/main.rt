@@ -7,8 +7,6 @@
 mod canonical;
 mod costs;
 mod fixture;
-#[cfg(test)]
-mod outside;
 mod rules;
 mod runs;
 mod written;

@@ -175,7 +175,7 @@ fn kept_file(alloc: Global, rt: &HostRuntime, name: &str) -> Result<String, Fail
 
 #[test]
 fn a_file_keeps_what_was_written_last(rt: HostRuntime) -> Result<(), Fail> {
-    let name = format!(in rt.alloc(); "/tmp/layers-{}", process::id(rt.process()))?;
+    let name = format!(in rt.alloc(); "/tmp/adapters-{}", process::id(rt.process()))?;
     let found = kept_file(rt.alloc(), &rt, &name)?;
     fs::remove_file(&rt, &name)?;
     assert_eq!(rt; found.as_str(), "2\nfailed\n");
@@ -187,7 +187,7 @@ fn names_of_no_file_are_absent_or_fail(rt: HostRuntime) -> Result<(), Fail> {
     let alloc = rt.alloc();
     let mut folder = DirFolder::new(&rt);
     let mut found = String::new(alloc);
-    for path in ["", "/tmp/layers-no-file", "/tmp", "a\0b"] {
+    for path in ["", "/tmp/adapters-no-file", "/tmp", "a\0b"] {
         found.push_str(&read_line(alloc, &mut folder, path)?)?;
     }
     assert_eq!(rt; found.as_str(), "absent\nabsent\nfailed\nfailed\n");
@@ -203,7 +203,7 @@ fn a_folder_and_a_full_disk_take_no_bytes(rt: HostRuntime) {
 
 // What is read of a file of this length.
 fn long_line(alloc: Global, rt: &HostRuntime, len: u64) -> Result<String, Fail> {
-    let name = format!(in alloc; "/tmp/layers-long-{}", process::id(rt.process()))?;
+    let name = format!(in alloc; "/tmp/adapters-long-{}", process::id(rt.process()))?;
     let mut folder = DirFolder::new(rt);
     fs::create(rt, &name)?.set_len(len)?;
     let found = read_line(alloc, &mut folder, &name)?;
