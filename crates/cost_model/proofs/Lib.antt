@@ -5,3 +5,6 @@ pub mod Bounds
 pub mod Monotone
 pub mod Parts
 pub mod Least
+pub mod BestPlans
+pub mod Frontiers
+pub mod Covers

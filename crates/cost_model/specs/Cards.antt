@@ -1,7 +1,7 @@
 -- Cards: how many rows each set of relations is taken to give at a point of the grid.
 use Rattle.std.specs.Prelude.{ℕ, ◌+◌, ◌*◌, List, [], ◌∷◌, slice_index, if◌then◌else◌}
 use Rattle.std.specs.Int.{div_ceil}
-use Rattle.ess_grid.specs.Levels.{full_selectivity, selectivity_of, halvings_of}
+use Rattle.ess_grid.specs.Levels.{full_selectivity, selectivity_of}
 use Rattle.ess_grid.specs.Points.{GridShape}
 use Rattle.query_block.specs.declared.edge.Edge.{Edge}
 use Rattle.query_block.specs.Meaning.{RelationSet, is_inside}

@@ -5,6 +5,8 @@ pub mod Cards
 pub mod Costs
 pub mod Best
 pub mod Optimal
+pub mod Frontier
+pub mod Greedy
 pub mod Rounding
 -- what only proofs need
 pub mod Parts

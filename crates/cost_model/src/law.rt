@@ -1,9 +1,9 @@
 // The laws of cards and costs. Each has no body: its clauses speak of the definitions alone.
-ghost use Rattle.std.specs.Prelude.{ℕ, ◌≡◌, ◌↔◌, ◌*◌, ◌^◌, ◌<◌, ◌≤◌, ◌&&◌, Contains, IsFalse, List};
+ghost use Rattle.std.specs.Prelude.{ℕ, ◌≡◌, ◌↔◌, ◌*◌, ◌^◌, ◌<◌, ◌≤◌, ◌&&◌, Contains, IsFalse, List, length};
 ghost use Rattle.std.specs.Int.{div_ceil};
 ghost use Rattle.sql_values.specs.Limits.{max_product};
+ghost use Rattle.ess_grid.specs.Points.{IsGrid, IsPoint};
 ghost use Rattle.ess_grid.specs.Order.{PointBelow};
-ghost use Rattle.query_block.specs.Blocks.{BlockTree};
 ghost use Rattle.query_block.specs.Meaning.{RelationSet};
 ghost use Rattle.plan_tree.specs.Plans.{PlanTree};
 ghost use Rattle.plan_tree.specs.Enumerated.{IsPlan, IsSubPlan};
@@ -11,8 +11,10 @@ ghost use Rattle.cost_model.specs.Costing.{CostingTree, IsCosting};
 ghost use Rattle.cost_model.specs.Cards.{kept_product, card_of};
 ghost use Rattle.cost_model.specs.Rounding.{halvings_inside};
 ghost use Rattle.cost_model.specs.Costs.{cost_of};
-ghost use Rattle.cost_model.specs.Best.{IsCheapest};
-ghost use Rattle.cost_model.specs.Optimal.{optimal_cost};
+ghost use Rattle.cost_model.specs.Best.{IsCheapest, IsBest};
+ghost use Rattle.cost_model.specs.Optimal.{optimal_cost, best_plan};
+ghost use Rattle.cost_model.specs.Frontier.{frontier};
+ghost use Rattle.cost_model.specs.Greedy.{greedy, CoversAt};
 
 /// The law of monotony: cards, costs and the optimal cost grow with selectivity.
 pub fn costs_grow_with_selectivity()
@@ -57,4 +59,33 @@ pub fn optimal_costs_are_least()
         IsPlan costing.block p → optimal_cost costing point ≤ cost_of costing p point }
     ensures cheapest { (costing : CostingTree) (p : PlanTree) (point : List ℕ) →
         IsCheapest costing point p → cost_of costing p point ≡ optimal_cost costing point }
+{}
+
+/// The law of the best plan: of a block that has a plan `best_plan` is a best one at each point, and there is no other.
+pub fn one_plan_is_best()
+    ensures best { (costing : CostingTree) (p : PlanTree) (point : List ℕ) →
+        IsPlan costing.block p → IsBest costing point (best_plan costing point) }
+    ensures only { (costing : CostingTree) (p : PlanTree) (point : List ℕ) →
+        IsBest costing point p → p ≡ best_plan costing point }
+{}
+
+/// The law of the frontier: each point at which the optimal cost is within a contour's is below a point of the contour's
+/// frontier.
+pub fn frontiers_lie_above()
+    ensures { (costing : CostingTree) (cost : ℕ) (point : List ℕ) →
+        IsGrid costing.grid → IsPoint costing.grid point → optimal_cost costing point ≤ cost →
+        (other : List ℕ) × Contains (frontier costing cost) other × PointBelow point other }
+{}
+
+/// The law of greedy reduction: of a block that has a plan it takes plans that cover all of the points, and each of them is
+/// the best plan at one of the points.
+pub fn greedy_plans_cover_all_points()
+    ensures covered { (costing : CostingTree) (p : PlanTree) (threshold : ℕ) (points : List (List ℕ)) (point : List ℕ) →
+        IsPlan costing.block p → Contains points point →
+        (taken : PlanTree) × Contains (greedy costing threshold points) taken × CoversAt costing threshold taken point }
+    ensures best { (costing : CostingTree) (threshold : ℕ) (points : List (List ℕ)) (taken : PlanTree) →
+        Contains (greedy costing threshold points) taken →
+        (point : List ℕ) × Contains points point × (taken ≡ best_plan costing point) }
+    ensures few { (costing : CostingTree) (threshold : ℕ) (points : List (List ℕ)) →
+        length (greedy costing threshold points) ≤ length points }
 {}
