@@ -1,5 +1,5 @@
 -- How the steps of the search for an entry follow one another.
-use Rattle.std.proofs.Common.{◌≡◌, ◌⊎◌, inl, inr, Bool, true, false, nat_lt, nat_eq, ◌||◌, [], ◌∷◌, ◌++◌, ℕ, ◌+◌, ◌-◌, ◌^◌, ◌<◌, List, length, refl, sym, ap, ap₂, subst, ◌∙◌, arith}
+use Rattle.std.proofs.Common.{◌≡◌, ◌⊎◌, inl, inr, Bool, true, false, nat_lt, nat_eq, ◌||◌, [], ◌∷◌, ◌++◌, ℕ, ◌+◌, ◌-◌, ◌^◌, ◌<◌, ◌≤◌, List, length, refl, sym, ap, ap₂, subst, ◌∙◌, arith}
 use Rattle.std.specs.List.{list_any}
 use Rattle.std.proofs.lemmas.List.Folds.{list_any-append}
 use Rattle.query_block.specs.Blocks.{relation_at}
@@ -11,7 +11,7 @@ use Rattle.plan_space.specs.declared.roots.Root.{Root}
 use Rattle.plan_space.specs.declared.roots.Root.TheVariants as root
 use Rattle.plan_space.specs.declared.entry.Entry.{Entry}
 use Rattle.plan_space.specs.Roots.{Stands}
-use Rattle.plan_space.specs.Table.{offered, rank, NotLater, IsOffered}
+use Rattle.plan_space.specs.Table.{entry_at, side_costs, offered, rank, NotLater, IsOffered}
 use Rattle.plan_space.specs.Pricing.{Pricing}
 use Rattle.plan_space.specs.Prices.{own_at, block_at}
 use Rattle.plan_space.proofs.Bits.{same-relation}
@@ -140,6 +140,20 @@ module _ (at : Pricing) (table : List Entry) (set : ℕ) where
   next-left left (root.Hash n s) group = before-left s left group
   next-left left (root.Merge n s) group = before-left s left group
   next-left left (root.IndexLoop n s r) group = before-left s left group
+
+  -- ---- what joins cost at the least
+
+  same-sides : (left side cost : ℕ) → cost ≡ (entry_at table left).cost + (entry_at table (set - left)).cost → side ≡ left → cost ≤ (entry_at table side).cost + (entry_at table (set - side)).cost
+  same-sides left side cost is same = omega (arith, is, ap (λ one. (entry_at table one).cost + (entry_at table (set - one)).cost) same)
+
+  pub both-least : (left cost : ℕ) → cost ≡ (entry_at table left).cost + (entry_at table (set - left)).cost → ((relation : ℕ) → set - left ≡ 2 ^ relation → ⊥)
+      → (node : Root) → IsByLeft left node → Stands (block_at at) node set → cost ≤ side_costs table node set
+  both-least left cost is none (root.Scan r) group stands = absurd group
+  both-least left cost is none (root.IndexScan r c) group stands = absurd group
+  both-least left cost is none (root.Nest s) group stands = same-sides left s cost is group
+  both-least left cost is none (root.Hash n s) group stands = same-sides left s cost is group
+  both-least left cost is none (root.Merge n s) group stands = same-sides left s cost is group
+  both-least left cost is none (root.IndexLoop n s r) group stands = absurd (none r (ap (λ side. set - side) (sym group) ∙ stands.2.one))
 
   -- ---- the ways to read a relation
 

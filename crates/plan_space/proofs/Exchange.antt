@@ -109,7 +109,7 @@ same-number a b e = by (nat_cmp a b) refl
     by Equal is = refl
     by Greater is = let gt : b < a = ranked a b Greater is in absurd (omega (arith, gt, e))
 
-two-at-least : (n : ℕ) → 1 ≤ n → 2 ≤ 2 ^ n
+pub two-at-least : (n : ℕ) → 1 ≤ n → 2 ≤ 2 ^ n
 two-at-least n some = let more = power-below 0 n (omega arith) in omega (arith, more)
 
 -- ---- the theorem

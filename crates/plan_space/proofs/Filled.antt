@@ -8,7 +8,6 @@ use Rattle.std.proofs.lemmas.Nat.Bits.{and_pow, bit_at_above}
 use Rattle.query_block.specs.Blocks.{BlockTree}
 use Rattle.plan_tree.specs.Plans.{PlanTree}
 use Rattle.plan_tree.specs.Enumerated.{IsPlan}
-use Rattle.plan_tree.specs.Order.{plan_order_of}
 use Rattle.cost_model.specs.Costing.{costing_tree, IsCosting}
 use Rattle.cost_model.specs.Costs.{cost_of}
 use Rattle.cost_model.specs.Best.{IsCheapest, IsBest}
@@ -18,7 +17,7 @@ use Rattle.plan_space.specs.declared.roots.Root.{Root}
 use Rattle.plan_space.specs.declared.roots.Root.TheVariants as root
 use Rattle.plan_space.specs.declared.entry.Entry.{Entry}
 use Rattle.plan_space.specs.Roots.{Stands, IsSplit}
-use Rattle.plan_space.specs.Table.{OwnCost, sum_of, entry_at, side_costs, offered, NotLater, IsLeast, AreLeast, Follows}
+use Rattle.plan_space.specs.Table.{OwnCost, sum_of, entry_at, side_costs, offered, NotLater, IsLeast, AreLeast, AreStanding, Follows}
 use Rattle.plan_space.specs.Pricing.{Pricing}
 use Rattle.plan_space.specs.Prices.{own_at, block_at}
 use Rattle.plan_space.specs.Steps.{Considers, ReadsRelation, IsBeforeLeft}
@@ -149,9 +148,12 @@ module _ (own : OwnCost) (block : BlockTree) (table : List Entry) (end : ℕ) (e
 
 -- ---- what a filled table tells
 
-module _ (own : OwnCost) (block : BlockTree) (table : List Entry) (filled : AreLeast own block table (2 ^ length block.relations)) (set : ℕ) (some : 1 ≤ set) (below : set < 2 ^ length block.relations) where
+pub standing : (own : OwnCost) (block : BlockTree) (table : List Entry) (end : ℕ) → AreLeast own block table end → AreStanding block table end
+standing own block table end least set some below = (least set some below).kept.stands
+
+module _ (block : BlockTree) (table : List Entry) (standing : AreStanding block table (2 ^ length block.relations)) (set : ℕ) (some : 1 ≤ set) (below : set < 2 ^ length block.relations) where
   stands-there : (node : Root) → (entry_at table set).root ≡ node → Stands block node set
-  stands-there node is = subst (λ one. Stands block one set) is (filled set some below).kept.stands
+  stands-there node is = subst (λ one. Stands block one set) is (standing set some below)
 
   covered : (left a b : ℕ) → IsSplit left set → a ≡ left → b ≡ set - left → bit_or a b ≡ set
   covered left a b split one other = ap (λ x. bit_or x b) one ∙ whole-of left set b split other

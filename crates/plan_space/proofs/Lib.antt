@@ -5,3 +5,7 @@ pub mod Filled
 pub mod Pairs
 pub mod Considered
 pub mod Sums
+pub mod LookedUp
+pub mod Places
+pub mod Followed
+pub mod Rows

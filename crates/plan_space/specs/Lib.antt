@@ -3,3 +3,4 @@ pub mod Table
 pub mod Pricing
 pub mod Prices
 pub mod Steps
+pub mod Alike

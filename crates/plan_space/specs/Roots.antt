@@ -1,5 +1,5 @@
 -- The outermost nodes of plans, by the sets of their sides.
-use Rattle.std.specs.Prelude.{◌≡◌, ℕ, ◌-◌, ◌^◌, ◌<◌, ◌≤◌, ◌&&◌, ◌||◌, Bool, IsTrue, List, [], ◌∷◌, bit_and, length}
+use Rattle.std.specs.Prelude.{◌≡◌, ℕ, ◌-◌, ◌^◌, ◌<◌, ◌≤◌, IsTrue, List, [], ◌∷◌, bit_and, length}
 use Rattle.query_block.specs.declared.edge.Edge.{Edge}
 use Rattle.query_block.specs.Blocks.{BlockTree, relation_at}
 use Rattle.plan_tree.specs.Plans.{PlanTree, Scan, IndexScan, Nest, Hash, Merge, IndexLoop, covers_of}

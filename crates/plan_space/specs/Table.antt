@@ -64,6 +64,10 @@ pub record IsLeast (own : OwnCost) (block : BlockTree) (table : List Entry) (set
 abbrev pub AreLeast : OwnCost → BlockTree → List Entry → (end : ℕ) → Type 0
 AreLeast own block table end = (set : ℕ) → 1 ≤ set → set < end → IsLeast own block table set (entry_at table set)
 
+-- each of these nodes may be the outermost one of a plan of its set
+abbrev pub AreStanding : BlockTree → List Entry → (end : ℕ) → Type 0
+AreStanding block table end = (set : ℕ) → 1 ≤ set → set < end → Stands block (entry_at table set).root set
+
 -- the plan has in each node the entry of the node's set
 abbrev pub Follows : List Entry → PlanTree → (set : ℕ) → Type 0
 Follows table (Scan relation) set = (entry_at table set).root ≡ root.Scan relation

@@ -15,7 +15,7 @@ use crate::entry::Entry;
 use crate::prices::Prices;
 use crate::roots::Root;
 use crate::sets::has;
-use crate::steps::{both_sides, consider, left_side};
+use crate::steps::{both_sides, consider, least_sides, left_side};
 use query_block::{Block, Edge};
 
 // Whether an edge has one of its relations on each side.
@@ -35,8 +35,8 @@ fn is_crossed(block: &Block, edge: u8, left: u8, right: u8) -> bool
     crosses(&block.edges()[edge as usize], left, right)
 }
 
-// The column of one of its relations that an edge of the block compares.
-fn column_on(block: &Block, edge: u8, relation: u8) -> u8
+/// The column of one of its relations that an edge of the block compares.
+pub(crate) fn column_on(block: &Block, edge: u8, relation: u8) -> u8
     requires { edge < length block.now.edges }
     ensures { result ≡ column_on (edge_at block.now.edges edge) relation }
 {
@@ -187,7 +187,8 @@ fn by_edges(prices: &Prices<'_>, table: &[Entry; 64], set: u8, left: u8, start: 
     found
 }
 
-// All joins of a set with this left side, where it is one.
+// All joins of a set with this left side, where it is one. They aren't looked at where their sides alone cost more than what was
+// found.
 fn by_left(prices: &Prices<'_>, table: &[Entry; 64], set: u8, left: u8, start: Entry) -> Entry
     requires ready { IsFilledBelow prices.now table.now set }
     requires some { 1 ≤ left }
@@ -196,6 +197,9 @@ fn by_left(prices: &Prices<'_>, table: &[Entry; 64], set: u8, left: u8, start: E
     ensures { Considers prices.now table.now set (IsByLeft left) start result }
 {
     if left & (set - left) != 0 {
+        return start;
+    }
+    if least_sides(prices, table, set, left) > start.cost {
         return start;
     }
     let found = by_nest(prices, table, set, left, start);

@@ -1,15 +1,18 @@
-//! The best plan of a block at a point of the grid: of all plans of the block the cheapest there, and of equally cheap ones
-//! the first in plan order.
-//! To the layers above it promises that `best` answers exactly that plan and its cost, over all bushy shapes, products,
-//! indexes and edges.
-//! It never lists the plans, never looks at a table, and takes memory for the answer alone.
+//! The best plan of a block at a point of the grid, or at all points at once: of all plans of the block the cheapest there, and
+//! of equally cheap ones the first in plan order.
+//! To the layers above it promises that `best` and `BestPlans` answer exactly that plan and its cost, over all bushy shapes,
+//! products, indexes and edges, and that `Prices` says what each node of a plan costs by itself.
+//! It never lists the plans, never looks at a table, and takes memory for its answers alone.
 #![tactic(auto)]
 
+mod alike;
+mod all_points;
 mod arithmetic;
 mod costs;
 mod entry;
 mod joins;
 mod leaves;
+mod own;
 mod prices;
 mod roots;
 mod search;
@@ -17,4 +20,7 @@ mod sets;
 mod steps;
 mod table;
 
+pub use all_points::{BestPlans, best_at_all_points};
+pub use prices::Prices;
+pub use roots::Root;
 pub use search::best;

@@ -14,13 +14,14 @@ ghost use Rattle.plan_space.specs.Prices.{set_card};
 
 use crate::arithmetic::{scaled, times_bits};
 use cost_model::{Costing, IndexStats, RelationStats};
-use ess_grid::Point;
+use ess_grid::{Grid, Point};
 use query_block::Block;
 use std::marker::Model;
 
-/// The prices of nodes at a point of a costing's grid.
+/// The prices of nodes at a point of a costing's grid. The cards of all sets are worked out once, when it is made, so that
+/// many plans can be costed at the point by a few look-ups a node. It takes no memory.
 #[derive(Drop)]
-pub(crate) struct Prices<'a> {
+pub struct Prices<'a> {
     costing: &'a Costing<'a>,
     q: &'a Point,
     cards: [u128; 64],
@@ -130,8 +131,8 @@ fn card_at(costing: &Costing<'_>, cards: &[u128; 64], q: &Point, set: u8) -> u12
 }
 
 impl<'a> Prices<'a> {
-    /// The prices at this point.
-    pub(crate) fn new(costing: &'a Costing<'a>, q: &'a Point) -> Prices<'a>
+    /// The prices at this point of the costing's grid.
+    pub fn new(costing: &'a Costing<'a>, q: &'a Point) -> Prices<'a>
         requires { IsPoint costing.now.grid q.now }
         ensures costing { result.costing ≡ costing.now }
         ensures point { result.point ≡ q.now }
@@ -152,6 +153,21 @@ impl<'a> Prices<'a> {
         ensures costing { IsCosting (costing_tree self.now.costing) }
     {
         self.costing.block()
+    }
+
+    /// The grid.
+    pub(crate) fn grid(&self) -> &'a Grid
+        ensures { result.now ≡ self.now.costing.grid }
+    {
+        self.costing.grid()
+    }
+
+    /// The point.
+    pub(crate) fn point(&self) -> &'a Point
+        ensures point { result.now ≡ self.now.point }
+        ensures of_grid { IsPoint self.now.costing.grid result.now }
+    {
+        self.q
     }
 
     /// The card of a set.

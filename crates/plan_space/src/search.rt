@@ -1,14 +1,14 @@
 // The best plan of a block at a point.
 ghost use Rattle.std.specs.Prelude.{◌≡◌, ◌^◌, ◌<◌, ◌≤◌, IfOk, length};
 ghost use Rattle.ess_grid.specs.Points.{IsPoint};
+ghost use Rattle.query_block.specs.Blocks.{block_tree};
 ghost use Rattle.plan_tree.specs.Plans.{plan_tree, covers_of};
-ghost use Rattle.plan_tree.specs.Order.{plan_order_of};
 ghost use Rattle.cost_model.specs.Costing.{costing_tree};
 ghost use Rattle.cost_model.specs.Best.{IsBest};
 ghost use Rattle.cost_model.specs.Optimal.{optimal_cost};
-ghost use Rattle.plan_space.specs.Table.{Follows, AreLeast};
-ghost use Rattle.plan_space.specs.Prices.{own_at, block_at};
+ghost use Rattle.plan_space.specs.Table.{Follows, AreStanding};
 
+use crate::alike::edges_inside_sets;
 use crate::entry::Entry;
 use crate::prices::Prices;
 use crate::roots::Root;
@@ -17,40 +17,41 @@ use crate::table::filled;
 use cost_model::Costing;
 use ess_grid::Point;
 use plan_tree::Plan;
+use query_block::Block;
 use std::alloc::{AllocError, Global};
 
 // The plan of a set that the entries tell, in a box.
 #[cycle(rebuilt)]
 fn boxed(
     alloc: Global,
-    prices: &Prices<'_>,
+    block: &Block,
     table: &[Entry; 64],
     set: u8,
 ) -> Result<Box<Plan>, AllocError>
-    requires filled { AreLeast (own_at prices.now) (block_at prices.now) table.now
-        (2 ^ length (block_at prices.now).relations) }
+    requires stands { AreStanding (block_tree block.now) table.now
+        (2 ^ length (block_tree block.now).relations) }
     requires some { 1 ≤ set }
-    requires below { set < 2 ^ length (block_at prices.now).relations }
+    requires below { set < 2 ^ length (block_tree block.now).relations }
     requires small { set < 64 }
     ensures follows { IfOk result (λ p. Follows table.now (plan_tree p.value) set) }
     ensures covers { IfOk result (λ p. covers_of (plan_tree p.value) ≡ set) }
 {
-    let p = rebuilt(alloc, prices, table, set)?;
+    let p = rebuilt(alloc, block, table, set)?;
     Ok(Box::new(alloc, p)?)
 }
 
-// The plan of a set that the entries tell.
+/// The plan of a set that the entries tell.
 #[cycle(rebuilt)]
-fn rebuilt(
+pub(crate) fn rebuilt(
     alloc: Global,
-    prices: &Prices<'_>,
+    block: &Block,
     table: &[Entry; 64],
     set: u8,
 ) -> Result<Plan, AllocError>
-    requires filled { AreLeast (own_at prices.now) (block_at prices.now) table.now
-        (2 ^ length (block_at prices.now).relations) }
+    requires stands { AreStanding (block_tree block.now) table.now
+        (2 ^ length (block_tree block.now).relations) }
     requires some { 1 ≤ set }
-    requires below { set < 2 ^ length (block_at prices.now).relations }
+    requires below { set < 2 ^ length (block_tree block.now).relations }
     requires small { set < 64 }
     ensures follows { IfOk result (λ p. Follows table.now (plan_tree p) set) }
     ensures covers { IfOk result (λ p. covers_of (plan_tree p) ≡ set) }
@@ -60,21 +61,21 @@ fn rebuilt(
         Root::IndexScan(relation, column) => Ok(Plan::IndexScan(relation, column)),
         Root::Nest(left) => {
             let right = set - left;
-            let left = boxed(alloc, prices, table, left)?;
-            Ok(Plan::Nest(left, boxed(alloc, prices, table, right)?))
+            let left = boxed(alloc, block, table, left)?;
+            Ok(Plan::Nest(left, boxed(alloc, block, table, right)?))
         }
         Root::Hash(edge, left) => {
             let right = set - left;
-            let left = boxed(alloc, prices, table, left)?;
-            Ok(Plan::Hash(edge, left, boxed(alloc, prices, table, right)?))
+            let left = boxed(alloc, block, table, left)?;
+            Ok(Plan::Hash(edge, left, boxed(alloc, block, table, right)?))
         }
         Root::Merge(edge, left) => {
             let right = set - left;
-            let left = boxed(alloc, prices, table, left)?;
-            Ok(Plan::Merge(edge, left, boxed(alloc, prices, table, right)?))
+            let left = boxed(alloc, block, table, left)?;
+            Ok(Plan::Merge(edge, left, boxed(alloc, block, table, right)?))
         }
         Root::IndexLoop(edge, left, relation) => {
-            let left = boxed(alloc, prices, table, left)?;
+            let left = boxed(alloc, block, table, left)?;
             Ok(Plan::IndexLoop(edge, left, relation))
         }
     }
@@ -87,10 +88,10 @@ fn best_at(alloc: Global, prices: &Prices<'_>) -> Result<(Plan, u128), AllocErro
     ensures cost { IfOk result (λ found.
         found.1 ≡ optimal_cost (costing_tree prices.now.costing) prices.now.point) }
 {
-    let _block = prices.block();
-    let table = filled(prices);
-    let all = set_of_all(prices);
-    let p = rebuilt(alloc, prices, &table, all)?;
+    let block = prices.block();
+    let table = filled(prices, &edges_inside_sets(block), &[]);
+    let all = set_of_all(block);
+    let p = rebuilt(alloc, block, &table, all)?;
     Ok((p, table[all as usize].cost))
 }
 

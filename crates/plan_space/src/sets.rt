@@ -1,9 +1,9 @@
 // Sets of relations as numbers: bit r for relation r.
 ghost use Rattle.std.specs.Prelude.{◌≡◌, ◌-◌, ◌^◌, ◌<◌, ◌≤◌, length};
+ghost use Rattle.query_block.specs.Blocks.{block_tree};
 ghost use Rattle.plan_tree.specs.Sets.{set_of};
-ghost use Rattle.plan_space.specs.Prices.{block_at};
 
-use crate::prices::Prices;
+use query_block::Block;
 
 /// The set of one relation.
 pub(crate) fn set_of_one(relation: u8) -> u8
@@ -14,12 +14,12 @@ pub(crate) fn set_of_one(relation: u8) -> u8
 }
 
 /// The set of all relations of the block.
-pub(crate) fn set_of_all(prices: &Prices<'_>) -> u8
-    ensures all { result ≡ 2 ^ length (block_at prices.now).relations - 1 }
+pub(crate) fn set_of_all(block: &Block) -> u8
+    ensures all { result ≡ 2 ^ length (block_tree block.now).relations - 1 }
     ensures some { 1 ≤ result }
     ensures small { result < 64 }
 {
-    let count = prices.block().relations().len();
+    let count = block.relations().len();
     set_of_one(count as u8) - 1
 }
 

@@ -1,9 +1,10 @@
 // One node is considered for the entry of a set; what the plans of its sides cost.
 ghost use Rattle.std.specs.Prelude.{◌≡◌, ◌+◌, ◌-◌, ◌*◌, ◌^◌, ◌<◌, ◌≤◌};
-ghost use Rattle.plan_space.specs.Table.{entry_at, IsOffered};
+ghost use Rattle.plan_space.specs.declared.roots.Root.{Root};
+ghost use Rattle.plan_space.specs.Table.{entry_at, side_costs, IsOffered};
 ghost use Rattle.plan_space.specs.Prices.{own_at, block_at};
-ghost use Rattle.plan_space.specs.Roots.{IsSplit};
-ghost use Rattle.plan_space.specs.Steps.{Considers, IsFilledBelow};
+ghost use Rattle.plan_space.specs.Roots.{IsSplit, Stands};
+ghost use Rattle.plan_space.specs.Steps.{Considers, IsFilledBelow, IsByLeft};
 
 use crate::entry::{Entry, keep};
 use crate::prices::Prices;
@@ -27,8 +28,8 @@ pub(crate) fn consider(
     keep(start, cost, root)
 }
 
-// The entry of a set.
-fn entry_at(table: &[Entry; 64], set: u8) -> Entry
+/// The entry of a set.
+pub(crate) fn entry_at(table: &[Entry; 64], set: u8) -> Entry
     requires { set < 64 }
     ensures { result ≡ entry_at table.now set }
 {
@@ -56,4 +57,20 @@ pub(crate) fn left_side(prices: &Prices<'_>, table: &[Entry; 64], set: u8, left:
 {
     let _prices = prices;
     entry_at(table, left).cost
+}
+
+/// What the plans of the sides of a set cost at the least that a join of them needs: where the right side is one relation, an
+/// index loop needs no plan of it.
+pub(crate) fn least_sides(prices: &Prices<'_>, table: &[Entry; 64], set: u8, left: u8) -> u128
+    requires ready { IsFilledBelow prices.now table.now set }
+    requires split { IsSplit left set }
+    ensures { (node : Root) → IsByLeft left node → Stands (block_at prices.now) node set →
+        result ≤ side_costs table.now node set }
+{
+    let right = set - left;
+    if right == 1 << right.trailing_zeros() {
+        left_side(prices, table, set, left)
+    } else {
+        both_sides(prices, table, set, left)
+    }
 }

@@ -2,49 +2,49 @@ use Rattle.std.proofs.Common.{◌≡◌, ◌∙◌, ap, rules}
 use Rattle.plan_tree.specs.declared.plan.Plan.{the_lemmas}
 use Rattle.plan_tree.specs.declared.plan.Plan.TheVariants as plan
 use Rattle.plan_tree.specs.Plans.{plan_tree, covers_of, Nest, Hash, Merge, IndexLoop}
-use Rattle.plan_space.specs.Prices.{own_at, block_at}
+use Rattle.query_block.specs.Blocks.{block_tree}
 use Rattle.plan_space.proofs.Filled.{covers-nest, covers-hash, covers-merge, covers-loop}
 use Rattle.plan_space.proofs.search.+rebuilt.Goals as goal
 
 pub rebuilt-returns-in_ok-boxed-in-Nest-clause-covers : goal.rebuilt-returns-in_ok-boxed-in-Nest-clause-covers
 rebuilt-returns-in_ok-boxed-in-Nest-clause-covers t c =
-    let at = c.args.prices.now in
+    let block = block_tree c.args.block.now in
     let left = c.in_ok-left-in-Nest.left in
     let right = c.in_ok-boxed-in-Nest.field-0 in
     let seen : plan_tree (plan.Nest left right) ≡ Nest (plan_tree left.value) (plan_tree right.value) = search (rules, the_lemmas) in
     ap covers_of seen
-    ∙ covers-nest (own_at at) (block_at at) c.args.table.now c.requires.filled c.args.set c.requires.some c.requires.below c.in-Nest.left _ _ c.in-Nest.is
+    ∙ covers-nest block c.args.table.now c.requires.stands c.args.set c.requires.some c.requires.below c.in-Nest.left _ _ c.in-Nest.is
     c.in_ok-left-in-Nest.ensures.covers c.in_ok-boxed-in-Nest.ensures.covers
 
 pub rebuilt-returns-in_ok-boxed-in-Hash-clause-covers : goal.rebuilt-returns-in_ok-boxed-in-Hash-clause-covers
 rebuilt-returns-in_ok-boxed-in-Hash-clause-covers t c =
-    let at = c.args.prices.now in
+    let block = block_tree c.args.block.now in
     let edge = c.in-Hash.edge in
     let left = c.in_ok-left-in-Hash.left in
     let right = c.in_ok-boxed-in-Hash.field-0 in
     let seen : plan_tree (plan.Hash edge left right) ≡ Hash edge (plan_tree left.value) (plan_tree right.value) = search (rules, the_lemmas) in
     ap covers_of seen
-    ∙ covers-hash (own_at at) (block_at at) c.args.table.now c.requires.filled c.args.set c.requires.some c.requires.below edge c.in-Hash.left _ _ c.in-Hash.is
+    ∙ covers-hash block c.args.table.now c.requires.stands c.args.set c.requires.some c.requires.below edge c.in-Hash.left _ _ c.in-Hash.is
     c.in_ok-left-in-Hash.ensures.covers c.in_ok-boxed-in-Hash.ensures.covers
 
 pub rebuilt-returns-in_ok-boxed-in-Merge-clause-covers : goal.rebuilt-returns-in_ok-boxed-in-Merge-clause-covers
 rebuilt-returns-in_ok-boxed-in-Merge-clause-covers t c =
-    let at = c.args.prices.now in
+    let block = block_tree c.args.block.now in
     let edge = c.in-Merge.edge in
     let left = c.in_ok-left-in-Merge.left in
     let right = c.in_ok-boxed-in-Merge.field-0 in
     let seen : plan_tree (plan.Merge edge left right) ≡ Merge edge (plan_tree left.value) (plan_tree right.value) = search (rules, the_lemmas) in
     ap covers_of seen
-    ∙ covers-merge (own_at at) (block_at at) c.args.table.now c.requires.filled c.args.set c.requires.some c.requires.below edge c.in-Merge.left _ _ c.in-Merge.is
+    ∙ covers-merge block c.args.table.now c.requires.stands c.args.set c.requires.some c.requires.below edge c.in-Merge.left _ _ c.in-Merge.is
     c.in_ok-left-in-Merge.ensures.covers c.in_ok-boxed-in-Merge.ensures.covers
 
 pub rebuilt-returns-in_ok-left-in-IndexLoop-clause-covers : goal.rebuilt-returns-in_ok-left-in-IndexLoop-clause-covers
 rebuilt-returns-in_ok-left-in-IndexLoop-clause-covers t c =
-    let at = c.args.prices.now in
+    let block = block_tree c.args.block.now in
     let edge = c.in-IndexLoop.edge in
     let relation = c.in-IndexLoop.relation in
     let left = c.in_ok-left-in-IndexLoop.left in
     let seen : plan_tree (plan.IndexLoop edge left relation) ≡ IndexLoop edge (plan_tree left.value) relation = search (rules, the_lemmas) in
     ap covers_of seen
-    ∙ covers-loop (own_at at) (block_at at) c.args.table.now c.requires.filled c.args.set c.requires.some c.requires.below edge c.in-IndexLoop.left relation _ c.in-IndexLoop.is
+    ∙ covers-loop block c.args.table.now c.requires.stands c.args.set c.requires.some c.requires.below edge c.in-IndexLoop.left relation _ c.in-IndexLoop.is
     c.in_ok-left-in-IndexLoop.ensures.covers

@@ -7,7 +7,7 @@ use Rattle.plan_space.proofs.sets.set_of_all.Goals as goal
 pub returns-clause-some : goal.returns-clause-some
 returns-clause-some c =
     let count = length c.relations-count.result.now in
-    let many = length-map c.block.result.now.relations relation_tree in
+    let many = length-map c.args.block.now.relations relation_tree in
     let block = c.relations-count.ensures.block in
     let two : 2 ^ 1 ≤ 2 ^ count = power-to 1 count (omega (arith, many, block.some, ap length c.relations-count.ensures.relations)) in
     omega (arith, two, c.set_of_one.ensures)
@@ -15,7 +15,7 @@ returns-clause-some c =
 pub returns-clause-small : goal.returns-clause-small
 returns-clause-small c =
     let count = length c.relations-count.result.now in
-    let many = length-map c.block.result.now.relations relation_tree in
+    let many = length-map c.args.block.now.relations relation_tree in
     let block = c.relations-count.ensures.block in
     let few : 2 ^ count ≤ 2 ^ 6 = power-to count 6 (omega (arith, many, block.few, ap length c.relations-count.ensures.relations)) in
     omega (arith, few, c.set_of_one.ensures)

@@ -7,8 +7,8 @@ use Rattle.plan_space.specs.Prices.{own_at, block_at}
 use Rattle.plan_space.proofs.Filled.{next-power, sets-below, add-least}
 use Rattle.plan_space.proofs.table.add_relation.Goals as goal
 
-pub entry_of-requires-clause-ready : goal.entry_of-requires-clause-ready
-entry_of-requires-clause-ready c =
+pub entry_here-requires-clause-ready : goal.entry_here-requires-clause-ready
+entry_here-requires-clause-ready c =
     let relation = c.args.relation in
     let rest = c.loop-rest.rest in
     let all = (block_at c.args.prices.now).relations in
@@ -44,10 +44,10 @@ loop-rest-preserved c =
     let alone = c.set_of_one-alone.ensures in
     let less : rest < 2 ^ relation = omega (arith, alone, c.loop-rest-test.true) in
     let small : 2 ^ relation + rest < 2 ^ 6 = sets-below relation 6 rest (omega (arith, c.requires.relation, many, c.block-block.ensures.costing.block.few)) less in
-    let more = add-least (own_at at) (block_at at) c.loop-rest.table set c.entry_of.result c.loop-rest.invariant.1 (omega (arith, alone, small)) c.loop-rest.invariant.0 c.entry_of.ensures in
+    let more = add-least (own_at at) (block_at at) c.loop-rest.table set c.entry_here.result c.loop-rest.invariant.1 (omega (arith, alone, small)) c.loop-rest.invariant.0 c.entry_here.ensures in
     let next : set + 1 ≡ c.set_of_one-alone.result + (rest + 1) = omega arith in (
       subst (AreLeast (own_at at) (block_at at) _) next more,
-      length-set c.loop-rest.table set c.entry_of.result ∙ c.loop-rest.invariant.1,
+      length-set c.loop-rest.table set c.entry_here.result ∙ c.loop-rest.invariant.1,
     )
 
 pub returns : goal.returns

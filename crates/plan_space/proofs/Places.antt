@@ -1,0 +1,90 @@
+-- The place of the point that keeps the levels of some axes and has the lowest level on the others.
+use Rattle.std.proofs.Common.{◌≡◌, ℕ, zero, suc, ◌+◌, ◌-◌, ◌*◌, ◌<◌, ◌≤◌, Bool, true, false, cond, List, [], ◌∷◌, length, drop, get_or, Some, refl, sym, ap, subst, ◌∙◌, arith}
+use Rattle.std.specs.Prelude.{All, slice_index_or}
+use Rattle.std.proofs.Math.Seq.{drop-length}
+use Rattle.std.proofs.lemmas.List.Elements.{All-nil, All-cons, All-head, All-tail}
+use Rattle.sql_values.specs.Limits.{max_points}
+use Rattle.ess_grid.specs.Points.{GridShape, IsGrid, IsPoint, point_at}
+use Rattle.ess_grid.proofs.PointsAmong.{place_at, place_at-drop}
+use Rattle.ess_grid.proofs.GridPoints.{slice_get-place_at, place_at-drop-fits}
+use Rattle.cost_model.specs.Costing.{costing_tree, IsCosting}
+use Rattle.plan_space.specs.Pricing.{Pricing}
+use Rattle.plan_space.specs.Prices.{block_at}
+use Rattle.plan_space.specs.Alike.{IsAlikePlace, AreInside}
+
+-- the levels from the axis of this number on
+abbrev pub kept_levels : (inside : List Bool) → (number : ℕ) → List ℕ → List ℕ
+kept_levels inside number [] = []
+kept_levels inside number (level ∷ levels) = cond (slice_index_or inside number false) level 0 ∷ kept_levels inside (number + 1) levels
+
+pub length-kept_levels : (inside : List Bool) (number : ℕ) (levels : List ℕ) → length (kept_levels inside number levels) ≡ length levels
+length-kept_levels inside number [] = refl
+length-kept_levels inside number (level ∷ levels) = omega (arith, length-kept_levels inside (number + 1) levels)
+
+level-below : (b : Bool) (level top : ℕ) → level < top → cond b level 0 < top
+level-below true level top below = below
+level-below false level top below = omega (arith, below)
+
+All-kept_levels : (inside : List Bool) (number top : ℕ) (levels : List ℕ) → All (λ level. level < top) levels → All (λ level. level < top) (kept_levels inside number levels)
+All-kept_levels inside number top [] all = All-nil (λ level. level < top)
+All-kept_levels inside number top (level ∷ levels) all =
+    All-cons (λ level. level < top) _ _ (level-below (slice_index_or inside number false) level top (All-head (λ level. level < top) level levels all))
+    (All-kept_levels inside (number + 1) top levels (All-tail (λ level. level < top) level levels all))
+
+pub get_or-kept_levels : (inside : List Bool) (number : ℕ) (levels : List ℕ) (axis : ℕ) → axis < length levels
+    → get_or (kept_levels inside number levels) axis 0 ≡ cond (slice_index_or inside (number + axis) false) (get_or levels axis 0) 0
+get_or-kept_levels inside number [] axis below = absurd (omega (arith, below))
+get_or-kept_levels inside number (level ∷ levels) zero below =
+    let here : number ≡ number + 0 = omega arith in
+    ap (λ n. cond (slice_index_or inside n false) level 0) here
+get_or-kept_levels inside number (level ∷ levels) (suc axis) below =
+    let next : number + 1 + axis ≡ number + suc axis = omega arith in
+    get_or-kept_levels inside (number + 1) levels axis (omega (arith, below))
+    ∙ ap (λ n. cond (slice_index_or inside n false) (get_or levels axis 0) 0) next
+
+pub is-point : (grid : GridShape) (inside : List Bool) (point : List ℕ) → IsPoint grid point → IsPoint grid (kept_levels inside 0 point)
+is-point grid inside point is = record {
+  axes = length-kept_levels inside 0 point ∙ is.axes;
+  levels = All-kept_levels inside 0 grid.levels point is.levels;
+}
+
+-- where these are the edges inside a set, it is alike for the set
+pub alike-place : (at : Pricing) (set : ℕ) (inside : List Bool) (place : ℕ) → IsCosting (costing_tree at.costing) → IsPoint at.costing.grid at.point → AreInside (block_at at) set inside
+    → place ≡ place_at at.costing.grid.levels (kept_levels inside 0 at.point) → IsAlikePlace at set place
+alike-place at set inside place is point edges there = record {
+  other = kept_levels inside 0 at.point;
+  there = subst (λ n. point_at at.costing.grid n ≡ Some (kept_levels inside 0 at.point)) (sym there)
+      (slice_get-place_at at.costing.grid (kept_levels inside 0 at.point) is.grid (is-point at.costing.grid inside at.point point));
+  alike = record {
+    levels = λ edge below within.
+        let exists : edge < length at.point = omega (arith, below, point.axes, is.axes) in
+        let here : 0 + edge ≡ edge = omega arith in
+        get_or-kept_levels inside 0 at.point edge exists
+        ∙ ap (λ n. cond (slice_index_or inside n false) (get_or at.point edge 0) 0) here
+        ∙ ap (λ b. cond b (get_or at.point edge 0) 0) (edges edge below ∙ within);
+  };
+}
+
+-- one axis more, from the last one down
+pub next-place : (grid : GridShape) (inside : List Bool) (point lent : List ℕ) (count axis place level : ℕ) → IsGrid grid → IsPoint grid point → count ≡ grid.levels → lent ≡ point
+    → 0 < axis → axis ≤ length lent → place ≡ place_at grid.levels (drop axis (kept_levels inside 0 point))
+    → level ≡ cond (slice_index_or inside (axis - 1) false) (get_or lent (axis - 1) 0) 0
+    → (place * count + level ≡ place_at grid.levels (drop (axis - 1) (kept_levels inside 0 point))) × (place * count + level ≤ max_points)
+next-place grid inside point lent count axis place level is is_point count-is lent-is some long place-is level-is =
+    let kept = kept_levels inside 0 point in
+    let all : axis ≤ length kept = omega (arith, length-kept_levels inside 0 point, ap length lent-is, long) in
+    let before : axis - 1 < length point = omega (arith, ap length lent-is, long, some) in
+    let number : axis - 1 ≡ 0 + (axis - 1) = omega arith in
+    let one-more : axis - 1 + 1 ≡ axis = omega (arith, some) in
+    let same : level ≡ get_or kept (axis - 1) 0 =
+    level-is ∙ ap (λ levels. cond (slice_index_or inside (axis - 1) false) (get_or levels (axis - 1) 0) 0) lent-is
+    ∙ ap (λ n. cond (slice_index_or inside n false) (get_or point (axis - 1) 0) 0) number ∙ sym (get_or-kept_levels inside 0 point (axis - 1) before) in
+    let step = place_at-drop grid.levels kept (axis - 1) (omega (arith, all, some)) in
+    let stepped : place_at grid.levels (drop (axis - 1) kept) ≡ place_at grid.levels (drop axis kept) * grid.levels + get_or kept (axis - 1) 0 = rw one-more at step in
+    let now : place * count + level ≡ place_at grid.levels (drop axis kept) * grid.levels + get_or kept (axis - 1) 0 = λ i. place-is i * count-is i + same i in
+    (now ∙ sym stepped, omega (arith, now, place_at-drop-fits grid kept axis is (is-point grid inside point is_point) some all))
+
+pub no-axis : (grid : GridShape) (inside : List Bool) (point lent : List ℕ) → lent ≡ point → 0 ≡ place_at grid.levels (drop (length lent) (kept_levels inside 0 point))
+no-axis grid inside point lent lent-is =
+    let long : length lent ≡ length (kept_levels inside 0 point) = ap length lent-is ∙ sym (length-kept_levels inside 0 point) in
+    sym (ap (place_at grid.levels) (ap (λ n. drop n (kept_levels inside 0 point)) long ∙ drop-length (kept_levels inside 0 point)))

@@ -1,0 +1,69 @@
+// Which other point serves for a set of relations: what plans of a set cost depends on the levels of the edges inside it alone.
+ghost use Rattle.std.specs.Prelude.{◌≡◌, ◌<◌, ◌≤◌, if◌then◌else◌, length};
+ghost use Rattle.query_block.specs.Blocks.{block_tree};
+ghost use Rattle.query_block.specs.Meaning.{is_inside};
+ghost use Rattle.plan_tree.specs.Sets.{set_of};
+ghost use Rattle.plan_space.specs.Prices.{block_at};
+ghost use Rattle.plan_space.specs.Alike.{AreInside, AreInsideSets, IsAlikePlace};
+
+use crate::prices::Prices;
+use crate::sets::has;
+use query_block::{Block, Edge};
+use sql_values::MAX_AXES;
+
+// Whether both relations of an edge are in a set.
+fn is_inside(set: u8, edge: &Edge) -> bool
+    requires left { edge.now.left < 8 }
+    requires right { edge.now.right < 8 }
+    ensures { result ≡ is_inside (set_of set) edge.now }
+{
+    has(set, edge.left) && has(set, edge.right)
+}
+
+// For each edge, whether it is inside a set.
+fn edges_inside(block: &Block, set: u8) -> [bool; MAX_AXES]
+    ensures { AreInside (block_tree block.now) set result }
+{
+    let edges = block.edges();
+    let mut inside = [false; MAX_AXES];
+    for edge in 0..edges.len() {
+        inside[edge] = is_inside(set, &edges[edge]);
+    }
+    inside
+}
+
+/// For each set of relations and each edge, whether it is inside the set.
+pub(crate) fn edges_inside_sets(block: &Block) -> [[bool; MAX_AXES]; 64]
+    ensures { AreInsideSets (block_tree block.now) result }
+{
+    let mut sets = [[false; MAX_AXES]; 64];
+    for set in 0..64 {
+        sets[set] = edges_inside(block, set as u8);
+    }
+    sets
+}
+
+// The level where an edge is inside, and the lowest one elsewhere.
+fn kept_level(inside: bool, level: u8) -> u8
+    ensures { result ≡ (if inside then level else 0) }
+{
+    if inside { level } else { 0 }
+}
+
+/// The place of the first of the points that are alike for a set: it has the levels of the edges inside the set, and level 0
+/// on all other axes.
+pub(crate) fn alike_place(prices: &Prices<'_>, inside: &[[bool; MAX_AXES]; 64], set: u8) -> usize
+    requires set { set < 64 }
+    requires inside { AreInsideSets (block_at prices.now) inside.now }
+    ensures { IsAlikePlace prices.now set result }
+{
+    let _block = prices.block();
+    let kept = &inside[set as usize];
+    let count = prices.grid().levels();
+    let levels = prices.point().levels();
+    let mut place = 0;
+    for axis in (0..levels.len()).rev() {
+        place = place * count + kept_level(kept[axis], levels[axis]) as usize;
+    }
+    place
+}
