@@ -1,0 +1,3 @@
+pub mod Most
+pub mod Ends
+pub mod Bound

@@ -1,0 +1,152 @@
+// A bouquet. Its parts never change.
+ghost use Rattle.std.specs.Prelude.{◌≡◌, ◌-◌, ◌^◌, ◌<◌, ◌≤◌, length, map, slice_index};
+ghost use Rattle.sql_values.specs.Limits.{max_points};
+ghost use Rattle.bouquet_type.specs.Trees.{IsBouquet, bouquet_tree};
+ghost use Rattle.bouquet_type.specs.Budgets.{budget_of, most_plans};
+
+use crate::contour::Contour;
+use cost_model::{Costing, Stats};
+use ess_grid::Grid;
+use query_block::Block;
+use std::marker::Model;
+
+/// A few plans of a block on each of its contours: with the counts, the grid and the threshold by which they were chosen.
+#[derive(Debug, Drop)]
+pub struct Bouquet {
+    block: Block,
+    stats: Stats,
+    grid: Grid,
+    threshold: u32,
+    contours: Vec<Contour>,
+}
+
+impl Model for Bouquet {
+    ghost use Rattle.query_block.specs.contracts.condition.Condition as condition;
+    ghost use Rattle.plan_tree.specs.contracts.plan.Plan as plan;
+    ghost use Rattle.std.specs.Coded.{codes};
+    ghost use Rattle.bouquet_type.specs.Shapes.{BouquetShape};
+    ghost use Rattle.bouquet_type.specs.Trees.{IsBouquet};
+
+    ghost Value = { BouquetShape };
+
+    ghost coded = { Prim.hlevel (codes, condition.the_row.coded, plan.the_row.coded) };
+
+    ghost view = { λ b. record {
+      block = b.block;
+      stats = b.stats;
+      grid = b.grid;
+      threshold = b.threshold;
+      contours = b.contours.items;
+    } };
+
+    ghost invariant = { λ b. IsBouquet (record {
+      block = b.block;
+      stats = b.stats;
+      grid = b.grid;
+      threshold = b.threshold;
+      contours = b.contours.items;
+    }) };
+}
+
+impl Bouquet {
+    /// The bouquet of a block: by these counts, on this grid, with this threshold in percent, of these contours, the
+    /// cheapest first. It takes no memory.
+    pub fn new(
+        block: Block,
+        stats: Stats,
+        grid: Grid,
+        threshold: u32,
+        contours: Vec<Contour>,
+    ) -> Bouquet
+        requires { IsBouquet (record {
+          block = block;
+          stats = stats;
+          grid = grid;
+          threshold = threshold;
+          contours = contours.items;
+        }) }
+        ensures block { result.block ≡ block }
+        ensures stats { result.stats ≡ stats }
+        ensures grid { result.grid ≡ grid }
+        ensures threshold { result.threshold ≡ threshold }
+        ensures contours { result.contours ≡ contours.items }
+    {
+        Bouquet {
+            block,
+            stats,
+            grid,
+            threshold,
+            contours,
+        }
+    }
+
+    /// The block of which its plans are.
+    pub fn block(&self) -> &Block
+        ensures block { result.now ≡ self.now.block }
+        ensures bouquet { IsBouquet self.now }
+    {
+        &self.block
+    }
+
+    /// The counts of the block's tables.
+    pub fn stats(&self) -> &Stats
+        ensures { result.now ≡ self.now.stats }
+    {
+        &self.stats
+    }
+
+    /// The grid, each of whose axes is an edge of the block.
+    pub fn grid(&self) -> &Grid
+        ensures { result.now ≡ self.now.grid }
+    {
+        &self.grid
+    }
+
+    /// The threshold, in percent: at most 1000.
+    pub fn threshold(&self) -> u32
+        ensures { result ≡ self.now.threshold }
+    {
+        self.threshold
+    }
+
+    /// Its contours, the cheapest first: 1 to 128.
+    pub fn contours(&self) -> &[Contour]
+        ensures contours { result.now ≡ self.now.contours }
+        ensures bouquet { IsBouquet self.now }
+    {
+        &self.contours
+    }
+
+    /// What plans of the block cost, by these counts, on this grid.
+    pub fn costing(&self) -> Costing<'_>
+        ensures block { result.block ≡ self.now.block }
+        ensures stats { result.stats ≡ self.now.stats }
+        ensures grid { result.grid ≡ self.now.grid }
+    {
+        Costing::new(&self.block, &self.stats, &self.grid)
+    }
+
+    /// The budget of each execution on the contour of this number, from 1, in units of work.
+    pub fn budget(&self, k: usize) -> u128
+        requires some { 1 ≤ k }
+        requires there { k ≤ length self.now.contours }
+        ensures budget { result ≡ budget_of self.now.threshold
+            (slice_index (map (λ contour. contour.cost) self.now.contours) (k - 1)) }
+        ensures bound { result < 2 ^ 118 }
+    {
+        self.contours[k - 1].cost * u128::from(100 + self.threshold) / 100
+    }
+
+    /// The most plans that one of its contours has: 1 to 4096.
+    pub fn most(&self) -> u64
+        ensures most { result ≡ most_plans (bouquet_tree self.now).contours }
+        ensures some { 1 ≤ result }
+        ensures few { result ≤ max_points }
+    {
+        let mut most = 0;
+        for contour in self.contours() {
+            most = most.max(contour.plans.len());
+        }
+        most as u64
+    }
+}
