@@ -1,0 +1,33 @@
+-- Numbers that stand by the places of points.
+use Rattle.std.proofs.Common.{◌≡◌, ◌∙◌, ℕ, ◌+◌, ◌<◌, List, [], ◌∷◌, ◌++◌, length, map, get_or, take, Some, ap, sym, arith}
+use Rattle.std.specs.Prelude.{slice_get}
+use Rattle.std.proofs.lemmas.List.{get_or_read, get_or-map, map_more, length-map}
+use Rattle.std.proofs.lemmas.Option.{slice_get-get_or, slice_get_within}
+
+-- the point at a place
+pub point-there : (points : List (List ℕ)) (place : ℕ) (point : List ℕ) → slice_get points place ≡ Some point → point ≡ get_or points place []
+point-there points place point is =
+    let there = slice_get-get_or points place [] (slice_get_within points place point is) in
+    cc
+
+-- what is read at a place is the number of the point there
+pub number-there : (f : List ℕ → ℕ) (points : List (List ℕ)) (numbers : List ℕ) (place n : ℕ) → numbers ≡ map f points → place < length points → n ≡ get_or numbers place n
+    → n ≡ f (get_or points place [])
+number-there f points numbers place n are below read =
+    let read' : n ≡ get_or (map f points) place n = read ∙ ap (λ all. get_or all place n) are in
+    get_or_read (map f points) place n (omega (arith, below, length-map points f)) read' 0 ∙ get_or-map f points place [] 0 below
+
+-- one number more
+pub number-more : (f : List ℕ → ℕ) (points : List (List ℕ)) (place : ℕ) (point numbers : List ℕ) (n : ℕ) → slice_get points place ≡ Some point
+    → numbers ≡ map f (take place points) → n ≡ f point → numbers ++ n ∷ [] ≡ map f (take (place + 1) points)
+number-more f points place point numbers n is are same =
+    let here : n ≡ f (get_or points place []) = same ∙ ap f (point-there points place point is) in
+    ap (λ all. all ++ n ∷ []) are
+    ∙ ap (λ one. map f (take place points) ++ one ∷ []) here
+    ∙ sym (map_more f points place [] (slice_get_within points place point is))
+
+-- so it is where the point is known
+pub number-of-point : (f : List ℕ → ℕ) (points : List (List ℕ)) (numbers : List ℕ) (place n : ℕ) (point : List ℕ) → numbers ≡ map f points → slice_get points place ≡ Some point
+    → n ≡ get_or numbers place n → n ≡ f point
+number-of-point f points numbers place n point are is read =
+    number-there f points numbers place n are (slice_get_within points place point is) read ∙ ap f (sym (point-there points place point is))
