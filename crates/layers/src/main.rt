@@ -4,6 +4,7 @@
 //! is 1. It never builds a block by hand.
 #![tactic(auto)]
 
+mod bouquets;
 mod canonical;
 mod costs;
 mod fixture;
@@ -28,9 +29,10 @@ enum Question {
     Cost,
     Tree,
     UsableIndex,
+    Bouquet,
 }
 
-const FILES: [(&str, Question); 8] = [
+const FILES: [(&str, Question); 9] = [
     ("canonical.txt", Question::CanonicalText),
     ("runs.txt", Question::Run),
     ("large.txt", Question::Run),
@@ -39,6 +41,7 @@ const FILES: [(&str, Question); 8] = [
     ("costs.txt", Question::Cost),
     ("trees.txt", Question::Tree),
     ("conditions.txt", Question::UsableIndex),
+    ("bouquets.txt", Question::Bouquet),
 ];
 
 // How many lines agree, and how many don't.
@@ -63,6 +66,7 @@ fn answered(
         Question::Cost => costs::cost_line(alloc, db, line),
         Question::Tree => rules::tree_line(alloc, db, line),
         Question::UsableIndex => rules::usable_line(alloc, db, line),
+        Question::Bouquet => bouquets::bouquet_line(alloc, db, line),
     }
 }
 
