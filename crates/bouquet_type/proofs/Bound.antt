@@ -5,7 +5,7 @@ use Rattle.std.proofs.Math.Nat.{mul-le-mul_left}
 use Rattle.std.proofs.lemmas.Nat.{mul-le}
 use Rattle.std.proofs.lemmas.Bool.{le-leb, lt-leb, cases_lt}
 use Rattle.std.proofs.lemmas.List.Elements.{All-head, All-tail, All-contains}
-use Rattle.ess_grid.specs.Points.{IsPoint, bottom_of, top_of}
+use Rattle.ess_grid.specs.Points.{bottom_of, top_of}
 use Rattle.ess_grid.proofs.GridPoints.{PointBelow-bottom, PointBelow-top}
 use Rattle.plan_tree.specs.Plans.{PlanTree, Scan, IndexScan, Nest, Hash, Merge, IndexLoop}
 use Rattle.plan_tree.specs.Enumerated.{IsPlan}
@@ -19,9 +19,10 @@ use Rattle.cost_model.proofs.Monotone.{optimal-le}
 use Rattle.cost_model.proofs.Least.{optimal-least}
 use Rattle.bouquet_type.specs.Trees.{BouquetTree, ContourTree}
 use Rattle.bouquet_type.specs.Budgets.{budget_of, most_plans}
-use Rattle.bouquet_type.specs.Sound.{IsSound, AreDoubled, FitsAt, first_cost, last_cost}
+use Rattle.bouquet_type.specs.Sound.{AreDoubled, FitsAt, first_cost, last_cost}
 use Rattle.bouquet_type.specs.Schedule.{Member, members_on, members_from, final_plan}
-use Rattle.bouquet_type.specs.Runs.{CostPremise, end_of, total_work}
+use Rattle.bouquet_type.specs.Runs.{end_of, total_work}
+use Rattle.bouquet_type.specs.Bounded.{MeetsBound}
 
 -- the work of a run over some members
 abbrev total_of : (work : PlanTree → ℕ) → List Member → (final : PlanTree) → ℕ
@@ -160,11 +161,9 @@ all-of total optimal work most threshold a b spent near =
     let scaled : rate * (b * optimal) ≤ rate * (a * work) = mul-le-mul_left rate near in
     omega (arith, times, scaled)
 
-pub bound : (bouquet : BouquetTree) (work : PlanTree → ℕ) (point : List ℕ) (a b : ℕ) (p : PlanTree) → IsSound bouquet
-    → All (λ contour. All (IsPlan bouquet.costing.block) contour.plans) bouquet.contours → IsPoint bouquet.costing.grid point
-    → CostPremise bouquet.costing point a b work → IsPlan bouquet.costing.block p
-    → 100 * b * total_work bouquet work ≤ 4 * a * (100 + bouquet.threshold) * most_plans bouquet.contours * work p
-bound bouquet work point a b p sound plans is_point premise plan =
+pub bound : (bouquet : BouquetTree) (work : PlanTree → ℕ)
+    → All (λ contour. All (IsPlan bouquet.costing.block) contour.plans) bouquet.contours → MeetsBound bouquet work (total_work bouquet work)
+bound bouquet work plans = λ point a b p sound is_point premise plan.
     let costing = bouquet.costing in
     let optimal = optimal_cost costing point in
     let most = most_plans bouquet.contours in

@@ -4,4 +4,7 @@ pub mod Budgets
 pub mod Compiled
 pub mod Sound
 pub mod Schedule
+pub mod Cursor
 pub mod Runs
+pub mod Bounded
+pub mod Reports

@@ -1,14 +1,29 @@
 // A bouquet. Its parts never change.
 ghost use Rattle.std.specs.Prelude.{◌≡◌, ◌-◌, ◌^◌, ◌<◌, ◌≤◌, length, map, slice_index};
-ghost use Rattle.sql_values.specs.Limits.{max_points};
+ghost use Rattle.sql_values.specs.Limits.{max_points, max_threshold};
+ghost use Rattle.query_block.specs.Blocks.{block_tree};
+ghost use Rattle.plan_tree.specs.Plans.{plan_tree};
+ghost use Rattle.plan_tree.specs.Enumerated.{IsPlan};
 ghost use Rattle.bouquet_type.specs.Trees.{IsBouquet, bouquet_tree};
 ghost use Rattle.bouquet_type.specs.Budgets.{budget_of, most_plans};
+ghost use Rattle.bouquet_type.specs.Schedule.{final_plan};
 
 use crate::contour::Contour;
 use cost_model::{Costing, Stats};
 use ess_grid::Grid;
+use plan_tree::Plan;
 use query_block::Block;
 use std::marker::Model;
+
+// The budget on a contour of this cost, by a threshold in percent.
+pub(crate) fn budget_on(threshold: u32, cost: u128) -> u128
+    requires threshold { threshold ≤ max_threshold }
+    requires cost { cost ≤ 2 ^ 114 }
+    ensures budget { result ≡ budget_of threshold cost }
+    ensures bound { result < 2 ^ 118 }
+{
+    cost * u128::from(100 + threshold) / 100
+}
 
 /// A few plans of a block on each of its contours: with the counts, the grid and the threshold by which they were chosen.
 #[derive(Debug, Drop)]
@@ -134,7 +149,17 @@ impl Bouquet {
             (slice_index (map (λ contour. contour.cost) self.now.contours) (k - 1)) }
         ensures bound { result < 2 ^ 118 }
     {
-        self.contours[k - 1].cost * u128::from(100 + self.threshold) / 100
+        budget_on(self.threshold, self.contours[k - 1].cost)
+    }
+
+    /// The last plan of the last contour: it is executed without a budget, where no execution under one is done.
+    pub fn final_plan(&self) -> &Plan
+        ensures plan { plan_tree result.now ≡ final_plan (bouquet_tree self.now) }
+        ensures is_plan { IsPlan (block_tree self.now.block) (plan_tree result.now) }
+    {
+        let contours = self.contours();
+        let plans = contours[contours.len() - 1].plans.as_slice();
+        &plans[plans.len() - 1]
     }
 
     /// The most plans that one of its contours has: 1 to 4096.

@@ -1,25 +1,28 @@
-// The laws of runs. Each has no body: its clauses speak of the definitions alone.
+// The laws of compiled bouquets and of runs. Each has no body: its clauses speak of the definitions alone.
 ghost use Rattle.std.specs.Prelude.{◌≡◌, ℕ, ◌+◌, ◌*◌, ◌<◌, ◌≤◌, ◌⊎◌, ◌++◌, ◌∷◌, List, All, length, sum_by};
-ghost use Rattle.ess_grid.specs.Points.{IsPoint};
 ghost use Rattle.plan_tree.specs.Plans.{PlanTree};
 ghost use Rattle.plan_tree.specs.Enumerated.{IsPlan};
 ghost use Rattle.bouquet_type.specs.Trees.{BouquetTree};
-ghost use Rattle.bouquet_type.specs.Budgets.{most_plans};
-ghost use Rattle.bouquet_type.specs.Sound.{IsSound};
+ghost use Rattle.bouquet_type.specs.Compiled.{IsCompiled, compiled};
+ghost use Rattle.bouquet_type.specs.Bounded.{MeetsBound};
 ghost use Rattle.bouquet_type.specs.Schedule.{Member};
-ghost use Rattle.bouquet_type.specs.Runs.{CostPremise, end_of, total_work};
+ghost use Rattle.bouquet_type.specs.Runs.{end_of, total_work};
 
-/// The law of the bound: where the work of plans is as the costs at a point of the grid say, but for a factor of a / b, the
-/// work of the whole run of a sound bouquet is at most 4 * a / b * (1 + threshold / 100) times the most plans of a contour
-/// times the work of any plan of the block.
+/// The law of compiled bouquets: what plans cost and the threshold determine a whole compiled bouquet of at most 128 contours,
+/// and no `Bouquet` has more.
+pub fn there_is_one_compiled_bouquet()
+    ensures { (bouquet : BouquetTree) → IsCompiled bouquet → length bouquet.contours ≤ 128 →
+        bouquet ≡ compiled bouquet.costing bouquet.threshold }
+{}
+
+/// The law of the bound: whatever the plans of a block take, the work of the whole run of a bouquet of them meets the bound.
+/// For a sound bouquet that is a promise: where the work of plans is as the costs at a point of the grid say, but for a
+/// factor of a / b, it is at most 4 * a / b * (1 + threshold / 100) times the most plans of a contour times the work of any
+/// plan of the block.
 pub fn a_sound_bouquet_meets_the_bound()
-    ensures { (bouquet : BouquetTree) (work : PlanTree → ℕ) (point : List ℕ) (a b : ℕ) →
-        (p : PlanTree) → IsSound bouquet →
+    ensures { (bouquet : BouquetTree) (work : PlanTree → ℕ) →
         All (λ contour. All (IsPlan bouquet.costing.block) contour.plans) bouquet.contours →
-        IsPoint bouquet.costing.grid point →
-        CostPremise bouquet.costing point a b work → IsPlan bouquet.costing.block p →
-        100 * b * total_work bouquet work ≤
-        4 * a * (100 + bouquet.threshold) * most_plans bouquet.contours * work p }
+        MeetsBound bouquet work (total_work bouquet work) }
 {}
 
 /// The law of the end: the first member whose work is within its budget ends the run, and all before it spent their budgets;
