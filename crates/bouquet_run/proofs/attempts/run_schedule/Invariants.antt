@@ -1,0 +1,11 @@
+use Rattle.std.proofs.Common.{length}
+use Rattle.bouquet_type.specs.Cursor.{members_left}
+use Rattle.bouquet_run.proofs.Between.{IsBetween}
+use Rattle.bouquet_run.proofs.attempts.run_schedule.Given as goal
+
+abbrev pub invariant-members : goal.invariant-members
+invariant-members l =
+    IsBetween l.b l.initial.meter l.meter l.max_work l.runs l.schedule l.initial.space.work l.space.work l.initial.space.result l.space.result
+
+abbrev pub decreases-members : goal.decreases-members
+decreases-members l = length (members_left l.schedule)
