@@ -4,6 +4,7 @@
 //! is 1. It never builds a block by hand.
 #![tactic(auto)]
 
+mod bouquet_runs;
 mod bouquets;
 mod canonical;
 mod costs;
@@ -30,9 +31,10 @@ enum Question {
     Tree,
     UsableIndex,
     Bouquet,
+    BouquetRun,
 }
 
-const FILES: [(&str, Question); 9] = [
+const FILES: [(&str, Question); 10] = [
     ("canonical.txt", Question::CanonicalText),
     ("runs.txt", Question::Run),
     ("large.txt", Question::Run),
@@ -42,6 +44,7 @@ const FILES: [(&str, Question); 9] = [
     ("trees.txt", Question::Tree),
     ("conditions.txt", Question::UsableIndex),
     ("bouquets.txt", Question::Bouquet),
+    ("bouquet_runs.txt", Question::BouquetRun),
 ];
 
 // How many lines agree, and how many don't.
@@ -67,6 +70,7 @@ fn answered(
         Question::Tree => rules::tree_line(alloc, db, line),
         Question::UsableIndex => rules::usable_line(alloc, db, line),
         Question::Bouquet => bouquets::bouquet_line(alloc, db, line),
+        Question::BouquetRun => bouquet_runs::bouquet_run_line(alloc, db, line),
     }
 }
 
