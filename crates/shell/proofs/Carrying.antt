@@ -7,14 +7,19 @@ use Rattle.std.proofs.lemmas.List.Elements.{All-nil, All-cons, All-append, All-w
 use Rattle.outside_io.specs.Files.{FolderState}
 use Rattle.shell.specs.declared.status.Status.{Status}
 use Rattle.shell.specs.declared.status.Status.TheVariants as status
-use Rattle.shell.specs.declared.refusal.Refusal.{Refusal}
+use Rattle.session.specs.declared.refusal.Refusal.{Refusal}
 use Rattle.sql_parse.specs.Trees.{StatementTree}
-use Rattle.shell.specs.Refusal.{line_of}
-use Rattle.shell.specs.Script.{SessionState, Outcome, Prints, Refuses, Answer, AsksForFile, Step, outcome, and_then, script_answer, nothing_made, refused_work, left_by, state_after}
-use Rattle.shell.specs.Serve.{IsGivenFor, statements_of_steps}
+use Rattle.session.specs.Refusal.{line_of}
+use Rattle.session.specs.Given.{IsGivenFor}
+use Rattle.session.specs.Outcome.{Outcome, Prints, Refuses, refused_work}
+use Rattle.session.specs.Statements.{AsksForFile, statement_outcome}
+use Rattle.session.specs.World.{World, nothing_made}
+use Rattle.session.proofs.Given.{given_in}
+use Rattle.shell.specs.Script.{Answer, Step, and_then, script_answer, left_by, state_after}
+use Rattle.shell.specs.Serve.{statements_of_steps}
 use Rattle.shell.specs.Due.{CarriesAll}
 use Rattle.shell.proofs.Beginning.{whole_begins}
-use Rattle.shell.proofs.Given.{AreGiven, given_in, any_steps}
+use Rattle.shell.proofs.Steps.{AreGiven, any_steps}
 
 pub appends_none : (old : Option (List ℕ)) → Appends old old []
 appends_none None = tt
@@ -42,7 +47,7 @@ after_nothing answer =
     λ i. record { text = answer.text; work = work i; refused = answer.refused }
 
 -- the text so far is there and paid, and with what the statements from i on print it is the whole
-pub record IsCarried (all : List StatementTree) (i : ℕ) (before now : FolderState) (state : SessionState) (had got : Option (List ℕ)) (old paid : ℕ) : Type 0 where
+pub record IsCarried (max_work : ℕ) (all : List StatementTree) (i : ℕ) (before now : FolderState) (world : World) (had got : Option (List ℕ)) (old paid : ℕ) : Type 0 where
   pub steps : List Step
   pub are : statements_of_steps steps ≡ take i all
   pub given : AreGiven before now steps
@@ -50,11 +55,11 @@ pub record IsCarried (all : List StatementTree) (i : ℕ) (before now : FolderSt
   pub work : ℕ
   pub put : Appends had got printed
   pub spent : paid ≡ old + work
-  pub whole : (rest : List Step) → script_answer nothing_made (steps ++ rest) ≡ after printed work (script_answer state rest)
-  pub leaves : (rest : List Step) → state_after nothing_made (steps ++ rest) ≡ state_after state rest
+  pub whole : (rest : List Step) → script_answer max_work nothing_made (steps ++ rest) ≡ after printed work (script_answer max_work world rest)
+  pub leaves : (rest : List Step) → state_after max_work nothing_made (steps ++ rest) ≡ state_after max_work world rest
 
-pub carried_none : (all : List StatementTree) (before : FolderState) (had : Option (List ℕ)) (old : ℕ) → IsCarried all 0 before before nothing_made had had old old
-carried_none all before had old = record {
+pub carried_none : (max_work : ℕ) (all : List StatementTree) (before : FolderState) (had : Option (List ℕ)) (old : ℕ) → IsCarried max_work all 0 before before nothing_made had had old old
+carried_none max_work all before had old = record {
   steps = [];
   are = refl;
   given = All-nil (λ (step : Step). IsGivenFor before before step.statement step.file);
@@ -62,7 +67,7 @@ carried_none all before had old = record {
   work = 0;
   put = appends_none had;
   spent = omega arith;
-  whole = λ rest. after_nothing (script_answer nothing_made rest);
+  whole = λ rest. after_nothing (script_answer max_work nothing_made rest);
   leaves = λ rest. refl;
 }
 
@@ -90,12 +95,12 @@ are_on all i steps step below is are =
 
 -- the text of a statement's outcome
 abbrev pub text_of : Outcome → List ℕ
-text_of (Prints text work state) = text
+text_of (Prints text work world) = text
 text_of (Refuses why) = line_of why
 
 -- the work that a statement's outcome costs
 abbrev pub cost_of : Outcome → ℕ
-cost_of (Prints text work state) = work
+cost_of (Prints text work world) = work
 cost_of (Refuses why) = refused_work why
 
 -- a run that ends at a statement: refused where that is due, with the whole line, and else for another cause; by a fault of
@@ -107,8 +112,8 @@ pub record EndsAt (due : Outcome) (asks : Type 0) (ended : Status) (had got : Op
   pub read_fault : ended ≡ status.ReadFault → asks × (got ≡ had)
   pub beginning : (n : ℕ) × Appends had got (take n (text_of due))
 
-refused_whole : (due : Outcome) (go : SessionState → Answer) → ((why : Refusal) × (due ≡ Refuses why)) → and_then due go ≡ record { text = text_of due; work = cost_of due; refused = true }
-refused_whole (Prints text work state) go refusal = cc refusal.1
+refused_whole : (due : Outcome) (go : World → Answer) → ((why : Refusal) × (due ≡ Refuses why)) → and_then due go ≡ record { text = text_of due; work = cost_of due; refused = true }
+refused_whole (Prints text work world) go refusal = cc refusal.1
 refused_whole (Refuses why) go refusal = refl
 
 cut : (n : ℕ) (front text rest : List ℕ) → take (length front + min n (length text)) (front ++ (text ++ rest)) ≡ front ++ take n text
@@ -116,8 +121,8 @@ cut n front text rest =
     let within : min n (length text) ≤ length text = omega arith in
     take-append-add front (text ++ rest) (min n (length text)) ∙ ap (λ (l : List ℕ). front ++ l) (take-append-le (min n (length text)) text rest within ∙ take_min n text)
 
-begins : (due : Outcome) (go : SessionState → Answer) → (more : List ℕ) × ((and_then due go).text ≡ text_of due ++ more)
-begins (Prints text work state) go = ((go state).text, refl)
+begins : (due : Outcome) (go : World → Answer) → (more : List ℕ) × ((and_then due go).text ≡ text_of due ++ more)
+begins (Prints text work world) go = ((go world).text, refl)
 begins (Refuses why) go = ([], sym (append-nil (line_of why)))
 
 nothing_after : (text : List ℕ) (work : ℕ) → after text work (record { text = []; work = 0; refused = false }) ≡ record { text = text; work = work; refused = false }
@@ -126,29 +131,29 @@ nothing_after text work =
     let none : work + 0 ≡ work = omega arith in
     λ i. record { text = same i; work = none i; refused = false }
 
--- the answer to the steps so far, and the state that they leave
-answer_so_far : (all : List StatementTree) (i : ℕ) (before now : FolderState) (state : SessionState) (had got : Option (List ℕ)) (old paid : ℕ) (carried : IsCarried all i before now state had got old paid)
-    → script_answer nothing_made carried.steps ≡ record { text = carried.printed; work = carried.work; refused = false }
-answer_so_far all i before now state had got old paid carried =
-    ap (script_answer nothing_made) (sym (append-nil carried.steps)) ∙ carried.whole [] ∙ nothing_after carried.printed carried.work
+-- the answer to the steps so far, and the world that they leave
+answer_so_far : (max_work : ℕ) (all : List StatementTree) (i : ℕ) (before now : FolderState) (world : World) (had got : Option (List ℕ)) (old paid : ℕ) (carried : IsCarried max_work all i before now world had got old paid)
+    → script_answer max_work nothing_made carried.steps ≡ record { text = carried.printed; work = carried.work; refused = false }
+answer_so_far max_work all i before now world had got old paid carried =
+    ap (script_answer max_work nothing_made) (sym (append-nil carried.steps)) ∙ carried.whole [] ∙ nothing_after carried.printed carried.work
 
-state_so_far : (all : List StatementTree) (i : ℕ) (before now : FolderState) (state : SessionState) (had got : Option (List ℕ)) (old paid : ℕ) (carried : IsCarried all i before now state had got old paid)
-    → state_after nothing_made carried.steps ≡ Some state
-state_so_far all i before now state had got old paid carried = ap (state_after nothing_made) (sym (append-nil carried.steps)) ∙ carried.leaves []
+state_so_far : (max_work : ℕ) (all : List StatementTree) (i : ℕ) (before now : FolderState) (world : World) (had got : Option (List ℕ)) (old paid : ℕ) (carried : IsCarried max_work all i before now world had got old paid)
+    → state_after max_work nothing_made carried.steps ≡ Some world
+state_so_far max_work all i before now world had got old paid carried = ap (state_after max_work nothing_made) (sym (append-nil carried.steps)) ∙ carried.leaves []
 
-module _ (all : List StatementTree) (i : ℕ) (before mid now : FolderState) (state next : SessionState) (statement : StatementTree) (file : Option (List ℕ)) (had got : Option (List ℕ)) (old paid : ℕ)
+module _ (max_work : ℕ) (all : List StatementTree) (i : ℕ) (before mid now : FolderState) (world next : World) (statement : StatementTree) (file : Option (List ℕ)) (had got : Option (List ℕ)) (old paid : ℕ)
     (below : i < length all) (is : get_or all i statement ≡ statement) (same : mid.files ≡ before.files) (first : before.misses ≤ mid.misses) (last : mid.misses ≤ now.misses)
-    (carried : IsCarried all i before mid state had got old paid) (given : IsGivenFor mid now statement file) where
+    (carried : IsCarried max_work all i before mid world had got old paid) (given : IsGivenFor mid now statement file) where
   abbrev here : Step
   here = record { statement = statement; file = file }
 
   -- what is to come after the steps so far begins with this one
-  from_here : (rest : List Step) → script_answer nothing_made (carried.steps ++ here ∷ rest) ≡ after carried.printed carried.work (and_then (outcome state statement file) (λ s. script_answer s rest))
+  from_here : (rest : List Step) → script_answer max_work nothing_made (carried.steps ++ here ∷ rest) ≡ after carried.printed carried.work (and_then (statement_outcome max_work world statement file) (λ s. script_answer max_work s rest))
   from_here rest = carried.whole (here ∷ rest)
 
   -- a statement that printed its text
-  pub carried_on : (new : Option (List ℕ)) (due : ℕ) (text : List ℕ) (work : ℕ) → outcome state statement file ≡ Prints text work next → Appends got new text → due ≡ paid + work
-      → IsCarried all (i + 1) before now next had new old due
+  pub carried_on : (new : Option (List ℕ)) (due : ℕ) (text : List ℕ) (work : ℕ) → statement_outcome max_work world statement file ≡ Prints text work next → Appends got new text → due ≡ paid + work
+      → IsCarried max_work all (i + 1) before now next had new old due
   carried_on new due text work prints put spent = record {
     steps = carried.steps ++ here ∷ [];
     are = are_on all i carried.steps here below is carried.are;
@@ -158,12 +163,12 @@ module _ (all : List StatementTree) (i : ℕ) (before mid now : FolderState) (st
     put = appends_on had got new carried.printed text carried.put put;
     spent = omega (arith, spent, carried.spent);
     whole = λ rest.
-        ap (script_answer nothing_made) (append_assoc carried.steps (here ∷ []) rest) ∙ from_here rest
-        ∙ ap (λ o. after carried.printed carried.work (and_then o (λ s. script_answer s rest))) prints
-        ∙ after_after carried.printed text carried.work work (script_answer next rest);
+        ap (script_answer max_work nothing_made) (append_assoc carried.steps (here ∷ []) rest) ∙ from_here rest
+        ∙ ap (λ o. after carried.printed carried.work (and_then o (λ s. script_answer max_work s rest))) prints
+        ∙ after_after carried.printed text carried.work work (script_answer max_work next rest);
     leaves = λ rest.
-        ap (state_after nothing_made) (append_assoc carried.steps (here ∷ []) rest) ∙ carried.leaves (here ∷ rest)
-        ∙ ap (λ o. left_by o (λ s. state_after s rest)) prints;
+        ap (state_after max_work nothing_made) (append_assoc carried.steps (here ∷ []) rest) ∙ carried.leaves (here ∷ rest)
+        ∙ ap (λ o. left_by o (λ s. state_after max_work s rest)) prints;
   }
 
   -- the statements after this one, as steps, and the whole answer
@@ -183,13 +188,13 @@ module _ (all : List StatementTree) (i : ℕ) (before mid now : FolderState) (st
       ∙ take-append-drop (i + 1) all
 
   -- a run that ends at this statement
-  pub carried_to : (new : Option (List ℕ)) (due : ℕ) (ended : Status) → EndsAt (outcome state statement file) (AsksForFile state statement) ended got new paid due → CarriesAll all before now ended had new old due
+  pub carried_to : (new : Option (List ℕ)) (due : ℕ) (ended : Status) → EndsAt (statement_outcome max_work world statement file) (AsksForFile world statement) ended got new paid due → CarriesAll max_work all before now ended had new old due
   carried_to new due ended ends =
-      let what = outcome state statement file in
-      let go : SessionState → Answer = λ s. script_answer s others.0 in
-      let whole : script_answer nothing_made all_steps ≡ after carried.printed carried.work (and_then what go) = from_here others.0 in
+      let what = statement_outcome max_work world statement file in
+      let go : World → Answer = λ s. script_answer max_work s others.0 in
+      let whole : script_answer max_work nothing_made all_steps ≡ after carried.printed carried.work (and_then what go) = from_here others.0 in
       let more = begins what go in
-      let text : (script_answer nothing_made all_steps).text ≡ carried.printed ++ (text_of what ++ more.0) = ap (λ (a : Answer). a.text) whole ∙ ap (λ (l : List ℕ). carried.printed ++ l) more.1 in
+      let text : (script_answer max_work nothing_made all_steps).text ≡ carried.printed ++ (text_of what ++ more.0) = ap (λ (a : Answer). a.text) whole ∙ ap (λ (l : List ℕ). carried.printed ++ l) more.1 in
       record {
         steps = all_steps;
         are = all_are;
@@ -198,7 +203,7 @@ module _ (all : List StatementTree) (i : ℕ) (before mid now : FolderState) (st
           done = λ e. absurd (ends.not_done e);
           refused = λ e.
               let refusal = refused_whole what go (ends.refused e).0 in
-              let due_whole : script_answer nothing_made all_steps ≡ record { text = carried.printed ++ text_of what; work = carried.work + cost_of what; refused = true } = whole ∙ ap (after carried.printed carried.work) refusal in
+              let due_whole : script_answer max_work nothing_made all_steps ≡ record { text = carried.printed ++ text_of what; work = carried.work + cost_of what; refused = true } = whole ∙ ap (after carried.printed carried.work) refusal in
               (ap (λ (a : Answer). a.refused) due_whole, rw due_whole (appends_on had got new carried.printed (text_of what) carried.put (ends.refused e).1));
           beginning = (
             length carried.printed + min ends.beginning.0 (length (text_of what)),
@@ -212,24 +217,24 @@ module _ (all : List StatementTree) (i : ℕ) (before mid now : FolderState) (st
               step = here;
               later = others.0;
               are = refl;
-              put = rw (answer_so_far all i before mid state had got old paid carried, read.1) carried.put;
-              asks = rw (state_so_far all i before mid state had got old paid carried) read.0;
+              put = rw (answer_so_far max_work all i before mid world had got old paid carried, read.1) carried.put;
+              asks = rw (state_so_far max_work all i before mid world had got old paid carried) read.0;
             };
         pays = record {
           done = λ e. absurd (ends.not_done e);
           refused = λ e.
               let refusal = refused_whole what go (ends.refused e).0 in
-              let work : (script_answer nothing_made all_steps).work ≡ carried.work + cost_of what = ap (λ (a : Answer). a.work) (whole ∙ ap (after carried.printed carried.work) refusal) in
+              let work : (script_answer max_work nothing_made all_steps).work ≡ carried.work + cost_of what = ap (λ (a : Answer). a.work) (whole ∙ ap (after carried.printed carried.work) refusal) in
               omega (arith, work, carried.spent, ends.paid e);
         };
       }
 
 -- after the last statement the whole text is there
-pub carried_all : (all : List StatementTree) (i : ℕ) (before now : FolderState) (state : SessionState) (had got : Option (List ℕ)) (old paid : ℕ) → length all ≤ i
-    → IsCarried all i before now state had got old paid → CarriesAll all before now status.Done had got old paid
-carried_all all i before now state had got old paid past carried =
-    let is = answer_so_far all i before now state had got old paid carried in
-    let whole : Appends had got (script_answer nothing_made carried.steps).text = rw is carried.put in
+pub carried_all : (max_work : ℕ) (all : List StatementTree) (i : ℕ) (before now : FolderState) (world : World) (had got : Option (List ℕ)) (old paid : ℕ) → length all ≤ i
+    → IsCarried max_work all i before now world had got old paid → CarriesAll max_work all before now status.Done had got old paid
+carried_all max_work all i before now world had got old paid past carried =
+    let is = answer_so_far max_work all i before now world had got old paid carried in
+    let whole : Appends had got (script_answer max_work nothing_made carried.steps).text = rw is carried.put in
     record {
       steps = carried.steps;
       are = carried.are ∙ take_all i all past;
@@ -237,11 +242,11 @@ carried_all all i before now state had got old paid past carried =
       carries = record {
         done = λ _. (ap (λ (a : Answer). a.refused) is, whole);
         refused = λ ended. cc ended;
-        beginning = whole_begins had got (script_answer nothing_made carried.steps).text whole;
+        beginning = whole_begins had got (script_answer max_work nothing_made carried.steps).text whole;
       };
       read_fault = λ ended. cc ended;
       pays = record {
-        done = λ _. let work : (script_answer nothing_made carried.steps).work ≡ carried.work = ap (λ (a : Answer). a.work) is in omega (arith, work, carried.spent);
+        done = λ _. let work : (script_answer max_work nothing_made carried.steps).work ≡ carried.work = ap (λ (a : Answer). a.work) is in omega (arith, work, carried.spent);
         refused = λ ended. cc ended;
       };
     }

@@ -7,16 +7,19 @@ use Rattle.std.proofs.Math.ListN.{get_or-map}
 use Rattle.std.proofs.lemmas.List.{length-map}
 use Rattle.shell.specs.declared.status.Status.{Status}
 use Rattle.shell.specs.declared.status.Status.TheVariants as status
-use Rattle.shell.specs.declared.stop.Stop.{Stop}
-use Rattle.shell.specs.declared.stop.Stop.TheVariants as stop
-use Rattle.shell.specs.declared.refusal.Refusal.{Refusal}
-use Rattle.shell.specs.Refusal.{line_of}
-use Rattle.shell.specs.Script.{SessionState, Outcome, Prints, Refuses, AsksForFile, outcome, refused_work}
+use Rattle.session.specs.declared.stop.Stop.{Stop}
+use Rattle.session.specs.declared.stop.Stop.TheVariants as stop
+use Rattle.session.specs.declared.refusal.Refusal.{Refusal}
+use Rattle.session.specs.Refusal.{line_of}
+use Rattle.session.specs.Given.{IsGivenFor}
+use Rattle.session.specs.Outcome.{Outcome, Prints, Refuses, refused_work}
+use Rattle.session.specs.Returns.{IsCarriedOut}
+use Rattle.session.specs.Statements.{AsksForFile, statement_outcome}
+use Rattle.session.specs.World.{World}
 use Rattle.outside_io.specs.Files.{FolderState, OnlyReads}
 use Rattle.sql_parse.specs.declared.tree.Statement.{Statement}
 use Rattle.sql_parse.specs.Trees.{StatementTree, statement_tree}
-use Rattle.shell.specs.Serve.{IsGivenFor}
-use Rattle.shell.specs.Due.{IsCarriedOut, Puts, CarriesAll}
+use Rattle.shell.specs.Due.{Puts, CarriesAll}
 use Rattle.shell.proofs.Beginning.{IsUnput, IsRefused, unput_not_read, refused_not_done, refused_not_read}
 use Rattle.shell.proofs.Carrying.{EndsAt, IsCarried, appends_none, carried_on, carried_to}
 
@@ -35,7 +38,7 @@ not_refused ended (inr (inl fault)) is = cc (fault, is)
 not_refused ended (inr (inr memory)) is = cc (memory, is)
 
 -- the text that was due was put in part
-pub ends_in_part : (due : Outcome) (asks : Type 0) (text : List ℕ) (work : ℕ) (next : SessionState) (ended : Status) (had got : Option (List ℕ)) (old new : ℕ) → IsUnput ended → due ≡ Prints text work next
+pub ends_in_part : (due : Outcome) (asks : Type 0) (text : List ℕ) (work : ℕ) (next : World) (ended : Status) (had got : Option (List ℕ)) (old new : ℕ) → IsUnput ended → due ≡ Prints text work next
     → ((n : ℕ) × Appends had got (take n text)) → EndsAt due asks ended had got old new
 ends_in_part due asks text work next ended had got old new unput is part = record {
   refused = λ e. absurd (not_refused ended (inr unput) e);
@@ -70,9 +73,9 @@ ends_refused due asks why ended had got old new is paid whole part kinds = recor
 tree_at : (statements : List Statement) (i : ℕ) (statement : Statement) → statement ≡ get_or statements i statement → get_or (map statement_tree statements) i (statement_tree statement) ≡ statement_tree statement
 tree_at statements i statement is = get_or-map statement_tree statements i statement ∙ sym (ap statement_tree is)
 
-module _ (statements : List Statement) (i : ℕ) (before mid now : FolderState) (state next : SessionState) (statement : Statement) (had got : Option (List ℕ)) (old paid due : ℕ) (failed : Type 0)
+module _ (max_work : ℕ) (statements : List Statement) (i : ℕ) (before mid now : FolderState) (world next : World) (statement : Statement) (had got : Option (List ℕ)) (old paid due : ℕ) (failed : Type 0)
     (below : i < length statements) (is : statement ≡ get_or statements i statement) (first : OnlyReads ⊥ ⊥ before mid) (last : OnlyReads failed ⊥ mid now)
-    (carried : IsCarried (map statement_tree statements) i before mid state had got old paid) where
+    (carried : IsCarried max_work (map statement_tree statements) i before mid world had got old paid) where
   abbrev all : List StatementTree
   all = map statement_tree statements
 
@@ -83,47 +86,47 @@ module _ (statements : List Statement) (i : ℕ) (before mid now : FolderState) 
   inside = omega (arith, below, length-map statements statement_tree)
 
   abbrev asks : Type 0
-  asks = AsksForFile state tree
+  asks = AsksForFile world tree
 
-  ends_at : (file : Option (List ℕ)) → IsGivenFor mid now tree file → (ended : Status) (new : Option (List ℕ)) → EndsAt (outcome state tree file) asks ended got new paid due
-      → CarriesAll all before now ended had new old due
+  ends_at : (file : Option (List ℕ)) → IsGivenFor mid now tree file → (ended : Status) (new : Option (List ℕ)) → EndsAt (statement_outcome max_work world tree file) asks ended got new paid due
+      → CarriesAll max_work all before now ended had new old due
   ends_at file given ended new ends =
-      carried_to all i before mid now state next tree file had got old paid inside (tree_at statements i statement is) first.files first.misses.never_falls last.misses.never_falls carried given new due ended ends
+      carried_to max_work all i before mid now world next tree file had got old paid inside (tree_at statements i statement is) first.files first.misses.never_falls last.misses.never_falls carried given new due ended ends
 
   -- the statement was refused
-  pub refused_at : (why : Refusal) (ended : Status) (new : Option (List ℕ)) → IsCarriedOut tree mid now state next paid due (Err (stop.Refused why))
-      → (ended ≡ status.Refused → Appends got new (line_of why)) → ((n : ℕ) × Appends got new (take n (line_of why))) → IsRefused ended → CarriesAll all before now ended had new old due
+  pub refused_at : (why : Refusal) (ended : Status) (new : Option (List ℕ)) → IsCarriedOut max_work tree mid now world next paid due (Err (stop.Refused why))
+      → (ended ≡ status.Refused → Appends got new (line_of why)) → ((n : ℕ) × Appends got new (take n (line_of why))) → IsRefused ended → CarriesAll max_work all before now ended had new old due
   refused_at why ended new out whole part kinds =
-      ends_at out.file out.given ended new (ends_refused (outcome state tree out.file) asks why ended got new paid due out.returns.0 out.returns.1 whole part kinds)
+      ends_at out.file out.given ended new (ends_refused (statement_outcome max_work world tree out.file) asks why ended got new paid due out.returns.0 out.returns.1 whole part kinds)
 
   -- the statement stopped for another cause
-  pub stopped_at : (result : Result (Vec ℕ Global) Stop) (ended : Status) → IsCarriedOut tree mid now state next paid due result → EndsElsewhere ended → (ended ≡ status.ReadFault → asks)
-      → CarriesAll all before now ended had got old due
+  pub stopped_at : (result : Result (Vec ℕ Global) Stop) (ended : Status) → IsCarriedOut max_work tree mid now world next paid due result → EndsElsewhere ended → (ended ≡ status.ReadFault → asks)
+      → CarriesAll max_work all before now ended had got old due
   stopped_at result ended out elsewhere fault =
-      ends_at out.file out.given ended got (ends_with_nothing (outcome state tree out.file) asks ended got paid due elsewhere fault)
+      ends_at out.file out.given ended got (ends_with_nothing (statement_outcome max_work world tree out.file) asks ended got paid due elsewhere fault)
 
   -- the statement's text wasn't put whole
-  pub unput_at : (text : Vec ℕ Global) (ended : Status) (new : Option (List ℕ)) → IsCarriedOut tree mid now state next paid due (Ok text) → IsUnput ended → ((n : ℕ) × Appends got new (take n text.items))
-      → CarriesAll all before now ended had new old due
+  pub unput_at : (text : Vec ℕ Global) (ended : Status) (new : Option (List ℕ)) → IsCarriedOut max_work tree mid now world next paid due (Ok text) → IsUnput ended → ((n : ℕ) × Appends got new (take n text.items))
+      → CarriesAll max_work all before now ended had new old due
   unput_at text ended new out unput part =
-      ends_at out.file out.given ended new (ends_in_part (outcome state tree out.file) asks text.items out.returns.0 next ended got new paid due unput out.returns.1 part)
+      ends_at out.file out.given ended new (ends_in_part (statement_outcome max_work world tree out.file) asks text.items out.returns.0 next ended got new paid due unput out.returns.1 part)
 
   -- the statement's text was put
-  pub put_at : (text : Vec ℕ Global) (new : Option (List ℕ)) → IsCarriedOut tree mid now state next paid due (Ok text) → Appends got new text.items → IsCarried all (i + 1) before now next had new old due
+  pub put_at : (text : Vec ℕ Global) (new : Option (List ℕ)) → IsCarriedOut max_work tree mid now world next paid due (Ok text) → Appends got new text.items → IsCarried max_work all (i + 1) before now next had new old due
   put_at text new out put =
-      carried_on all i before mid now state next tree out.file had got old paid inside (tree_at statements i statement is) first.files first.misses.never_falls last.misses.never_falls carried out.given new due text.items out.returns.0 out.returns.1 put out.returns.2
+      carried_on max_work all i before mid now world next tree out.file had got old paid inside (tree_at statements i statement is) first.files first.misses.never_falls last.misses.never_falls carried out.given new due text.items out.returns.0 out.returns.1 put out.returns.2
 
   -- the run ended there
-  pub ended_at : (T : Type 0) (returned : Result (Vec ℕ Global) Stop) (ended : Status) (new : Option (List ℕ)) → IsCarriedOut tree mid now state next paid due returned
-      → Puts {T = T} returned (Err ended) got new → CarriesAll all before now ended had new old due
+  pub ended_at : (T : Type 0) (returned : Result (Vec ℕ Global) Stop) (ended : Status) (new : Option (List ℕ)) → IsCarriedOut max_work tree mid now world next paid due returned
+      → Puts {T = T} returned (Err ended) got new → CarriesAll max_work all before now ended had new old due
   ended_at T (Ok text) ended new out puts = unput_at text ended new out puts.0 puts.1
   ended_at T (Err (stop.Refused why)) ended new out puts = refused_at why ended new out puts.0 puts.1 puts.2
   ended_at T (Err stop.ReadFault) ended new out puts = rw puts.1 (stopped_at (Err stop.ReadFault) ended out (inl puts.0) (λ _. out.read_fault refl))
   ended_at T (Err stop.NoMemory) ended new out puts = rw puts.1 (stopped_at (Err stop.NoMemory) ended out (inr (inr puts.0)) (λ e. absurd (unput_not_read ended (inr puts.0) e)))
 
   -- the run goes on behind it
-  pub on_at : {T : Type 0} (returned : Result (Vec ℕ Global) Stop) (done : T) (new : Option (List ℕ)) → IsCarriedOut tree mid now state next paid due returned
-      → Puts returned (Ok done) got new → IsCarried all (i + 1) before now next had new old due
+  pub on_at : {T : Type 0} (returned : Result (Vec ℕ Global) Stop) (done : T) (new : Option (List ℕ)) → IsCarriedOut max_work tree mid now world next paid due returned
+      → Puts returned (Ok done) got new → IsCarried max_work all (i + 1) before now next had new old due
   on_at (Ok text) done new out puts = put_at text new out puts
   on_at (Err why) done new out puts = absurd puts
 

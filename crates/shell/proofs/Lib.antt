@@ -1,14 +1,8 @@
 pub mod Beginning
 pub mod Carrying
-pub mod NamedColumns
 pub mod Ends
-pub mod Given
-pub mod LoadLine
-pub mod PlainPlans
-pub mod Queries
 pub mod Reading
-pub mod RowsPrinted
 pub mod Runs
 pub mod Scripts
+pub mod Steps
 pub mod TokensFew
-pub mod Widths

@@ -7,33 +7,35 @@ use Rattle.std.proofs.lemmas.List.Elements.{All-head, All-tail}
 use Rattle.outside_io.specs.Count.{Rose}
 use Rattle.outside_io.specs.Files.{FolderState}
 use Rattle.sql_values.specs.Limits.{max_script_bytes}
-use Rattle.sql_parse.specs.Trees.{StatementTree, Load}
+use Rattle.sql_parse.specs.Trees.{StatementTree}
 use Rattle.shell.specs.declared.status.Status.{Status}
 use Rattle.shell.specs.declared.status.Status.TheVariants as status
-use Rattle.shell.specs.declared.refusal.Refusal.{Refusal}
-use Rattle.shell.specs.Refusal.{line_of}
+use Rattle.session.specs.declared.refusal.Refusal.{Refusal}
+use Rattle.session.specs.Refusal.{line_of}
+use Rattle.session.specs.Given.{IsGivenFor}
+use Rattle.session.proofs.Given.{one_file_for}
 use Rattle.shell.specs.Script.{Answer, Step, answer_of}
-use Rattle.shell.specs.Serve.{IsScript, IsGivenFor, IsAnswer, Serves, IsDecided, HasReadCause, statements_of_steps, statements_read}
+use Rattle.shell.specs.Serve.{IsScript, IsAnswer, Serves, IsDecided, HasReadCause, statements_of_steps, statements_read}
 use Rattle.shell.specs.Due.{CarriesAll}
 use Rattle.shell.specs.Source.{TakesAtMost}
 use Rattle.shell.proofs.Beginning.{IsRefused, refused_not_done, refused_not_read}
 use Rattle.shell.proofs.Carrying.{appends_none}
 use Rattle.shell.proofs.Ends.{EndsElsewhere, not_done, not_refused}
-use Rattle.shell.proofs.Given.{AreGiven, any_steps, one_file}
+use Rattle.shell.proofs.Steps.{AreGiven, any_steps}
 use Rattle.shell.proofs.Scripts.{enough, some_reading, one_reading, reads_whole, reads_cut}
 
 -- an answer is due to each script
-answer_for : (script : List ℕ) (before after : FolderState) (read : Result (List StatementTree) Refusal) → IsScript script read → (answer : Answer) × IsAnswer script before after answer
-answer_for script before after (Err why) reads = (answer_of (Err why), record { steps = Err why; reads = reads; given = tt; is = refl })
-answer_for script before after (Ok statements) reads =
+answer_for : (max_work : ℕ) (script : List ℕ) (before after : FolderState) (read : Result (List StatementTree) Refusal) → IsScript script read → (answer : Answer) × IsAnswer max_work script before after answer
+answer_for max_work script before after (Err why) reads = (answer_of max_work (Err why), record { steps = Err why; reads = reads; given = tt; is = refl })
+answer_for max_work script before after (Ok statements) reads =
     let steps = any_steps before after statements in
-    (answer_of (Ok steps.0), record { steps = Ok steps.0; reads = subst (λ (l : List StatementTree). IsScript script (Ok l)) (sym steps.1) reads; given = steps.2; is = refl })
+    (answer_of max_work (Ok steps.0), record { steps = Ok steps.0; reads = subst (λ (l : List StatementTree). IsScript script (Ok l)) (sym steps.1) reads; given = steps.2; is = refl })
 
-pub serves_nothing : (source_failed : Type 0) (script : List ℕ) (folder : FolderState) (ended : Status) (had : Option (List ℕ)) → EndsElsewhere ended → (ended ≡ status.ReadFault → source_failed)
-    → Serves source_failed script folder folder ended had had
-serves_nothing source_failed script folder ended had elsewhere fault =
+pub serves_nothing : (max_work : ℕ) (source_failed : Type 0) (script : List ℕ) (folder : FolderState) (ended : Status) (had : Option (List ℕ)) → EndsElsewhere ended → (ended ≡ status.ReadFault → source_failed)
+    → Serves max_work source_failed script folder folder ended had had
+serves_nothing max_work source_failed script folder ended had elsewhere fault =
     let read = some_reading script in
-    let due = answer_for script folder folder read.0 read.1 in
+    let due = answer_for max_work script folder folder read.0 read.1 in
     record {
       answer = due.0;
       due = due.1;
@@ -45,26 +47,26 @@ serves_nothing source_failed script folder ended had elsewhere fault =
       read_fault = λ is. inl (fault is, refl, refl);
     }
 
-pub known_nothing : (source_failed : Type 0) (source : Option (List ℕ)) (folder : FolderState) (ended : Status) (had : Option (List ℕ)) → EndsElsewhere ended → (ended ≡ status.ReadFault → source_failed)
-    → IfSome source (λ script. Serves source_failed script folder folder ended had had)
-known_nothing source_failed None folder ended had elsewhere fault = tt
-known_nothing source_failed (Some script) folder ended had elsewhere fault = serves_nothing source_failed script folder ended had elsewhere fault
+pub known_nothing : (max_work : ℕ) (source_failed : Type 0) (source : Option (List ℕ)) (folder : FolderState) (ended : Status) (had : Option (List ℕ)) → EndsElsewhere ended → (ended ≡ status.ReadFault → source_failed)
+    → IfSome source (λ script. Serves max_work source_failed script folder folder ended had had)
+known_nothing max_work source_failed None folder ended had elsewhere fault = tt
+known_nothing max_work source_failed (Some script) folder ended had elsewhere fault = serves_nothing max_work source_failed script folder ended had elsewhere fault
 
 -- statements that were carried out are those of the script
-pub serves_statements : (script : List ℕ) (statements : List StatementTree) (before after : FolderState) (ended : Status) (had got : Option (List ℕ)) (old new : ℕ) → IsScript script (Ok statements)
-    → CarriesAll statements before after ended had got old new → (ended ≡ status.ReadFault → Rose before.read_faults after.read_faults) → Serves ⊥ script before after ended had got
-serves_statements script statements before after ended had got old new reads carried rose = record {
-  answer = answer_of (Ok carried.steps);
+pub serves_statements : (max_work : ℕ) (script : List ℕ) (statements : List StatementTree) (before after : FolderState) (ended : Status) (had got : Option (List ℕ)) (old new : ℕ) → IsScript script (Ok statements)
+    → CarriesAll max_work statements before after ended had got old new → (ended ≡ status.ReadFault → Rose before.read_faults after.read_faults) → Serves max_work ⊥ script before after ended had got
+serves_statements max_work script statements before after ended had got old new reads carried rose = record {
+  answer = answer_of max_work (Ok carried.steps);
   due = record { steps = Ok carried.steps; reads = subst (λ (l : List StatementTree). IsScript script (Ok l)) (sym carried.are) reads; given = carried.given; is = refl };
   carries = carried.carries;
   read_fault = λ is. inr (rose is, carried.read_fault is);
 }
 
 -- the line of a script that is refused whole
-pub serves_refusal : (script : List ℕ) (why : Refusal) (before after : FolderState) (ended : Status) (had got : Option (List ℕ)) → IsScript script (Err why)
-    → (ended ≡ status.Refused → Appends had got (line_of why)) → ((n : ℕ) × Appends had got (take n (line_of why))) → IsRefused ended → Serves ⊥ script before after ended had got
-serves_refusal script why before after ended had got reads whole part kinds = record {
-  answer = answer_of (Err why);
+pub serves_refusal : (max_work : ℕ) (script : List ℕ) (why : Refusal) (before after : FolderState) (ended : Status) (had got : Option (List ℕ)) → IsScript script (Err why)
+    → (ended ≡ status.Refused → Appends had got (line_of why)) → ((n : ℕ) × Appends had got (take n (line_of why))) → IsRefused ended → Serves max_work ⊥ script before after ended had got
+serves_refusal max_work script why before after ended had got reads whole part kinds = record {
+  answer = answer_of max_work (Err why);
   due = record { steps = Err why; reads = reads; given = tt; is = refl };
   carries = record {
     done = λ is. absurd (refused_not_done ended kinds is);
@@ -75,21 +77,21 @@ serves_refusal script why before after ended had got reads whole part kinds = re
 }
 
 -- what caused a fault where the source didn't fail
-from_folder : (source_failed : Type 0) (steps : Result (List Step) Refusal) (before after : FolderState) (had got : Option (List ℕ)) → HasReadCause ⊥ steps before after had got → HasReadCause source_failed steps before after had got
-from_folder source_failed steps before after had got (inl none) = absurd none.0
-from_folder source_failed steps before after had got (inr read) = inr read
+from_folder : (max_work : ℕ) (source_failed : Type 0) (steps : Result (List Step) Refusal) (before after : FolderState) (had got : Option (List ℕ)) → HasReadCause max_work ⊥ steps before after had got → HasReadCause max_work source_failed steps before after had got
+from_folder max_work source_failed steps before after had got (inl none) = absurd none.0
+from_folder max_work source_failed steps before after had got (inr read) = inr read
 
 -- a run over what was read is a run over the whole
-pub known_whole : (source_failed : Type 0) (source : Option (List ℕ)) (before after : FolderState) (bytes : List ℕ) (ended : Status) (had got : Option (List ℕ)) → IfSome source (λ left. bytes ≡ take enough left)
-    → Serves ⊥ bytes before after ended had got → IfSome source (λ script. Serves source_failed script before after ended had got)
-known_whole source_failed None before after bytes ended had got read serves = tt
-known_whole source_failed (Some left) before after bytes ended had got read serves =
-    let on = subst (λ (l : List ℕ). Serves ⊥ l before after ended had got) read serves in
+pub known_whole : (max_work : ℕ) (source_failed : Type 0) (source : Option (List ℕ)) (before after : FolderState) (bytes : List ℕ) (ended : Status) (had got : Option (List ℕ)) → IfSome source (λ left. bytes ≡ take enough left)
+    → Serves max_work ⊥ bytes before after ended had got → IfSome source (λ script. Serves max_work source_failed script before after ended had got)
+known_whole max_work source_failed None before after bytes ended had got read serves = tt
+known_whole max_work source_failed (Some left) before after bytes ended had got read serves =
+    let on = subst (λ (l : List ℕ). Serves max_work ⊥ l before after ended had got) read serves in
     record {
       answer = on.answer;
       due = record { steps = on.due.steps; reads = reads_whole left (statements_read on.due.steps) on.due.reads; given = on.due.given; is = on.due.is };
       carries = on.carries;
-      read_fault = λ is. from_folder source_failed on.due.steps before after had got (on.read_fault is);
+      read_fault = λ is. from_folder max_work source_failed on.due.steps before after had got (on.read_fault is);
     }
 
 -- a folder isn't read for a script that is refused whole
@@ -119,24 +121,20 @@ pub known_read : (source now : Option (List ℕ)) (bytes : List ℕ) → IfSome 
 known_read None now bytes read = tt
 known_read (Some left) now bytes read = read.0
 
-decided_by : (source_failed : Type 0) (script : List ℕ) (before after : FolderState) (ended : Status) (had got : Option (List ℕ)) → (ended ≡ status.BadWords → ⊥) → (ended ≡ status.ReadFault → ⊥) → (ended ≡ status.WriteFault → ⊥)
-    → Serves source_failed script before after ended had got → IsDecided script before after ended
-decided_by source_failed script before after status.Done had got words reads writes serves = record { answer = serves.answer; due = serves.due; ends = inl (rw (serves.carries.done refl).0 refl) }
-decided_by source_failed script before after status.Refused had got words reads writes serves = record { answer = serves.answer; due = serves.due; ends = inl (rw (serves.carries.refused refl).0 refl) }
-decided_by source_failed script before after status.BadWords had got words reads writes serves = absurd (words refl)
-decided_by source_failed script before after status.ReadFault had got words reads writes serves = absurd (reads refl)
-decided_by source_failed script before after status.WriteFault had got words reads writes serves = absurd (writes refl)
-decided_by source_failed script before after status.NoMemory had got words reads writes serves = record { answer = serves.answer; due = serves.due; ends = inr refl }
+decided_by : (max_work : ℕ) (source_failed : Type 0) (script : List ℕ) (before after : FolderState) (ended : Status) (had got : Option (List ℕ)) → (ended ≡ status.BadWords → ⊥) → (ended ≡ status.ReadFault → ⊥) → (ended ≡ status.WriteFault → ⊥)
+    → Serves max_work source_failed script before after ended had got → IsDecided max_work script before after ended
+decided_by max_work source_failed script before after status.Done had got words reads writes serves = record { answer = serves.answer; due = serves.due; ends = inl (rw (serves.carries.done refl).0 refl) }
+decided_by max_work source_failed script before after status.Refused had got words reads writes serves = record { answer = serves.answer; due = serves.due; ends = inl (rw (serves.carries.refused refl).0 refl) }
+decided_by max_work source_failed script before after status.BadWords had got words reads writes serves = absurd (words refl)
+decided_by max_work source_failed script before after status.ReadFault had got words reads writes serves = absurd (reads refl)
+decided_by max_work source_failed script before after status.WriteFault had got words reads writes serves = absurd (writes refl)
+decided_by max_work source_failed script before after status.NoMemory had got words reads writes serves = record { answer = serves.answer; due = serves.due; ends = inr refl }
 
 -- a run that met no fault ends as the script does
-pub known_decided : (source_failed : Type 0) (source : Option (List ℕ)) (before after : FolderState) (ended : Status) (had got : Option (List ℕ)) → (ended ≡ status.BadWords → ⊥) → (ended ≡ status.ReadFault → ⊥) → (ended ≡ status.WriteFault → ⊥)
-    → IfSome source (λ script. Serves source_failed script before after ended had got) → IfSome source (λ script. IsDecided script before after ended)
-known_decided source_failed None before after ended had got words reads writes serves = tt
-known_decided source_failed (Some script) before after ended had got words reads writes serves = decided_by source_failed script before after ended had got words reads writes serves
-
-one_file_for : (old new other : FolderState) (statement : StatementTree) (a b : Option (List ℕ)) → IsSome old.files → IsGivenFor old new statement a → IsGivenFor old other statement b → a ≡ b
-one_file_for old new other (Load load) a b known first second = one_file old.files old.misses new.misses other.misses load.file a b known first second
-one_file_for old new other _ a b known first second = first ∙ sym second
+pub known_decided : (max_work : ℕ) (source_failed : Type 0) (source : Option (List ℕ)) (before after : FolderState) (ended : Status) (had got : Option (List ℕ)) → (ended ≡ status.BadWords → ⊥) → (ended ≡ status.ReadFault → ⊥) → (ended ≡ status.WriteFault → ⊥)
+    → IfSome source (λ script. Serves max_work source_failed script before after ended had got) → IfSome source (λ script. IsDecided max_work script before after ended)
+known_decided max_work source_failed None before after ended had got words reads writes serves = tt
+known_decided max_work source_failed (Some script) before after ended had got words reads writes serves = decided_by max_work source_failed script before after ended had got words reads writes serves
 
 one_step : (old new other : FolderState) (a b : Step) → IsSome old.files → a.statement ≡ b.statement → IsGivenFor old new a.statement a.file → IsGivenFor old other b.statement b.file → a ≡ b
 one_step old new other a b known same first second =
@@ -165,7 +163,7 @@ same_reading old new other (Ok xs) (Err y) known same first second = cc same
 same_reading old new other (Ok xs) (Ok ys) known same first second = ap Ok (same_steps old new other xs ys known (cc same) first second)
 
 -- two answers that are due are one
-pub one_answer : (script : List ℕ) (old new other : FolderState) (one two : Answer) → IsSome old.files → IsAnswer script old new one → IsAnswer script old other two → one ≡ two
-one_answer script old new other one two known first second =
+pub one_answer : (max_work : ℕ) (script : List ℕ) (old new other : FolderState) (one two : Answer) → IsSome old.files → IsAnswer max_work script old new one → IsAnswer max_work script old other two → one ≡ two
+one_answer max_work script old new other one two known first second =
     let same = one_reading script (statements_read first.steps) (statements_read second.steps) first.reads second.reads in
-    first.is ∙ ap answer_of (same_reading old new other first.steps second.steps known same first.given second.given) ∙ sym second.is
+    first.is ∙ ap (answer_of max_work) (same_reading old new other first.steps second.steps known same first.given second.given) ∙ sym second.is

@@ -1,9 +1,5 @@
 pub mod Due
 pub mod Limits
-pub mod PlainPlan
-pub mod Printed
-pub mod Refusal
 pub mod Script
 pub mod Serve
 pub mod Source
-pub mod Stop

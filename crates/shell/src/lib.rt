@@ -4,19 +4,12 @@
 //! never prints what wasn't due, and never answers a fault that none of the three counted.
 #![tactic(auto)]
 
-mod book;
-mod columns;
-mod lines;
-mod named;
-mod plan;
+mod fold;
 mod program;
-mod query;
-mod refusal;
 mod script;
-mod session;
+mod sink;
 mod source;
 mod status;
-mod stop;
 
 pub use program::{one_answer_is_due, serve};
 pub use status::Status;

@@ -9,7 +9,7 @@ ghost use Rattle.sql_parse.specs.Counts.{predicates_of};
 ghost use Rattle.shell.specs.Serve.{IsScript};
 ghost use Rattle.shell.specs.Due.{RefusesScript};
 
-use crate::refusal::Refusal;
+use session::Refusal;
 use sql_lex::{LexFault, LexKind, lex};
 use sql_parse::{Statement, SyntaxFault};
 use sql_values::{LimitName, MAX_SCRIPT_BYTES};

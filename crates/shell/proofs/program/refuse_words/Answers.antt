@@ -1,5 +1,5 @@
 -- The line was put whole, or its beginning.
-use Rattle.shell.specs.Printed.{usage_line}
+use Rattle.shell.specs.Serve.{usage_line}
 use Rattle.shell.proofs.Beginning.{words_whole, words_part}
 use Rattle.shell.proofs.program.refuse_words.Goals as goal
 

@@ -1,0 +1,13 @@
+pub mod CreateIndex
+pub mod CreateTable
+pub mod Given
+pub mod Load
+pub mod Outcome
+pub mod PlainPlan
+pub mod Printed
+pub mod Refusal
+pub mod Returns
+pub mod Select
+pub mod Statements
+pub mod Stop
+pub mod World

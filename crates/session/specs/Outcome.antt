@@ -1,0 +1,24 @@
+-- What comes of a statement.
+use Rattle.std.specs.Prelude.{ℕ, List, Option, None, Some}
+use Rattle.db_catalog.specs.Database.{table_number}
+use Rattle.session.specs.World.{World}
+use Rattle.session.specs.declared.refusal.Refusal.{Refusal}
+use Rattle.session.specs.declared.refusal.Refusal.TheVariants as refusal
+
+-- a statement prints a text for some work and leaves a state, or it is refused
+pub data Outcome : Type 0 where
+  Prints : List ℕ → ℕ → World → Outcome
+  Refuses : Refusal → Outcome
+
+-- the work that was paid when a refusal comes: that which its line prints
+abbrev pub refused_work : Refusal → ℕ
+refused_work (refusal.PastWork spent) = spent
+refused_work why = 0
+
+-- what comes of the statement at the table of this number, where the name has one; else it is refused
+abbrev pub at_number : List ℕ → (ℕ → Outcome) → Option ℕ → Outcome
+at_number name go None = Refuses (refusal.NoTable name)
+at_number name go (Some number) = go number
+
+abbrev pub at_table : World → List ℕ → (ℕ → Outcome) → Outcome
+at_table world name go = at_number name go (table_number world.database name)

@@ -1,0 +1,30 @@
+-- What comes of each statement.
+use Rattle.std.specs.Prelude.{ℕ, List, Option, IsSome}
+use Rattle.sql_parse.specs.Trees.{StatementTree, CreateTable, CreateIndex, Load, Select, Compile, Run, Explain, SaveFile, OpenFile, Audit}
+use Rattle.db_catalog.specs.Database.{table_number}
+use Rattle.session.specs.CreateIndex.{create_index_outcome}
+use Rattle.session.specs.CreateTable.{create_table_outcome}
+use Rattle.session.specs.Load.{load_outcome}
+use Rattle.session.specs.Outcome.{Outcome, Refuses}
+use Rattle.session.specs.Select.{select_outcome}
+use Rattle.session.specs.World.{World}
+use Rattle.session.specs.declared.refusal.Later.TheVariants as later
+use Rattle.session.specs.declared.refusal.Refusal.TheVariants as refusal
+
+-- what comes of a statement, with the file that the folder gives under the name that it loads
+abbrev pub statement_outcome : (max_work : ℕ) → World → StatementTree → (file : Option (List ℕ)) → Outcome
+statement_outcome max_work world (CreateTable table) file = create_table_outcome world table
+statement_outcome max_work world (CreateIndex index) file = create_index_outcome world index
+statement_outcome max_work world (Load load) file = load_outcome world load file
+statement_outcome max_work world (Select query) file = select_outcome max_work world query
+statement_outcome max_work world (Compile name levels threshold query) file = Refuses (refusal.Later later.Statement)
+statement_outcome max_work world (Run name) file = Refuses (refusal.Later later.Statement)
+statement_outcome max_work world (Explain name) file = Refuses (refusal.Later later.Statement)
+statement_outcome max_work world (SaveFile save) file = Refuses (refusal.Later later.Statement)
+statement_outcome max_work world (OpenFile name file_name query) file = Refuses (refusal.Later later.Statement)
+statement_outcome max_work world (Audit audit) file = Refuses (refusal.Later later.Statement)
+
+-- a statement asks for a file: a LOAD into a table that is there, and no other
+abbrev pub AsksForFile : World → StatementTree → Type 0
+AsksForFile world (Load load) = IsSome (table_number world.database load.table)
+AsksForFile world other = ⊥

@@ -1,0 +1,31 @@
+-- A stop, held against what is due to the statement.
+use Rattle.std.specs.Prelude.{◌≡◌, ⊤}
+use Rattle.session.specs.declared.stop.Stop.{Stop}
+use Rattle.session.specs.declared.stop.Stop.TheVariants as stop
+use Rattle.db_catalog.specs.declared.fault.DbFault.{DbFault}
+use Rattle.db_catalog.specs.declared.fault.DbFault.TheVariants as change
+use Rattle.csv_load.specs.declared.fault.LoadFault.{LoadFault}
+use Rattle.csv_load.specs.declared.fault.LoadFault.TheVariants as load
+use Rattle.sql_bind.specs.declared.fault.BindFault.{BindFault}
+use Rattle.sql_bind.specs.declared.fault.BindFault.TheVariants as bind
+use Rattle.session.specs.declared.refusal.Refusal.TheVariants as refusal
+use Rattle.session.specs.Outcome.{Outcome, Refuses}
+
+-- a refusal is the one that is due; a fault and out of memory fit anything
+abbrev pub StopsAt : Outcome → Stop → Type 0
+StopsAt due (stop.Refused why) = due ≡ Refuses why
+StopsAt due stop.ReadFault = ⊤
+StopsAt due stop.NoMemory = ⊤
+
+-- a refusal of the database, of a file, or of a query; out of memory refuses nothing
+abbrev pub stop_of_change : DbFault → Stop
+stop_of_change change.NoMemory = stop.NoMemory
+stop_of_change fault = stop.Refused (refusal.NotMade fault)
+
+abbrev pub stop_of_load : LoadFault → Stop
+stop_of_load load.NoMemory = stop.NoMemory
+stop_of_load fault = stop.Refused (refusal.NotLoaded fault)
+
+abbrev pub stop_of_binding : BindFault → Stop
+stop_of_binding bind.NoMemory = stop.NoMemory
+stop_of_binding fault = stop.Refused (refusal.NotBound fault)

@@ -1,0 +1,29 @@
+// CREATE INDEX.
+ghost use Rattle.std.specs.Prelude.{◌≡◌, OnErr, IsErrOf};
+ghost use Rattle.session.specs.CreateIndex.{create_index_outcome};
+ghost use Rattle.session.specs.Returns.{ReturnsFree};
+
+use crate::named::{column_of, no_column, no_table};
+use crate::session::Session;
+use crate::stop::Stop;
+use sql_parse::IndexDef;
+use std::alloc::Global;
+
+impl Session {
+    /// Makes an index, which prints nothing.
+    pub(crate) fn create_index(&mut self, alloc: Global, index: &IndexDef) -> Result<Vec<u8>, Stop>
+        ensures due { ReturnsFree (create_index_outcome self.old index.now) result self.new }
+        ensures no_fault { IsErrOf result Stop.ReadFault → ⊥ }
+        ensures unchanged { OnErr result (self.new ≡ self.old) }
+    {
+        let Some(table) = self.database.table_of(index.table.bytes()) else {
+            return Err(no_table(&index.table));
+        };
+        let Some(column) = column_of(self.database.columns(table), &index.column) else {
+            return Err(no_column(&index.column));
+        };
+        self.database
+            .create_index(index.name.bytes(), table, column)?;
+        Ok(Vec::new(alloc))
+    }
+}

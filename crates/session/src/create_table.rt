@@ -1,0 +1,23 @@
+// CREATE TABLE.
+ghost use Rattle.std.specs.Prelude.{◌≡◌, ◌<◌, length, OnErr, IsErrOf};
+ghost use Rattle.session.specs.CreateTable.{create_table_outcome};
+ghost use Rattle.session.specs.Returns.{ReturnsFree};
+
+use crate::session::Session;
+use crate::stop::Stop;
+use sql_parse::TableDef;
+use std::alloc::Global;
+
+impl Session {
+    /// Makes a table, which prints nothing.
+    pub(crate) fn create_table(&mut self, alloc: Global, table: &TableDef) -> Result<Vec<u8>, Stop>
+        requires some { 0 < length table.now.columns }
+        ensures due { ReturnsFree (create_table_outcome self.old table.now) result self.new }
+        ensures no_fault { IsErrOf result Stop.ReadFault → ⊥ }
+        ensures unchanged { OnErr result (self.new ≡ self.old) }
+    {
+        self.database
+            .create_table(table.name.bytes(), table.columns.as_slice())?;
+        Ok(Vec::new(alloc))
+    }
+}

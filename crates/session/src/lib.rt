@@ -1,0 +1,22 @@
+//! The state of a script and one statement on it: what it prints, what it leaves, or why it is refused.
+//! To the layer above it promises that a statement returns what is due to it in the state before, that what its queries
+//! paid is the work that they print, and that one which stops leaves the state as it was.
+//! It never puts anything out, never asks the folder for a file but for a LOAD whose table is there, and never reads a row but
+//! by a meter.
+#![tactic(auto)]
+
+mod columns;
+mod create_index;
+mod create_table;
+mod lines;
+mod load;
+mod named;
+mod plain_plan;
+mod refusal;
+mod select;
+mod session;
+mod stop;
+
+pub use refusal::{Later, Refusal, refusal_line};
+pub use session::Session;
+pub use stop::Stop;

@@ -1,0 +1,235 @@
+// Why a script or a statement is refused: each refusal is a value, and becomes its line here alone.
+ghost use Rattle.std.specs.Prelude.{◌≡◌, ◌++◌, IfOk, OnOk, codes, decimal};
+ghost use Rattle.session.specs.Refusal.{line_of, error_line, limit_line, no_table_line, no_column_line, duplicate_line, not_made_line, not_bound_line, field_line, fields_line, not_loaded_line, no_token_line, token_fault_word, later_word};
+
+use csv_load::LoadFault;
+use db_catalog::DbFault;
+use itoa::Buffer;
+use sql_bind::BindFault;
+use sql_lex::{LexFault, LexKind};
+use sql_parse::Name;
+use sql_values::{LimitName, Text};
+use std::alloc::{AllocError, Global};
+
+/// What isn't built yet.
+#[derive(Clone, Copy, Debug, PartialEq, Eq)]
+pub enum Later {
+    /// The statement.
+    Statement,
+}
+
+/// Why a script or a statement is refused.
+#[derive(Drop)]
+pub enum Refusal {
+    /// The script has no tokens.
+    NoToken(LexFault),
+    /// The piece that begins at this byte, from 0, is no statement.
+    NoStatement(usize),
+    /// There is no table of this name.
+    NoTable(Name),
+    /// The table has no column of this name.
+    NoColumn(Name),
+    /// The database refuses a table or an index.
+    NotMade(DbFault),
+    /// The query can't be bound.
+    NotBound(BindFault),
+    /// The folder has no file of this name.
+    AbsentFile(Text),
+    /// The file gives no rows to its table.
+    NotLoaded(LoadFault),
+    /// A quantity is past its limit, with this value.
+    PastLimit(LimitName, u128),
+    /// The work of a query is past the most that one may cost, and so many units were spent on it.
+    PastWork(u128),
+    /// It isn't built yet.
+    Later(Later),
+}
+
+// `error `, the kind of the refusal, and what it is about.
+fn error_line(alloc: Global, kind: &str, about: &[u8]) -> Result<Vec<u8>, AllocError>
+    ensures { IfOk result (λ line. line.items ≡ error_line (kind.now ++ about.now)) }
+{
+    let mut line = Vec::from_slice(alloc, b"error ")?;
+    line.extend_from_slice(kind.as_bytes())?;
+    line.extend_from_slice(about)?;
+    line.push(b'\n')?;
+    Ok(line)
+}
+
+// The same with a number behind a space at the end.
+fn number_line(alloc: Global, kind: &str, about: &str, number: u128) -> Result<Vec<u8>, AllocError>
+    ensures { IfOk result (λ line. line.items
+        ≡ error_line (kind.now ++ (about.now ++ (codes " " ++ decimal number)))) }
+{
+    let mut line = Vec::from_slice(alloc, b"error ")?;
+    line.extend_from_slice(kind.as_bytes())?;
+    line.extend_from_slice(about.as_bytes())?;
+    push_number(&mut line, number)?;
+    line.push(b'\n')?;
+    Ok(line)
+}
+
+// A space and a number.
+fn push_number(line: &mut Vec<u8>, number: u128) -> Result<(), AllocError>
+    ensures { OnOk result (line.new.items ≡ line.old.items ++ (codes " " ++ decimal number)) }
+{
+    line.push(b' ')?;
+    line.extend_from_slice(Buffer::new().format(number).as_bytes())
+}
+
+// The line of a limit.
+fn limit_line(alloc: Global, limit: LimitName, value: u128) -> Result<Vec<u8>, AllocError>
+    ensures { IfOk result (λ line. line.items ≡ limit_line limit value) }
+{
+    number_line(alloc, "E12 limit ", limit.word(), value)
+}
+
+// What is wrong with the first byte that begins no token. Out of memory refuses nothing.
+fn token_fault_word(kind: LexKind) -> &'static str
+    ensures { result.now ≡ token_fault_word kind }
+{
+    match kind {
+        LexKind::Byte => "byte",
+        LexKind::OpenText => "text",
+        LexKind::Number => "number",
+        LexKind::Name => "name",
+        LexKind::Utf8 => "utf8",
+        LexKind::NoMemory => "",
+    }
+}
+
+fn later_word(what: Later) -> &'static str
+    ensures { result.now ≡ later_word what }
+{
+    match what {
+        Later::Statement => "statement",
+    }
+}
+
+// There is no table of this name.
+fn no_table_line(alloc: Global, name: &[u8]) -> Result<Vec<u8>, AllocError>
+    ensures { IfOk result (λ line. line.items ≡ no_table_line name.now) }
+{
+    error_line(alloc, "E03 table ", name)
+}
+
+// There is no column of this name.
+fn no_column_line(alloc: Global, name: &[u8]) -> Result<Vec<u8>, AllocError>
+    ensures { IfOk result (λ line. line.items ≡ no_column_line name.now) }
+{
+    error_line(alloc, "E04 column ", name)
+}
+
+// This name stands already.
+fn duplicate_line(alloc: Global, name: &[u8]) -> Result<Vec<u8>, AllocError>
+    ensures { IfOk result (λ line. line.items ≡ duplicate_line name.now) }
+{
+    error_line(alloc, "E06 duplicate ", name)
+}
+
+// The line of a database's refusal. Out of memory refuses nothing.
+fn not_made_line(alloc: Global, fault: &DbFault) -> Result<Vec<u8>, AllocError>
+    ensures { IfOk result (λ line. line.items ≡ not_made_line fault.now) }
+{
+    match fault {
+        DbFault::Duplicate { name } => duplicate_line(alloc, name.bytes()),
+        DbFault::Limit { name, value } => limit_line(alloc, *name, *value),
+        DbFault::NoMemory => error_line(alloc, "", b""),
+    }
+}
+
+// The line of a query that can't be bound. Out of memory refuses nothing.
+fn not_bound_line(alloc: Global, fault: &BindFault) -> Result<Vec<u8>, AllocError>
+    ensures { IfOk result (λ line. line.items ≡ not_bound_line fault.now) }
+{
+    match fault {
+        BindFault::UnknownTable { name } => no_table_line(alloc, name.bytes()),
+        BindFault::UnknownColumn { name } => no_column_line(alloc, name.bytes()),
+        BindFault::Ambiguous { name } => error_line(alloc, "E05 ambiguous ", name.bytes()),
+        BindFault::DuplicateAlias { name } => duplicate_line(alloc, name.bytes()),
+        BindFault::TypeMismatch { predicate } => {
+            number_line(alloc, "E07 ", "type", u128::from(*predicate))
+        }
+        BindFault::PredicateForm { conjunct } => {
+            number_line(alloc, "E08 ", "predicate", u128::from(*conjunct))
+        }
+        BindFault::Limit { name, value } => limit_line(alloc, *name, *value),
+        BindFault::NoMemory => error_line(alloc, "", b""),
+    }
+}
+
+// What is wrong with a field, and where.
+fn field_line(alloc: Global, kind: &str, entry: u64, field: u32) -> Result<Vec<u8>, AllocError>
+    ensures { IfOk result (λ line. line.items ≡ field_line kind.now entry field) }
+{
+    let mut line = Vec::from_slice(alloc, b"error E11 ")?;
+    line.extend_from_slice(kind.as_bytes())?;
+    push_number(&mut line, u128::from(entry))?;
+    push_number(&mut line, u128::from(field))?;
+    line.push(b'\n')?;
+    Ok(line)
+}
+
+// An entry that hasn't a field for each column.
+fn fields_line(alloc: Global, entry: u64, found: u64, wanted: u64) -> Result<Vec<u8>, AllocError>
+    ensures { IfOk result (λ line. line.items ≡ fields_line entry found wanted) }
+{
+    let mut line = Vec::from_slice(alloc, b"error E10 fields")?;
+    push_number(&mut line, u128::from(entry))?;
+    push_number(&mut line, u128::from(found))?;
+    push_number(&mut line, u128::from(wanted))?;
+    line.push(b'\n')?;
+    Ok(line)
+}
+
+// The line of a file that gives no rows. Out of memory refuses nothing.
+fn not_loaded_line(alloc: Global, fault: &LoadFault) -> Result<Vec<u8>, AllocError>
+    ensures { IfOk result (λ line. line.items ≡ not_loaded_line fault.now) }
+{
+    match fault {
+        LoadFault::Header { field } => number_line(alloc, "E10 ", "header", u128::from(*field)),
+        LoadFault::FieldCount {
+            entry,
+            found,
+            wanted,
+        } => fields_line(alloc, *entry, *found, *wanted),
+        LoadFault::NotUtf8 { entry, field } => field_line(alloc, "utf8", *entry, *field),
+        LoadFault::NotInteger { entry, field } => field_line(alloc, "integer", *entry, *field),
+        LoadFault::OutOfRange { entry, field } => field_line(alloc, "range", *entry, *field),
+        LoadFault::NullInNotNull { entry, field } => field_line(alloc, "null", *entry, *field),
+        LoadFault::TooLong { entry, field } => field_line(alloc, "long", *entry, *field),
+        LoadFault::Limit { name, value } => limit_line(alloc, *name, *value),
+        LoadFault::NoMemory => error_line(alloc, "", b""),
+    }
+}
+
+// The line of a script without tokens.
+fn no_token_line(alloc: Global, fault: &LexFault) -> Result<Vec<u8>, AllocError>
+    ensures { IfOk result (λ line. line.items ≡ no_token_line fault.now) }
+{
+    number_line(
+        alloc,
+        "E01 ",
+        token_fault_word(fault.kind),
+        fault.place as u128,
+    )
+}
+
+/// The line that a refusal puts.
+pub fn refusal_line(alloc: Global, refusal: &Refusal) -> Result<Vec<u8>, AllocError>
+    ensures { IfOk result (λ line. line.items ≡ line_of refusal.now) }
+{
+    match refusal {
+        Refusal::NoToken(fault) => no_token_line(alloc, fault),
+        Refusal::NoStatement(place) => number_line(alloc, "E02 ", "syntax", *place as u128),
+        Refusal::NoTable(name) => no_table_line(alloc, name.bytes()),
+        Refusal::NoColumn(name) => no_column_line(alloc, name.bytes()),
+        Refusal::NotMade(fault) => not_made_line(alloc, fault),
+        Refusal::NotBound(fault) => not_bound_line(alloc, fault),
+        Refusal::AbsentFile(name) => error_line(alloc, "E09 absent ", name.bytes()),
+        Refusal::NotLoaded(fault) => not_loaded_line(alloc, fault),
+        Refusal::PastLimit(limit, value) => limit_line(alloc, *limit, *value),
+        Refusal::PastWork(spent) => number_line(alloc, "E16 ", "work", *spent),
+        Refusal::Later(what) => error_line(alloc, "E00 later ", later_word(*what).as_bytes()),
+    }
+}

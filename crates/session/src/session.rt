@@ -1,0 +1,83 @@
+// What the statements so far have made, and what one statement more does. A statement that stops changes nothing.
+ghost use Rattle.std.specs.Prelude.{◌≡◌, ◌+◌, ◌^◌, ◌≤◌, OnErr, IsErrOf};
+ghost use Rattle.outside_io.specs.Files.{OnlyReads};
+ghost use Rattle.sql_parse.specs.Trees.{statement_tree};
+ghost use Rattle.sql_parse.specs.WellFormed.{IsWellFormed};
+ghost use Rattle.sql_parse.specs.Counts.{predicates_of};
+ghost use Rattle.sql_values.specs.Limits.{max_script_bytes};
+ghost use Rattle.session.specs.Returns.{IsCarriedOut};
+ghost use Rattle.session.specs.World.{nothing_made};
+
+use crate::refusal::{Later, Refusal};
+use crate::stop::Stop;
+use db_catalog::Database;
+use outside_io::Folder;
+use sql_parse::Statement;
+use std::alloc::Global;
+use std::marker::Model;
+
+/// What the statements of a script so far have made.
+#[derive(Drop)]
+pub struct Session {
+    pub(crate) database: Database,
+}
+
+impl Model for Session {
+    ghost use Rattle.session.specs.World.{World};
+
+    ghost Value = { World };
+
+    ghost view = { λ s. record { database = s.database } };
+}
+
+// This isn't built yet.
+fn later(what: Later) -> Stop
+    ensures refusal { result ≡ Stop.Refused (Refusal.Later what) }
+{
+    Stop::Refused(Refusal::Later(what))
+}
+
+impl Session {
+    /// Before the first statement.
+    pub fn new(alloc: Global) -> Session
+        ensures { result ≡ nothing_made }
+    {
+        Session {
+            database: Database::new(alloc),
+        }
+    }
+
+    /// Carries a statement out and returns what it prints. One that stops changes nothing. A query has a budget of `max_work`
+    /// units, and what it paid is added to `paid`, whatever the answer.
+    pub fn carry_out<F: Folder>(
+        &mut self,
+        alloc: Global,
+        max_work: u64,
+        statement: &Statement,
+        folder: &mut F,
+        paid: &mut u128,
+    ) -> Result<Vec<u8>, Stop>
+        requires well_formed { IsWellFormed (statement_tree statement.now) }
+        requires predicates { predicates_of (statement_tree statement.now) ≤ max_script_bytes }
+        requires room { paid.old + max_work ≤ 2 ^ 126 }
+        ensures due { IsCarriedOut max_work (statement_tree statement.now)
+            (F.state folder.old) (F.state folder.new) self.old self.new paid.old paid.new result }
+        ensures unchanged { OnErr result (self.new ≡ self.old) }
+        ensures within { paid.new ≤ paid.old + max_work }
+        ensures folder { OnlyReads (IsErrOf result Stop.ReadFault) ⊥
+            (F.state folder.old) (F.state folder.new) }
+    {
+        match statement {
+            Statement::CreateTable(table) => self.create_table(alloc, table),
+            Statement::CreateIndex(index) => self.create_index(alloc, index),
+            Statement::Load(load) => self.load(alloc, load, folder),
+            Statement::Select(query) => self.select(alloc, max_work, query, paid),
+            Statement::Compile(_) => Err(later(Later::Statement)),
+            Statement::Run(_) => Err(later(Later::Statement)),
+            Statement::Explain(_) => Err(later(Later::Statement)),
+            Statement::SaveFile(_) => Err(later(Later::Statement)),
+            Statement::OpenFile(_) => Err(later(Later::Statement)),
+            Statement::Audit(_) => Err(later(Later::Statement)),
+        }
+    }
+}
