@@ -1,7 +1,11 @@
+pub mod Compiling
+pub mod ContourTexts
 pub mod Given
+pub mod Growing
 pub mod LoadLine
 pub mod NamedColumns
-pub mod PlainPlans
+pub mod NamedLists
 pub mod Queries
 pub mod RowsPrinted
+pub mod Sizes
 pub mod Widths

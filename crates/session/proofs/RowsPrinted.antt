@@ -1,8 +1,7 @@
 -- The rows that a plan found print as the rows that the block means.
-use Rattle.std.proofs.Common.{◌≡◌, ℕ, ℤ, List, [], ◌∷◌, length, map, refl, sym, ap, subst, ◌∙◌}
+use Rattle.std.proofs.Common.{◌≡◌, ℕ, ℤ, List, [], ◌∷◌, map, refl, sym, ap, subst}
 use Rattle.std.specs.List.Sorted.{IsPermutation}
-use Rattle.std.proofs.lemmas.List.{length-map}
-use Rattle.std.proofs.lemmas.List.Sorted.{IsPermutation-map, length_permutation}
+use Rattle.std.proofs.lemmas.List.Sorted.{IsPermutation-map}
 use Rattle.sql_values.specs.Stored.{ValueRow}
 use Rattle.query_block.specs.Blocks.{BlockTree}
 use Rattle.query_block.specs.Combined.{combination_of}
@@ -27,8 +26,3 @@ module _ (database : DatabaseState) (block : BlockTree) (words : List (List ℤ)
 
   pub printed_meaning : (names : List (List ℕ)) → table_text names (printed_rows database.texts block words) ≡ printed names database.tables block
   printed_meaning names = table_text-permutation names (printed_rows database.texts block words) (meaning_of database.tables block) moved
-
-  pub meaning_count : length (meaning_of database.tables block) ≡ length words
-  meaning_count =
-      length_permutation (printed_rows database.texts block words) (meaning_of database.tables block) moved
-      ∙ length-map words (λ row. projected block.projection (combination_of database.texts block.relations row))

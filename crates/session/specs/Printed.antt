@@ -1,5 +1,5 @@
 -- The texts that statements print.
-use Rattle.std.specs.Prelude.{ℕ, List, [], ◌++◌, map, length, slice_index_or, codes, decimal}
+use Rattle.std.specs.Prelude.{ℕ, ◌+◌, ◌^◌, List, [], ◌∷◌, ◌++◌, map, length, slice_index_or, codes, decimal}
 use Rattle.sql_values.specs.declared.column.ColumnDef.{ColumnDef}
 use Rattle.query_block.specs.declared.edge.ColumnAt.{ColumnAt}
 use Rattle.query_block.specs.Blocks.{RelationTree, BlockTree, relation_at}
@@ -7,13 +7,16 @@ use Rattle.query_block.specs.Meaning.{meaning_of}
 use Rattle.plan_tree.specs.Plans.{PlanTree}
 use Rattle.plan_tree.specs.Text.{plan_text_of}
 use Rattle.db_catalog.specs.Database.{DatabaseState, table_at}
+use Rattle.bouquet_type.specs.Trees.{BouquetTree, ContourTree}
+use Rattle.bouquet_type.specs.Budgets.{budget_of, most_plans}
+use Rattle.bouquet_type.specs.Runs.{RunEnd}
 use Rattle.result_text.specs.Combined.{printed}
 
--- the line below the rows of an answer
-abbrev pub report_line : (rows work contour : ℕ) → PlanTree → List ℕ
-report_line rows work contour plan =
-    codes "-- rows=" ++ (decimal rows ++ (codes " work=" ++ (decimal work ++ (codes " runs=1 contour=" ++ (decimal contour
-    ++ (codes " plan=" ++ (plan_text_of plan ++ codes "\n")))))))
+-- the line below the rows of an answer: how many there are, and how the run of the bouquet ended
+abbrev pub report_line : (rows : ℕ) → RunEnd → List ℕ
+report_line rows end =
+    codes "-- rows=" ++ (decimal rows ++ (codes " work=" ++ (decimal end.total ++ (codes " runs=" ++ (decimal end.runs
+    ++ (codes " contour=" ++ (decimal end.contour ++ (codes " plan=" ++ (plan_text_of end.plan ++ codes "\n")))))))))
 
 -- the names of columns
 abbrev pub column_names : List ColumnDef → List (List ℕ)
@@ -28,12 +31,36 @@ column_name database relations at =
 abbrev pub header_of : DatabaseState → BlockTree → List (List ℕ)
 header_of database block = map (column_name database block.relations) block.projection
 
--- what a block prints: its rows, and the line below them, which has this work, this contour and this plan
-abbrev pub answer_text : DatabaseState → BlockTree → (work contour : ℕ) → PlanTree → List ℕ
-answer_text database block work contour plan =
+-- what a block prints: its rows, and the line below them
+abbrev pub answer_text : DatabaseState → BlockTree → RunEnd → List ℕ
+answer_text database block end =
     printed (header_of database block) database.tables block
-    ++ report_line (length (meaning_of database.tables block)) work contour plan
+    ++ report_line (length (meaning_of database.tables block)) end
 
 -- what a load prints
 abbrev pub load_line : ℕ → List ℕ
 load_line rows = codes "-- load rows=" ++ (decimal rows ++ codes "\n")
+
+-- what a compiled bouquet prints: how many points its grid has, how many contours it has, and the most plans of one
+abbrev pub compile_line : BouquetTree → List ℕ
+compile_line bouquet =
+    let grid = bouquet.costing.grid in
+    codes "-- compile points=" ++ (decimal (grid.levels ^ grid.axes) ++ (codes " contours=" ++ (decimal (length bouquet.contours)
+    ++ (codes " r=" ++ (decimal (most_plans bouquet.contours) ++ codes "\n")))))
+
+-- the texts of plans, a space before each but the first
+abbrev pub plan_texts : List PlanTree → List ℕ
+plan_texts [] = []
+plan_texts (p ∷ []) = plan_text_of p
+plan_texts (p ∷ other ∷ more) = plan_text_of p ++ (codes " " ++ plan_texts (other ∷ more))
+
+-- the line of a contour of this number: its cost, its budget, its plans in the order in which they are tried
+abbrev pub contour_line : (threshold number : ℕ) → ContourTree → List ℕ
+contour_line threshold number contour =
+    codes "-- contour=" ++ (decimal number ++ (codes " cost=" ++ (decimal contour.cost ++ (codes " budget="
+    ++ (decimal (budget_of threshold contour.cost) ++ (codes " plans=" ++ (plan_texts contour.plans ++ codes "\n")))))))
+
+-- the lines of contours of which the first has this number
+abbrev pub contour_lines : (threshold number : ℕ) → List ContourTree → List ℕ
+contour_lines threshold number [] = []
+contour_lines threshold number (contour ∷ more) = contour_line threshold number contour ++ contour_lines threshold (number + 1) more

@@ -11,6 +11,9 @@ use Rattle.csv_load.specs.declared.fault.LoadFault.{LoadFault}
 use Rattle.csv_load.specs.declared.fault.LoadFault.TheVariants as load
 use Rattle.sql_bind.specs.declared.fault.BindFault.{BindFault}
 use Rattle.sql_bind.specs.declared.fault.BindFault.TheVariants as bind
+use Rattle.cost_model.specs.declared.stats.CountName.{CountName}
+use Rattle.cost_model.specs.declared.stats.CountName.TheVariants as count
+use Rattle.cost_model.specs.declared.stats.Stale.{Stale}
 use Rattle.session.specs.declared.refusal.Later.{Later}
 use Rattle.session.specs.declared.refusal.Later.TheVariants as later
 use Rattle.session.specs.declared.refusal.Refusal.{Refusal}
@@ -86,6 +89,21 @@ not_bound_line (bind.PredicateForm conjunct) = error_line (codes "E08 " ++ (code
 not_bound_line (bind.Limit limit value) = limit_line limit value
 not_bound_line bind.NoMemory = error_line []
 
+-- there is no such bouquet
+abbrev pub no_bouquet_line : List ℕ → List ℕ
+no_bouquet_line name = error_line (codes "E13 bouquet " ++ name)
+
+-- which count isn't what it was
+abbrev pub count_word : CountName → List ℕ
+count_word count.Rows = codes "rows"
+count_word count.Kept = codes "kept"
+count_word count.Indexes = codes "indexes"
+
+-- a count that isn't what it was: the relation, the count, what it was, what it is
+abbrev pub stale_line : Stale → List ℕ
+stale_line stale =
+    error_line (codes "E15 stale" ++ (spaced stale.relation ++ (codes " " ++ (count_word stale.count ++ (spaced stale.kept ++ spaced stale.present)))))
+
 -- what isn't built yet
 abbrev pub later_word : Later → List ℕ
 later_word later.Statement = codes "statement"
@@ -98,6 +116,9 @@ line_of (refusal.NoTable name) = no_table_line name
 line_of (refusal.NoColumn name) = no_column_line name
 line_of (refusal.NotMade fault) = not_made_line fault
 line_of (refusal.NotBound fault) = not_bound_line fault
+line_of (refusal.NameTaken name) = duplicate_line name
+line_of (refusal.NoBouquet name) = no_bouquet_line name
+line_of (refusal.IsStale stale) = stale_line stale
 line_of (refusal.AbsentFile name) = error_line (codes "E09 absent " ++ name)
 line_of (refusal.NotLoaded fault) = not_loaded_line fault
 line_of (refusal.PastLimit limit value) = limit_line limit value

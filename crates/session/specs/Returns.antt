@@ -5,6 +5,9 @@ use Rattle.sql_values.specs.Limits.{max_file_bytes}
 use Rattle.outside_io.specs.Files.{FolderState}
 use Rattle.sql_parse.specs.declared.tree.LoadDef.{LoadDef}
 use Rattle.sql_parse.specs.Trees.{StatementTree, Load}
+use Rattle.bouquet_type.specs.Shapes.{BouquetShape}
+use Rattle.bouquet_type.specs.Trees.{BouquetTree, bouquet_tree}
+use Rattle.session.specs.declared.refusal.Refusal.{Refusal}
 use Rattle.session.specs.declared.stop.Stop.{Stop}
 use Rattle.session.specs.declared.stop.Stop.TheVariants as stop
 use Rattle.session.specs.Given.{IsGiven, IsGivenFor}
@@ -45,6 +48,13 @@ ReturnsDue due (Ok text) world old new = (work : ℕ) × (due ≡ Prints text.it
 ReturnsDue due (Err (stop.Refused why)) world old new = (due ≡ Refuses why) × (new ≡ old + refused_work why)
 ReturnsDue due (Err stop.ReadFault) world old new = ⊤
 ReturnsDue due (Err stop.NoMemory) world old new = ⊤
+
+-- the bouquet that is due is returned, or why there is none
+abbrev pub GivesBouquet : Result BouquetTree Refusal → Result BouquetShape Stop → Type 0
+GivesBouquet due (Ok bouquet) = due ≡ Ok (bouquet_tree bouquet)
+GivesBouquet due (Err (stop.Refused why)) = due ≡ Err why
+GivesBouquet due (Err stop.ReadFault) = ⊥
+GivesBouquet due (Err stop.NoMemory) = ⊤
 
 -- a statement returned what is due to it with the file that the folder gave for it, and a fault of reading only where it asks
 -- for one

@@ -2,10 +2,13 @@
 use Rattle.std.specs.Prelude.{ℕ, List, Option, IsSome}
 use Rattle.sql_parse.specs.Trees.{StatementTree, CreateTable, CreateIndex, Load, Select, Compile, Run, Explain, SaveFile, OpenFile, Audit}
 use Rattle.db_catalog.specs.Database.{table_number}
+use Rattle.session.specs.Compile.{compile_outcome}
 use Rattle.session.specs.CreateIndex.{create_index_outcome}
 use Rattle.session.specs.CreateTable.{create_table_outcome}
+use Rattle.session.specs.Explain.{explain_outcome}
 use Rattle.session.specs.Load.{load_outcome}
 use Rattle.session.specs.Outcome.{Outcome, Refuses}
+use Rattle.session.specs.Run.{run_outcome}
 use Rattle.session.specs.Select.{select_outcome}
 use Rattle.session.specs.World.{World}
 use Rattle.session.specs.declared.refusal.Later.TheVariants as later
@@ -17,9 +20,9 @@ statement_outcome max_work world (CreateTable table) file = create_table_outcome
 statement_outcome max_work world (CreateIndex index) file = create_index_outcome world index
 statement_outcome max_work world (Load load) file = load_outcome world load file
 statement_outcome max_work world (Select query) file = select_outcome max_work world query
-statement_outcome max_work world (Compile name levels threshold query) file = Refuses (refusal.Later later.Statement)
-statement_outcome max_work world (Run name) file = Refuses (refusal.Later later.Statement)
-statement_outcome max_work world (Explain name) file = Refuses (refusal.Later later.Statement)
+statement_outcome max_work world (Compile name levels threshold query) file = compile_outcome world name levels threshold query
+statement_outcome max_work world (Run name) file = run_outcome max_work world name
+statement_outcome max_work world (Explain name) file = explain_outcome world name
 statement_outcome max_work world (SaveFile save) file = Refuses (refusal.Later later.Statement)
 statement_outcome max_work world (OpenFile name file_name query) file = Refuses (refusal.Later later.Statement)
 statement_outcome max_work world (Audit audit) file = Refuses (refusal.Later later.Statement)

@@ -8,6 +8,11 @@ use Rattle.csv_load.specs.declared.fault.LoadFault.{LoadFault}
 use Rattle.csv_load.specs.declared.fault.LoadFault.TheVariants as load
 use Rattle.sql_bind.specs.declared.fault.BindFault.{BindFault}
 use Rattle.sql_bind.specs.declared.fault.BindFault.TheVariants as bind
+use Rattle.ess_grid.specs.declared.fault.GridFault.{GridFault}
+use Rattle.ess_grid.specs.declared.fault.GridFault.TheVariants as grid
+use Rattle.table_stats.specs.declared.fault.StatsFault.{StatsFault}
+use Rattle.table_stats.specs.declared.fault.StatsFault.TheVariants as counts
+use Rattle.sql_values.specs.declared.limit.LimitName.TheVariants as limit
 use Rattle.session.specs.declared.refusal.Refusal.TheVariants as refusal
 use Rattle.session.specs.Outcome.{Outcome, Refuses}
 
@@ -29,3 +34,11 @@ stop_of_load fault = stop.Refused (refusal.NotLoaded fault)
 abbrev pub stop_of_binding : BindFault → Stop
 stop_of_binding bind.NoMemory = stop.NoMemory
 stop_of_binding fault = stop.Refused (refusal.NotBound fault)
+
+abbrev pub stop_of_grid : GridFault → Stop
+stop_of_grid (grid.BadLevels given) = stop.Refused (refusal.PastLimit limit.Levels given)
+stop_of_grid (grid.TooManyPoints points) = stop.Refused (refusal.PastLimit limit.Points points)
+
+abbrev pub stop_of_counts : StatsFault → Stop
+stop_of_counts (counts.ProductLimit value) = stop.Refused (refusal.PastLimit limit.Product value)
+stop_of_counts counts.NoMemory = stop.NoMemory

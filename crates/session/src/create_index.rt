@@ -2,6 +2,7 @@
 ghost use Rattle.std.specs.Prelude.{◌≡◌, OnErr, IsErrOf};
 ghost use Rattle.session.specs.CreateIndex.{create_index_outcome};
 ghost use Rattle.session.specs.Returns.{ReturnsFree};
+ghost use Rattle.session.specs.States.{world_of};
 
 use crate::named::{column_of, no_column, no_table};
 use crate::session::Session;
@@ -12,7 +13,7 @@ use std::alloc::Global;
 impl Session {
     /// Makes an index, which prints nothing.
     pub(crate) fn create_index(&mut self, alloc: Global, index: &IndexDef) -> Result<Vec<u8>, Stop>
-        ensures due { ReturnsFree (create_index_outcome self.old index.now) result self.new }
+        ensures due { ReturnsFree (create_index_outcome (world_of self.old) index.now) result (world_of self.new) }
         ensures no_fault { IsErrOf result Stop.ReadFault → ⊥ }
         ensures unchanged { OnErr result (self.new ≡ self.old) }
     {

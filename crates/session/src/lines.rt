@@ -1,9 +1,13 @@
 // The printed lines that are neither rows nor refusals.
-ghost use Rattle.std.specs.Prelude.{◌≡◌, ◌+◌, ◌^◌, ◌<◌, ◌≤◌, [], ◌++◌, length, IfOk, OnOk, codes, decimal, vec_len, vec_capacity};
+ghost use Rattle.std.specs.Prelude.{◌≡◌, ℕ, ◌+◌, ◌^◌, ◌<◌, ◌≤◌, [], ◌++◌, length, map, IfOk, OnOk, codes, decimal, vec_len, vec_capacity};
 ghost use Rattle.plan_tree.specs.Plans.{plan_tree};
 ghost use Rattle.plan_tree.specs.Text.{plan_text_of};
-ghost use Rattle.session.specs.Printed.{report_line, load_line};
+ghost use Rattle.bouquet_type.specs.Budgets.{budget_of};
+ghost use Rattle.bouquet_type.specs.Reports.{told_end};
+ghost use Rattle.bouquet_type.specs.Trees.{bouquet_tree, contour_tree};
+ghost use Rattle.session.specs.Printed.{report_line, load_line, compile_line, contour_line, contour_lines, plan_texts};
 
+use bouquet_type::{Bouquet, Contour, Report};
 use itoa::Buffer;
 use plan_tree::{Plan, plan_text};
 use std::alloc::{AllocError, Global};
@@ -51,33 +55,98 @@ fn push_labelled(text: &mut Vec<u8>, label: &str, number: u128) -> Result<(), Al
     text.extend_from_slice(Buffer::new().format(number).as_bytes())
 }
 
-// Appends a plan and the end of the line.
+// Appends a plan.
 fn push_plan(alloc: Global, text: &mut Vec<u8>, plan: &Plan) -> Result<(), AllocError>
-    ensures { OnOk result (text.new.items ≡ text.old.items
-        ++ (codes " plan=" ++ (plan_text_of (plan_tree plan.now) ++ codes "\n"))) }
+    ensures { OnOk result (text.new.items ≡ text.old.items ++ plan_text_of (plan_tree plan.now)) }
 {
     let plan = plan_text(alloc, plan)?;
-    text.extend_from_slice(b" plan=")?;
-    text.extend_from_slice(&plan)?;
-    text.push(b'\n')?;
-    Ok(())
+    text.extend_from_slice(&plan)
 }
 
 /// Appends the line below the rows of an answer.
 pub(crate) fn push_report(
     alloc: Global,
     text: &mut Vec<u8>,
-    rows: u128,
-    work: u128,
-    contour: u128,
-    plan: &Plan,
+    report: &Report,
 ) -> Result<(), AllocError>
-    ensures { OnOk result
-        (text.new.items ≡ text.old.items ++ report_line rows work contour (plan_tree plan.now)) }
+    ensures { OnOk result (text.new.items
+        ≡ text.old.items ++ report_line report.now.rows (told_end report.now)) }
 {
-    push_labelled(text, "-- rows=", rows)?;
-    push_labelled(text, " work=", work)?;
-    push_labelled(text, " runs=1 contour=", contour)?;
-    push_plan(alloc, text, plan)?;
+    push_labelled(text, "-- rows=", u128::from(report.rows))?;
+    push_labelled(text, " work=", report.work)?;
+    push_labelled(text, " runs=", u128::from(report.runs))?;
+    push_labelled(text, " contour=", u128::from(report.contour))?;
+    text.extend_from_slice(b" plan=")?;
+    push_plan(alloc, text, &report.plan)?;
+    text.push(b'\n')?;
     Ok(())
+}
+
+/// The line that a compiled bouquet prints.
+pub(crate) fn compile_line(alloc: Global, bouquet: &Bouquet) -> Result<Vec<u8>, AllocError>
+    ensures { IfOk result (λ text. text.items ≡ compile_line (bouquet_tree bouquet.now)) }
+{
+    let mut text = Vec::new(alloc);
+    push_labelled(
+        &mut text,
+        "-- compile points=",
+        bouquet.grid().points() as u128,
+    )?;
+    push_labelled(&mut text, " contours=", bouquet.contours().len() as u128)?;
+    push_labelled(&mut text, " r=", u128::from(bouquet.most()))?;
+    text.push(b'\n')?;
+    Ok(text)
+}
+
+// Appends the texts of plans, a space before each but the first.
+fn push_plans(alloc: Global, text: &mut Vec<u8>, plans: &[Plan]) -> Result<(), AllocError>
+    ensures { OnOk result (text.new.items
+        ≡ text.old.items ++ plan_texts (map plan_tree plans.now)) }
+{
+    for (place, plan) in plans.iter().enumerate() {
+        if place > 0 {
+            text.push(b' ')?;
+        }
+        push_plan(alloc, text, plan)?;
+    }
+    Ok(())
+}
+
+// Appends the line of a contour of this number, with this budget.
+fn push_contour(
+    alloc: Global,
+    text: &mut Vec<u8>,
+    number: usize,
+    budget: u128,
+    contour: &Contour,
+) -> Result<(), AllocError>
+    ensures { OnOk result ((threshold : ℕ) →
+        budget ≡ budget_of threshold contour.now.cost → text.new.items
+        ≡ text.old.items ++ contour_line threshold number (contour_tree contour.now)) }
+{
+    push_labelled(text, "-- contour=", number as u128)?;
+    push_labelled(text, " cost=", contour.cost)?;
+    push_labelled(text, " budget=", budget)?;
+    text.extend_from_slice(b" plans=")?;
+    push_plans(alloc, text, contour.plans.as_slice())?;
+    text.push(b'\n')?;
+    Ok(())
+}
+
+/// A line for each contour of a bouquet.
+pub(crate) fn contour_lines(alloc: Global, bouquet: &Bouquet) -> Result<Vec<u8>, AllocError>
+    ensures { let tree = bouquet_tree bouquet.now in IfOk result (λ text. text.items
+        ≡ contour_lines tree.threshold 1 tree.contours) }
+{
+    let mut text = Vec::new(alloc);
+    for (place, contour) in bouquet.contours().iter().enumerate() {
+        push_contour(
+            alloc,
+            &mut text,
+            place + 1,
+            bouquet.budget(place + 1),
+            contour,
+        )?;
+    }
+    Ok(text)
 }

@@ -7,6 +7,7 @@ ghost use Rattle.session.specs.Load.{with_loaded};
 ghost use Rattle.session.specs.Outcome.{Refuses};
 ghost use Rattle.session.specs.Returns.{LoadsFile, ReadsFile, ReturnsFree};
 ghost use Rattle.session.specs.Stop.{StopsAt};
+ghost use Rattle.session.specs.States.{world_of};
 
 use crate::lines;
 use crate::named::no_table;
@@ -68,8 +69,8 @@ impl Session {
     fn load_bytes(&mut self, alloc: Global, table: u32, bytes: &[u8]) -> Result<Vec<u8>, Stop>
         requires there { table < length self.old.database.tables }
         ensures loaded { ReturnsFree
-            (with_loaded self.old table (load_due self.old.database table bytes.now))
-            result self.new }
+            (with_loaded (world_of self.old) table (load_due self.old.database table bytes.now))
+            result (world_of self.new) }
         ensures no_fault { IsErrOf result Stop.ReadFault → ⊥ }
         ensures unchanged { OnErr result (self.new ≡ self.old) }
     {
@@ -88,7 +89,7 @@ impl Session {
     ) -> Result<Vec<u8>, Stop>
         requires text { IsUtf8 load.now.file }
         ensures due { LoadsFile load.now (F.state folder.old) (F.state folder.new)
-            self.old self.new result }
+            (world_of self.old) (world_of self.new) result }
         ensures unchanged { OnErr result (self.new ≡ self.old) }
         ensures folder { OnlyReads (IsErrOf result Stop.ReadFault) ⊥
             (F.state folder.old) (F.state folder.new) }

@@ -32,6 +32,28 @@ pub(crate) fn no_column(name: &Name) -> Stop
     }
 }
 
+/// There is no bouquet of this name.
+pub(crate) fn no_bouquet(name: &Name) -> Stop
+    ensures refusal { StopsAt (Refuses (Refusal.NoBouquet name.now)) result }
+    ensures no_fault { result ≡ Stop.ReadFault → ⊥ }
+{
+    match name.clone() {
+        Ok(name) => Stop::Refused(Refusal::NoBouquet(name)),
+        Err(_) => Stop::NoMemory,
+    }
+}
+
+/// A bouquet has this name already.
+pub(crate) fn taken(name: &Name) -> Stop
+    ensures refusal { StopsAt (Refuses (Refusal.NameTaken name.now)) result }
+    ensures no_fault { result ≡ Stop.ReadFault → ⊥ }
+{
+    match name.clone() {
+        Ok(name) => Stop::Refused(Refusal::NameTaken(name)),
+        Err(_) => Stop::NoMemory,
+    }
+}
+
 /// The number of the column of this name, from 0.
 pub(crate) fn column_of(columns: &[ColumnDef], name: &Name) -> Option<u8>
     requires few { length columns.now ≤ max_columns }

@@ -1,7 +1,8 @@
 // Why a script or a statement is refused: each refusal is a value, and becomes its line here alone.
 ghost use Rattle.std.specs.Prelude.{◌≡◌, ◌++◌, IfOk, OnOk, codes, decimal};
-ghost use Rattle.session.specs.Refusal.{line_of, error_line, limit_line, no_table_line, no_column_line, duplicate_line, not_made_line, not_bound_line, field_line, fields_line, not_loaded_line, no_token_line, token_fault_word, later_word};
+ghost use Rattle.session.specs.Refusal.{line_of, error_line, limit_line, no_table_line, no_column_line, duplicate_line, not_made_line, not_bound_line, field_line, fields_line, not_loaded_line, no_token_line, token_fault_word, later_word, count_word, stale_line};
 
+use cost_model::{CountName, Stale};
 use csv_load::LoadFault;
 use db_catalog::DbFault;
 use itoa::Buffer;
@@ -33,6 +34,12 @@ pub enum Refusal {
     NotMade(DbFault),
     /// The query can't be bound.
     NotBound(BindFault),
+    /// A bouquet has this name already.
+    NameTaken(Name),
+    /// There is no bouquet of this name.
+    NoBouquet(Name),
+    /// A count of a table isn't what it was when the bouquet was compiled.
+    IsStale(Stale),
     /// The folder has no file of this name.
     AbsentFile(Text),
     /// The file gives no rows to its table.
@@ -215,6 +222,30 @@ fn no_token_line(alloc: Global, fault: &LexFault) -> Result<Vec<u8>, AllocError>
     )
 }
 
+fn count_word(count: CountName) -> &'static str
+    ensures { result.now ≡ count_word count }
+{
+    match count {
+        CountName::Rows => "rows",
+        CountName::Kept => "kept",
+        CountName::Indexes => "indexes",
+    }
+}
+
+// The line of a count that isn't what it was.
+fn stale_line(alloc: Global, stale: &Stale) -> Result<Vec<u8>, AllocError>
+    ensures { IfOk result (λ line. line.items ≡ stale_line stale.now) }
+{
+    let mut line = Vec::from_slice(alloc, b"error E15 stale")?;
+    push_number(&mut line, u128::from(stale.relation))?;
+    line.push(b' ')?;
+    line.extend_from_slice(count_word(stale.count).as_bytes())?;
+    push_number(&mut line, u128::from(stale.kept))?;
+    push_number(&mut line, u128::from(stale.present))?;
+    line.push(b'\n')?;
+    Ok(line)
+}
+
 /// The line that a refusal puts.
 pub fn refusal_line(alloc: Global, refusal: &Refusal) -> Result<Vec<u8>, AllocError>
     ensures { IfOk result (λ line. line.items ≡ line_of refusal.now) }
@@ -226,6 +257,9 @@ pub fn refusal_line(alloc: Global, refusal: &Refusal) -> Result<Vec<u8>, AllocEr
         Refusal::NoColumn(name) => no_column_line(alloc, name.bytes()),
         Refusal::NotMade(fault) => not_made_line(alloc, fault),
         Refusal::NotBound(fault) => not_bound_line(alloc, fault),
+        Refusal::NameTaken(name) => duplicate_line(alloc, name.bytes()),
+        Refusal::NoBouquet(name) => error_line(alloc, "E13 bouquet ", name.bytes()),
+        Refusal::IsStale(stale) => stale_line(alloc, stale),
         Refusal::AbsentFile(name) => error_line(alloc, "E09 absent ", name.bytes()),
         Refusal::NotLoaded(fault) => not_loaded_line(alloc, fault),
         Refusal::PastLimit(limit, value) => limit_line(alloc, *limit, *value),

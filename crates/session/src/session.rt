@@ -1,15 +1,19 @@
 // What the statements so far have made, and what one statement more does. A statement that stops changes nothing.
-ghost use Rattle.std.specs.Prelude.{◌≡◌, ◌+◌, ◌^◌, ◌≤◌, OnErr, IsErrOf};
+ghost use Rattle.std.specs.Prelude.{◌≡◌, ◌+◌, ◌^◌, ◌≤◌, OnOk, OnErr, IsErrOf};
 ghost use Rattle.outside_io.specs.Files.{OnlyReads};
 ghost use Rattle.sql_parse.specs.Trees.{statement_tree};
 ghost use Rattle.sql_parse.specs.WellFormed.{IsWellFormed};
 ghost use Rattle.sql_parse.specs.Counts.{predicates_of};
 ghost use Rattle.sql_values.specs.Limits.{max_script_bytes};
 ghost use Rattle.session.specs.Returns.{IsCarriedOut};
+ghost use Rattle.session.specs.Bounds.{IsAnsweredWithin};
+ghost use Rattle.session.specs.States.{world_of};
 ghost use Rattle.session.specs.World.{nothing_made};
 
+use crate::named_bouquets::NamedBouquets;
 use crate::refusal::{Later, Refusal};
 use crate::stop::Stop;
+use bouquet_run::Book;
 use db_catalog::Database;
 use outside_io::Folder;
 use sql_parse::Statement;
@@ -20,14 +24,22 @@ use std::marker::Model;
 #[derive(Drop)]
 pub struct Session {
     pub(crate) database: Database,
+    pub(crate) bouquets: NamedBouquets,
 }
 
 impl Model for Session {
-    ghost use Rattle.session.specs.World.{World};
+    ghost use Rattle.query_block.specs.contracts.condition.Condition as condition;
+    ghost use Rattle.plan_tree.specs.contracts.plan.Plan as plan;
+    ghost use Rattle.std.specs.Coded.{codes};
+    ghost use Rattle.session.specs.States.{SessionState, IsSession};
 
-    ghost Value = { World };
+    ghost Value = { SessionState };
 
-    ghost view = { λ s. record { database = s.database } };
+    ghost coded = { Prim.hlevel (codes, condition.the_row.coded, plan.the_row.coded) };
+
+    ghost view = { λ s. record { database = s.database; bouquets = s.bouquets } };
+
+    ghost invariant = { λ s. IsSession (record { database = s.database; bouquets = s.bouquets }) };
 }
 
 // This isn't built yet.
@@ -40,30 +52,33 @@ fn later(what: Later) -> Stop
 impl Session {
     /// Before the first statement.
     pub fn new(alloc: Global) -> Session
-        ensures { result ≡ nothing_made }
+        ensures { world_of result ≡ nothing_made }
     {
         Session {
             database: Database::new(alloc),
+            bouquets: NamedBouquets::new(alloc),
         }
     }
 
     /// Carries a statement out and returns what it prints. One that stops changes nothing. A query has a budget of `max_work`
-    /// units, and what it paid is added to `paid`, whatever the answer.
+    /// units, and what it paid is entered in the book, whatever the answer.
     pub fn carry_out<F: Folder>(
         &mut self,
         alloc: Global,
         max_work: u64,
         statement: &Statement,
         folder: &mut F,
-        paid: &mut u128,
+        book: &mut Book,
     ) -> Result<Vec<u8>, Stop>
         requires well_formed { IsWellFormed (statement_tree statement.now) }
         requires predicates { predicates_of (statement_tree statement.now) ≤ max_script_bytes }
-        requires room { paid.old + max_work ≤ 2 ^ 126 }
+        requires room { book.old + max_work ≤ 2 ^ 126 }
         ensures due { IsCarriedOut max_work (statement_tree statement.now)
-            (F.state folder.old) (F.state folder.new) self.old self.new paid.old paid.new result }
+            (F.state folder.old) (F.state folder.new) (world_of self.old) (world_of self.new) book.old book.new result }
         ensures unchanged { OnErr result (self.new ≡ self.old) }
-        ensures within { paid.new ≤ paid.old + max_work }
+        ensures bounded { OnOk result
+            (IsAnsweredWithin (world_of self.old) (statement_tree statement.now)) }
+        ensures within { book.new ≤ book.old + max_work }
         ensures folder { OnlyReads (IsErrOf result Stop.ReadFault) ⊥
             (F.state folder.old) (F.state folder.new) }
     {
@@ -71,10 +86,10 @@ impl Session {
             Statement::CreateTable(table) => self.create_table(alloc, table),
             Statement::CreateIndex(index) => self.create_index(alloc, index),
             Statement::Load(load) => self.load(alloc, load, folder),
-            Statement::Select(query) => self.select(alloc, max_work, query, paid),
-            Statement::Compile(_) => Err(later(Later::Statement)),
-            Statement::Run(_) => Err(later(Later::Statement)),
-            Statement::Explain(_) => Err(later(Later::Statement)),
+            Statement::Select(query) => self.select(alloc, max_work, query, book),
+            Statement::Compile(compile) => self.compile(alloc, compile),
+            Statement::Run(name) => self.run(alloc, max_work, name, book),
+            Statement::Explain(name) => self.explain(alloc, name),
             Statement::SaveFile(_) => Err(later(Later::Statement)),
             Statement::OpenFile(_) => Err(later(Later::Statement)),
             Statement::Audit(_) => Err(later(Later::Statement)),

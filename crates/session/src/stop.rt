@@ -1,9 +1,13 @@
 // Why a statement isn't carried out.
 use crate::refusal::Refusal;
+use cost_model::Stale;
 use csv_load::LoadFault;
 use db_catalog::DbFault;
+use ess_grid::GridFault;
 use sql_bind::BindFault;
+use sql_values::LimitName;
 use std::alloc::AllocError;
+use table_stats::StatsFault;
 
 /// Why a statement isn't carried out.
 #[derive(Drop)]
@@ -66,5 +70,62 @@ impl From<BindFault> for Stop {
             BindFault::NoMemory => Stop::NoMemory,
             fault => Stop::Refused(Refusal::NotBound(fault)),
         }
+    }
+}
+
+impl From<Refusal> for Stop {
+    ghost use Rattle.std.specs.Prelude.{◌≡◌};
+    ghost use Rattle.session.specs.declared.stop.Stop.TheVariants.{Refused};
+
+    ghost from_gives = { λ refusal stop. stop ≡ Refused refusal };
+
+    fn from(refusal: Refusal) -> Stop {
+        Stop::Refused(refusal)
+    }
+}
+
+impl From<GridFault> for Stop {
+    ghost use Rattle.std.specs.Prelude.{◌≡◌};
+    ghost use Rattle.session.specs.Stop.{stop_of_grid};
+
+    ghost from_gives = { λ fault stop. stop ≡ stop_of_grid fault };
+
+    fn from(fault: GridFault) -> Stop {
+        match fault {
+            GridFault::BadLevels { given } => {
+                Stop::Refused(Refusal::PastLimit(LimitName::Levels, u128::from(given)))
+            }
+            GridFault::TooManyPoints { points } => {
+                Stop::Refused(Refusal::PastLimit(LimitName::Points, u128::from(points)))
+            }
+        }
+    }
+}
+
+impl From<StatsFault> for Stop {
+    ghost use Rattle.std.specs.Prelude.{◌≡◌};
+    ghost use Rattle.session.specs.Stop.{stop_of_counts};
+
+    ghost from_gives = { λ fault stop. stop ≡ stop_of_counts fault };
+
+    fn from(fault: StatsFault) -> Stop {
+        match fault {
+            StatsFault::ProductLimit { value } => {
+                Stop::Refused(Refusal::PastLimit(LimitName::Product, value))
+            }
+            StatsFault::NoMemory => Stop::NoMemory,
+        }
+    }
+}
+
+impl From<Stale> for Stop {
+    ghost use Rattle.std.specs.Prelude.{◌≡◌};
+    ghost use Rattle.session.specs.declared.refusal.Refusal.TheVariants as refusal;
+    ghost use Rattle.session.specs.declared.stop.Stop.TheVariants.{Refused};
+
+    ghost from_gives = { λ stale stop. stop ≡ Refused (refusal.IsStale stale) };
+
+    fn from(stale: Stale) -> Stop {
+        Stop::Refused(Refusal::IsStale(stale))
     }
 }

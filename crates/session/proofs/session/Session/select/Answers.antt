@@ -1,23 +1,45 @@
--- What binding says of the query decides what is due to it.
-use Rattle.std.proofs.Common.{◌+◌, arith}
+-- The query can't be bound, or has no bouquet, or its bouquet answers.
+use Rattle.std.proofs.Common.{◌≡◌, None, refl}
+use Rattle.std.specs.Prelude.{Ok, Err}
+use Rattle.std.proofs.lemmas.Result.{err_from_is_err_and}
+use Rattle.sql_values.specs.Limits.{default_threshold}
 use Rattle.query_block.specs.Blocks.{block_tree}
 use Rattle.sql_parse.specs.Trees.{query_tree}
-use Rattle.session.specs.Select.{answer_block}
+use Rattle.bouquet_type.specs.Trees.{bouquet_tree}
+use Rattle.session.specs.Bouquets.{bouquet_answer}
+use Rattle.session.specs.States.{world_of}
 use Rattle.session.specs.World.{World}
-use Rattle.session.proofs.Queries.{query_bound, query_handed_on, returns_entered}
+use Rattle.session.proofs.Queries.{answered_within, bound, query_due, stops_unpaid, unbound}
 use Rattle.session.proofs.session.Session.select.Goals as goal
 
 pub returns-in_err-block-clause-due : goal.returns-in_err-block-clause-due
 returns-in_err-block-clause-due c =
-    let world : World = record { database = c.self.inside.database } in
-    rw (← c.self.view_is)
-    (query_handed_on c.args.max_work world (query_tree c.args.query.now) c.from_residual.result c.in_err-block.field-0.0 c.args.paid.now c.from_residual.ensures.1 c.in_err-block.ensures.refuses.refused)
+    let world : World = world_of (record { database = c.self.inside.database; bouquets = c.self.inside.bouquets }) in
+    let query = query_tree c.args.query.now in
+    let gives = unbound world.database query None default_threshold c.in_err-block.field-0.0 c.in_err-block.ensures.refuses.refused in
+    let stop = err_from_is_err_and c.from_residual.result c.from_residual.ensures.1 in
+    rw (← c.self.view_is, stop.1, stop.2) (stops_unpaid world.database query None default_threshold (bouquet_answer c.args.max_work world) _ world c.args.book.now gives)
+
+pub returns-in_err-bouquet-clause-due : goal.returns-in_err-bouquet-clause-due
+returns-in_err-bouquet-clause-due c =
+    let world : World = world_of (record { database = c.self.inside.database; bouquets = c.self.inside.bouquets }) in
+    let query = query_tree c.args.query.now in
+    let gives = bound world.database query None default_threshold (block_tree c.in_ok-block.block) (Err c.in_err-bouquet.field-0.0) c.in_ok-block.ensures.refuses.answered c.in_ok-block.ensures.block c.in_err-bouquet.ensures.due in
+    let stop = err_from_is_err_and c.from_residual-in_err-bouquet.result c.from_residual-in_err-bouquet.ensures.1 in
+    rw (← c.self.view_is, stop.1, stop.2) (stops_unpaid world.database query None default_threshold (bouquet_answer c.args.max_work world) _ world c.args.book.now gives)
 
 pub returns-clause-due : goal.returns-clause-due
 returns-clause-due c =
-    let block = block_tree c.in_ok-block.block in
-    let world : World = record { database = c.self.inside.database } in
-    let due = query_bound c.args.max_work world (query_tree c.args.query.now) block c.in_ok-block.ensures.refuses.answered c.in_ok-block.ensures.block in
-    rw (← c.self.view_is, due)
-    (returns_entered (answer_block c.args.max_work world block) c.answer-answered.result world c.answer-answered.new.meter.account.spent c.args.paid.now (c.args.paid.now + c.spent.result)
-    (rw c.new-meter.ensures.database at (c.answer-answered.ensures.due world)) (omega (arith, c.spent.ensures.spent)))
+    let world : World = world_of (record { database = c.self.inside.database; bouquets = c.self.inside.bouquets }) in
+    let query = query_tree c.args.query.now in
+    let is : query_due world.database query None default_threshold ≡ Ok (bouquet_tree c.in_ok-bouquet.bouquet) =
+    bound world.database query None default_threshold (block_tree c.in_ok-block.block) (Ok c.in_ok-bouquet.bouquet) c.in_ok-block.ensures.refuses.answered c.in_ok-block.ensures.block c.in_ok-bouquet.ensures.due in
+    rw (← c.self.view_is, is) (c.answer.ensures.due world refl)
+
+pub returns-clause-bounded : goal.returns-clause-bounded
+returns-clause-bounded c =
+    let world : World = world_of (record { database = c.self.inside.database; bouquets = c.self.inside.bouquets }) in
+    let query = query_tree c.args.query.now in
+    let is : query_due world.database query None default_threshold ≡ Ok (bouquet_tree c.in_ok-bouquet.bouquet) =
+    bound world.database query None default_threshold (block_tree c.in_ok-block.block) (Ok c.in_ok-bouquet.bouquet) c.in_ok-block.ensures.refuses.answered c.in_ok-block.ensures.block c.in_ok-bouquet.ensures.due in
+    rw (← c.self.view_is, is) (answered_within world (bouquet_tree c.in_ok-bouquet.bouquet) c.answer.result c.in_ok-bouquet.ensures.sound c.answer.ensures.bound)

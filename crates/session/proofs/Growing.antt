@@ -1,0 +1,38 @@
+-- What always holds of a session holds once there is more in it.
+use Rattle.std.proofs.Common.{◌≡◌, ℕ, [], ◌∷◌, ◌++◌, List, subst, sym}
+use Rattle.std.specs.Prelude.{All, Result, Ok, Err, IsOkAnd}
+use Rattle.std.proofs.lemmas.List.Elements.{All-weaker, All-push}
+use Rattle.query_block.specs.Blocks.{BlockTree, block_tree}
+use Rattle.db_catalog.specs.Database.{DatabaseState, with_rows}
+use Rattle.db_catalog.specs.Fits.{Fits}
+use Rattle.db_catalog.proofs.Growth.{fits_with_rows}
+use Rattle.csv_load.specs.declared.fault.LoadFault.{LoadFault}
+use Rattle.csv_load.specs.Load.{Appends}
+use Rattle.sql_values.specs.Stored.{ValueRow}
+use Rattle.bouquet_type.specs.Sound.{IsSound}
+use Rattle.bouquet_type.specs.Trees.{bouquet_tree}
+use Rattle.session.specs.States.{NamedShape, IsSession}
+
+-- in a database that all blocks fit that fit the one before
+pub is_grown : (old new grown : DatabaseState) (bouquets : List NamedShape) → new ≡ grown → ((block : BlockTree) → Fits old block → Fits grown block)
+    → IsSession (record { database = old; bouquets = bouquets }) → IsSession (record { database = new; bouquets = bouquets })
+is_grown old new grown bouquets is grows session = record {
+  fit = subst (λ (database : DatabaseState). All (λ kept. Fits database (block_tree kept.bouquet.block)) bouquets) (sym is)
+      (All-weaker (λ (kept : NamedShape). Fits old (block_tree kept.bouquet.block)) (λ (kept : NamedShape). Fits grown (block_tree kept.bouquet.block)) (λ kept. grows (block_tree kept.bouquet.block)) bouquets session.fit);
+  sound = session.sound;
+}
+
+-- with a sound bouquet more, whose block fits
+pub is_with_bouquet : (database : DatabaseState) (old new : List NamedShape) (kept : NamedShape) → new ≡ old ++ kept ∷ [] → Fits database (block_tree kept.bouquet.block) → IsSound (bouquet_tree kept.bouquet)
+    → IsSession (record { database = database; bouquets = old }) → IsSession (record { database = database; bouquets = new })
+is_with_bouquet database old new kept is fits sound session =
+    subst (λ (bouquets : List NamedShape). IsSession (record { database = database; bouquets = bouquets })) (sym is) (record {
+      fit = All-push (λ (one : NamedShape). Fits database (block_tree one.bouquet.block)) old kept session.fit fits;
+      sound = All-push (λ (one : NamedShape). IsSound (bouquet_tree one.bouquet)) old kept session.sound sound;
+    })
+
+-- with the rows of a file more
+pub is_loaded : (old new : DatabaseState) (table count : ℕ) (bouquets : List NamedShape) (due : Result (List ValueRow) LoadFault) → IsOkAnd due (Appends table old new count)
+    → IsSession (record { database = old; bouquets = bouquets }) → IsSession (record { database = new; bouquets = bouquets })
+is_loaded old new table count bouquets (Ok rows) loaded session = is_grown old new (with_rows old table rows) bouquets loaded.appended (fits_with_rows old table rows) session
+is_loaded old new table count bouquets (Err fault) loaded session = absurd loaded

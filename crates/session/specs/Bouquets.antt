@@ -1,0 +1,71 @@
+-- The bouquet of a query, and what a bouquet answers.
+use Rattle.std.specs.Prelude.{ℕ, ◌^◌, nat_le, nat_lt, length, Option, Some, None, option_map, Result, Ok, Err, if◌then◌else◌}
+use Rattle.std.specs.Option.{option_or}
+use Rattle.sql_values.specs.Limits.{max_points}
+use Rattle.sql_values.specs.declared.limit.LimitName.TheVariants as limit
+use Rattle.query_block.specs.Blocks.{BlockTree}
+use Rattle.sql_parse.specs.Trees.{QueryTree}
+use Rattle.db_catalog.specs.Database.{DatabaseState}
+use Rattle.sql_bind.specs.declared.fault.BindFault.{BindFault}
+use Rattle.sql_bind.specs.Binding.{bind_fault, block_of}
+use Rattle.ess_grid.specs.Levels.{levels_of}
+use Rattle.cost_model.specs.Costing.{CostingTree}
+use Rattle.cost_model.specs.Counts.{stats_of}
+use Rattle.table_stats.specs.Product.{first_past, row_counts}
+use Rattle.bouquet_type.specs.Trees.{BouquetTree}
+use Rattle.bouquet_type.specs.Compiled.{compiled}
+use Rattle.bouquet_type.specs.Runs.{run_end}
+use Rattle.bouquet_run.specs.Outcomes.{works_over}
+use Rattle.session.specs.Printed.{answer_text}
+use Rattle.session.specs.declared.refusal.Refusal.{Refusal}
+use Rattle.session.specs.declared.refusal.Refusal.TheVariants as refusal
+use Rattle.session.specs.Outcome.{Outcome, Prints, Refuses}
+use Rattle.session.specs.World.{World}
+
+-- what the costs of a block's plans depend on: the counts of its tables, and a grid with an axis for each edge, each with so
+-- many levels, or as many as none given say
+abbrev pub costing_over : DatabaseState → BlockTree → (levels : Option ℕ) → CostingTree
+costing_over database block levels =
+    let axes = length block.edges in
+    record { block = block; stats = stats_of database.tables block; grid = record { axes = axes; levels = levels_of axes levels } }
+
+-- a grid with so many points, which are too many; where no levels are given there are few enough
+abbrev pub points_refusal : (axes : ℕ) → (levels : Option ℕ) → Option Refusal
+points_refusal axes None = None
+points_refusal axes (Some levels) = if nat_lt max_points (levels ^ axes) then Some (refusal.PastLimit limit.Points (levels ^ axes)) else None
+
+-- tables with so many combinations of rows, which are too many
+abbrev pub product_refusal : DatabaseState → BlockTree → Option Refusal
+product_refusal database block = option_map (λ value. refusal.PastLimit limit.Product value) (first_past 1 (row_counts database.tables block.relations))
+
+-- the first of the two that comes
+abbrev pub size_refusal : DatabaseState → BlockTree → (levels : Option ℕ) → Option Refusal
+size_refusal database block levels = option_or (points_refusal (length block.edges) levels) (product_refusal database block)
+
+-- the compiled bouquet of a block, or why it has none
+abbrev pub compiled_over : DatabaseState → (levels : Option ℕ) → (threshold : ℕ) → BlockTree → Option Refusal → Result BouquetTree Refusal
+compiled_over database levels threshold block (Some why) = Err why
+compiled_over database levels threshold block None = Ok (compiled (costing_over database block levels) threshold)
+
+-- of a query: it is refused by binding, by the points of its grid, or by the product of its tables' rows; else this is its bouquet
+abbrev pub bouquet_unless : DatabaseState → QueryTree → (levels : Option ℕ) → (threshold : ℕ) → Option BindFault → Result BouquetTree Refusal
+bouquet_unless database query levels threshold (Some fault) = Err (refusal.NotBound fault)
+bouquet_unless database query levels threshold None =
+    let block = block_of database query in
+    compiled_over database levels threshold block (size_refusal database block levels)
+
+abbrev pub bouquet_due : DatabaseState → QueryTree → (levels : Option ℕ) → (threshold : ℕ) → Result BouquetTree Refusal
+bouquet_due database query levels threshold = bouquet_unless database query levels threshold (bind_fault database query)
+
+-- what comes of a bouquet, where there is one; else the refusal
+abbrev pub with_due : Result BouquetTree Refusal → (BouquetTree → Outcome) → Outcome
+with_due (Ok bouquet) go = go bouquet
+with_due (Err why) go = Refuses why
+
+-- the answer of a bouquet: the rows of its block and how its run ends, for the work of the whole run; where that is more than
+-- may be spent it is refused, when so much is spent
+abbrev pub bouquet_answer : (max_work : ℕ) → World → BouquetTree → Outcome
+bouquet_answer max_work world bouquet =
+    let end = run_end bouquet (works_over world.database bouquet) in
+    if nat_le end.total max_work then Prints (answer_text world.database bouquet.costing.block end) end.total world
+    else Refuses (refusal.PastWork max_work)

@@ -1,0 +1,110 @@
+// The compiled bouquet of a block, and the answer of a bouquet: its run over the tables, with its rows sorted and printed, and
+// how it ended. It reaches rows by the meter of the run alone, and never prints a work that wasn't paid into the book.
+ghost use Rattle.std.specs.Prelude.{◌≡◌, ◌+◌, ◌^◌, ◌≤◌, IfOk, IfSome, OnOk, IsErrOf, length};
+ghost use Rattle.sql_values.specs.Limits.{min_levels, max_levels, max_threshold};
+ghost use Rattle.query_block.specs.Blocks.{block_tree, width_of};
+ghost use Rattle.query_block.specs.Meaning.{meaning_of};
+ghost use Rattle.db_catalog.specs.Fits.{Fits};
+ghost use Rattle.exec_pipe.specs.Executions.{AreRowsOf};
+ghost use Rattle.bouquet_type.specs.Trees.{bouquet_tree};
+ghost use Rattle.bouquet_type.specs.Sound.{IsSound};
+ghost use Rattle.bouquet_type.specs.Bounded.{MeetsBound};
+ghost use Rattle.bouquet_type.specs.Runs.{total_work};
+ghost use Rattle.bouquet_type.specs.Reports.{told_end};
+ghost use Rattle.bouquet_run.specs.Outcomes.{works_over};
+ghost use Rattle.session.specs.Bouquets.{bouquet_answer, compiled_over, size_refusal};
+ghost use Rattle.session.specs.Printed.{answer_text, header_of};
+ghost use Rattle.session.specs.Returns.{GivesBouquet, ReturnsDue};
+ghost use Rattle.session.specs.World.{World};
+
+use crate::columns::header_of;
+use crate::lines;
+use crate::refusal::Refusal;
+use crate::stop::Stop;
+use bouquet_run::{Book, run};
+use bouquet_type::{Bouquet, Report, RunFault};
+use contours::compile;
+use db_catalog::{Database, Metered};
+use ess_grid::Grid;
+use query_block::Block;
+use result_text::print_rows;
+use row_stack::{RowStack, Space};
+use sql_values::Text;
+use std::alloc::{AllocError, Global};
+use table_stats::stats_of;
+
+/// The compiled bouquet of a block over the tables, by levels that an axis may have and a threshold in percent, at most 1000.
+/// It is refused where its grid would have too many points, or its tables have too many combinations of rows.
+pub(crate) fn compiled_over(
+    alloc: Global,
+    database: &Database,
+    block: Block,
+    levels: Option<u64>,
+    threshold: u32,
+) -> Result<Bouquet, Stop>
+    requires fits { Fits database.now (block_tree block) }
+    requires levels { IfSome levels (λ given. (min_levels ≤ given) × (given ≤ max_levels)) }
+    requires threshold { threshold ≤ max_threshold }
+    ensures due { let tree = block_tree block in GivesBouquet (compiled_over database.now levels
+        threshold tree (size_refusal database.now tree levels)) result }
+    ensures block { IfOk result (λ bouquet. bouquet.block ≡ block) }
+    ensures sound { IfOk result (λ bouquet. IsSound (bouquet_tree bouquet)) }
+{
+    let grid = Grid::new(block.edges().len(), levels)?;
+    let stats = stats_of(alloc, database, &block)?;
+    Ok(compile(alloc, block, stats, grid, threshold)?)
+}
+
+// What a block prints under these names, whose rows a run left that ended as the report tells.
+fn print_answer(
+    alloc: Global,
+    names: &[Text],
+    meter: &Metered<'_>,
+    block: &Block,
+    rows: &RowStack,
+    report: &Report,
+) -> Result<Vec<u8>, AllocError>
+    requires names { names.now ≡ header_of meter.now.database (block_tree block.now) }
+    requires fits { Fits meter.now.database (block_tree block.now) }
+    requires rows { AreRowsOf meter.now.database (block_tree block.now) rows.now.rows }
+    requires wide { rows.now.width ≡ width_of (block_tree block.now) }
+    requires count { report.now.rows
+        ≡ length (meaning_of meter.now.database.tables (block_tree block.now)) }
+    ensures { IfOk result (λ text. text.items
+        ≡ answer_text meter.now.database (block_tree block.now) (told_end report.now)) }
+{
+    let mut text = print_rows(alloc, meter.texts(), block, names, rows)?;
+    lines::push_report(alloc, &mut text, report)?;
+    Ok(text)
+}
+
+/// What a bouquet's block prints, by a run of the bouquet that may spend `max_work` units. What it paid is entered in the book,
+/// whatever the answer.
+pub(crate) fn answer(
+    alloc: Global,
+    max_work: u64,
+    database: &Database,
+    bouquet: &Bouquet,
+    book: &mut Book,
+) -> Result<Vec<u8>, Stop>
+    requires fits { Fits database.now (block_tree bouquet.now.block) }
+    requires room { book.old + max_work ≤ 2 ^ 126 }
+    ensures due { (world : World) → world.database ≡ database.now →
+        ReturnsDue (bouquet_answer max_work world (bouquet_tree bouquet.now))
+        result world book.old book.new }
+    ensures bound { let tree = bouquet_tree bouquet.now in
+        let work = works_over database.now tree in
+        OnOk result (MeetsBound tree work (total_work tree work)) }
+    ensures within { book.new ≤ book.old + max_work }
+    ensures no_fault { IsErrOf result Stop.ReadFault → ⊥ }
+{
+    let block = bouquet.block();
+    let names = header_of(alloc, database, block)?;
+    let mut meter = Metered::new(database);
+    let mut space = Space::new(alloc, block.width());
+    match run(alloc, bouquet, &mut meter, &mut space, book, max_work) {
+        Ok(report) => Ok(print_answer(alloc, &names, &meter, block, &space.result, &report)?),
+        Err(RunFault::WorkLimit { spent }) => Err(Stop::Refused(Refusal::PastWork(spent))),
+        Err(RunFault::NoMemory) => Err(Stop::NoMemory),
+    }
+}
