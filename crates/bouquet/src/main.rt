@@ -1,12 +1,13 @@
 //! `bouquet`: a script on standard input, the files of the working directory, answers on standard output.
-//! It gathers the arguments, makes the adapters and calls `serve`, whose status is the one that it ends with. It never
-//! looks at a byte of a script, a file or an answer.
+//! It gathers the arguments, makes the adapters and an empty book and calls `serve`, whose status is the one that it ends
+//! with. It never looks at a byte of a script, a file or an answer.
 #![tactic(auto)]
 
 ghost use Rattle.std.specs.Prelude.{◌≡◌};
 ghost use Rattle.std.specs.Process.{exit_status};
 ghost use Rattle.shell.specs.Serve.{exit_number};
 
+use bouquet_run::Book;
 use outside_io::{DirFolder, StdSink, StdSource};
 use shell::{Status, serve};
 use std::alloc::Global;
@@ -40,6 +41,14 @@ fn main(rt: HostRuntime) -> ExitCode {
     let mut source = StdSource::new(rt.reader());
     let mut folder = DirFolder::new(&rt);
     let mut sink = StdSink::new(io::writer(&rt));
-    let status = serve(rt.alloc(), &words, &mut source, &mut folder, &mut sink);
+    let mut book = Book::new();
+    let status = serve(
+        rt.alloc(),
+        &words,
+        &mut source,
+        &mut folder,
+        &mut sink,
+        &mut book,
+    );
     exit_code(status)
 }

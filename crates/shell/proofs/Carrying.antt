@@ -1,5 +1,5 @@
 -- A script's text, as far as its statements were carried out.
-use Rattle.std.proofs.Common.{◌≡◌, ℕ, ◌+◌, ◌<◌, ◌≤◌, min, true, false, List, [], ◌∷◌, ◌++◌, length, take, drop, get_or, Option, Some, None, refl, sym, ap, ◌∙◌, arith, append_assoc}
+use Rattle.std.proofs.Common.{◌≡◌, inl, inr, ℕ, ◌+◌, ◌<◌, ◌≤◌, min, true, false, List, [], ◌∷◌, ◌++◌, length, take, drop, get_or, Option, Some, None, refl, sym, ap, ◌∙◌, subst, arith, append_assoc}
 use Rattle.std.specs.Io.KnownBytes.{Appends}
 use Rattle.std.proofs.Math.Seq.{take-append-add}
 use Rattle.std.proofs.lemmas.List.{append-nil, take_min, take_all, take-append-le, map-append, take_more, take-append-drop}
@@ -9,14 +9,15 @@ use Rattle.shell.specs.declared.status.Status.{Status}
 use Rattle.shell.specs.declared.status.Status.TheVariants as status
 use Rattle.session.specs.declared.refusal.Refusal.{Refusal}
 use Rattle.sql_parse.specs.Trees.{StatementTree}
+use Rattle.session.specs.Bounds.{IsAnsweredWithin}
 use Rattle.session.specs.Refusal.{line_of}
 use Rattle.session.specs.Given.{IsGivenFor}
 use Rattle.session.specs.Outcome.{Outcome, Prints, Refuses, refused_work}
 use Rattle.session.specs.Statements.{AsksForFile, statement_outcome}
 use Rattle.session.specs.World.{World, nothing_made}
 use Rattle.session.proofs.Given.{given_in}
-use Rattle.shell.specs.Script.{Answer, Step, and_then, script_answer, left_by, state_after}
-use Rattle.shell.specs.Serve.{statements_of_steps}
+use Rattle.shell.specs.Script.{Answer, AreAnsweredWithin, Step, and_then, script_answer, left_by, state_after}
+use Rattle.shell.specs.Serve.{EndsAsDue, statements_of_steps}
 use Rattle.shell.specs.Due.{CarriesAll}
 use Rattle.shell.proofs.Beginning.{whole_begins}
 use Rattle.shell.proofs.Steps.{AreGiven, any_steps}
@@ -46,7 +47,8 @@ after_nothing answer =
     let work : answer.work ≡ 0 + answer.work = omega arith in
     λ i. record { text = answer.text; work = work i; refused = answer.refused }
 
--- the text so far is there and paid, and with what the statements from i on print it is the whole
+-- the text so far is there and paid, each query so far was answered within its bound, and with what the statements from i on
+-- print it is the whole
 pub record IsCarried (max_work : ℕ) (all : List StatementTree) (i : ℕ) (before now : FolderState) (world : World) (had got : Option (List ℕ)) (old paid : ℕ) : Type 0 where
   pub steps : List Step
   pub are : statements_of_steps steps ≡ take i all
@@ -57,6 +59,7 @@ pub record IsCarried (max_work : ℕ) (all : List StatementTree) (i : ℕ) (befo
   pub spent : paid ≡ old + work
   pub whole : (rest : List Step) → script_answer max_work nothing_made (steps ++ rest) ≡ after printed work (script_answer max_work world rest)
   pub leaves : (rest : List Step) → state_after max_work nothing_made (steps ++ rest) ≡ state_after max_work world rest
+  pub answered : (rest : List Step) → AreAnsweredWithin max_work world rest → AreAnsweredWithin max_work nothing_made (steps ++ rest)
 
 pub carried_none : (max_work : ℕ) (all : List StatementTree) (before : FolderState) (had : Option (List ℕ)) (old : ℕ) → IsCarried max_work all 0 before before nothing_made had had old old
 carried_none max_work all before had old = record {
@@ -69,6 +72,7 @@ carried_none max_work all before had old = record {
   spent = omega arith;
   whole = λ rest. after_nothing (script_answer max_work nothing_made rest);
   leaves = λ rest. refl;
+  answered = λ rest within. within;
 }
 
 given_on : (before mid now : FolderState) (steps : List Step) → mid.misses ≤ now.misses → AreGiven before mid steps → AreGiven before now steps
@@ -152,9 +156,9 @@ module _ (max_work : ℕ) (all : List StatementTree) (i : ℕ) (before mid now :
   from_here rest = carried.whole (here ∷ rest)
 
   -- a statement that printed its text
-  pub carried_on : (new : Option (List ℕ)) (due : ℕ) (text : List ℕ) (work : ℕ) → statement_outcome max_work world statement file ≡ Prints text work next → Appends got new text → due ≡ paid + work
+  pub carried_on : (new : Option (List ℕ)) (due : ℕ) (text : List ℕ) (work : ℕ) → statement_outcome max_work world statement file ≡ Prints text work next → Appends got new text → due ≡ paid + work → IsAnsweredWithin world statement
       → IsCarried max_work all (i + 1) before now next had new old due
-  carried_on new due text work prints put spent = record {
+  carried_on new due text work prints put spent within = record {
     steps = carried.steps ++ here ∷ [];
     are = are_on all i carried.steps here below is carried.are;
     given = more_given before mid now carried.steps here [] same first last carried.given given (All-nil (λ (step : Step). IsGivenFor before now step.statement step.file));
@@ -169,6 +173,9 @@ module _ (max_work : ℕ) (all : List StatementTree) (i : ℕ) (before mid now :
     leaves = λ rest.
         ap (state_after max_work nothing_made) (append_assoc carried.steps (here ∷ []) rest) ∙ carried.leaves (here ∷ rest)
         ∙ ap (λ o. left_by o (λ s. state_after max_work s rest)) prints;
+    answered = λ rest later.
+        subst (AreAnsweredWithin max_work nothing_made) (sym (append_assoc carried.steps (here ∷ []) rest))
+        (carried.answered (here ∷ rest) (rw prints (within, later)));
   }
 
   -- the statements after this one, as steps, and the whole answer
@@ -186,6 +193,12 @@ module _ (max_work : ℕ) (all : List StatementTree) (i : ℕ) (before mid now :
       ∙ sym (append_assoc (take i all) (statement ∷ []) (drop (i + 1) all))
       ∙ ap (λ (l : List StatementTree). l ++ drop (i + 1) all) (sym (next_statement all i statement below is))
       ∙ take-append-drop (i + 1) all
+
+  -- where the run ended as the text does, the statement is refused
+  refusal_due : {asks : Type 0} {new : Option (List ℕ)} {due : ℕ} (ended : Status) → EndsAt (statement_outcome max_work world statement file) asks ended got new paid due → EndsAsDue ended
+      → (why : Refusal) × (statement_outcome max_work world statement file ≡ Refuses why)
+  refusal_due ended ends (inl done) = absurd (ends.not_done done)
+  refusal_due ended ends (inr refused) = (ends.refused refused).0
 
   -- a run that ends at this statement
   pub carried_to : (new : Option (List ℕ)) (due : ℕ) (ended : Status) → EndsAt (statement_outcome max_work world statement file) (AsksForFile world statement) ended got new paid due → CarriesAll max_work all before now ended had new old due
@@ -227,6 +240,7 @@ module _ (max_work : ℕ) (all : List StatementTree) (i : ℕ) (before mid now :
               let work : (script_answer max_work nothing_made all_steps).work ≡ carried.work + cost_of what = ap (λ (a : Answer). a.work) (whole ∙ ap (after carried.printed carried.work) refusal) in
               omega (arith, work, carried.spent, ends.paid e);
         };
+        bounds = λ e. carried.answered (here ∷ others.0) (rw (refusal_due ended ends e).1 tt);
       }
 
 -- after the last statement the whole text is there
@@ -249,4 +263,5 @@ carried_all max_work all i before now world had got old paid past carried =
         done = λ _. let work : (script_answer max_work nothing_made carried.steps).work ≡ carried.work = ap (λ (a : Answer). a.work) is in omega (arith, work, carried.spent);
         refused = λ ended. cc ended;
       };
+      bounds = λ _. subst (AreAnsweredWithin max_work nothing_made) (append-nil carried.steps) (carried.answered [] tt);
     }

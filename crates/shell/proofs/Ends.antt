@@ -11,6 +11,7 @@ use Rattle.session.specs.declared.stop.Stop.{Stop}
 use Rattle.session.specs.declared.stop.Stop.TheVariants as stop
 use Rattle.session.specs.declared.refusal.Refusal.{Refusal}
 use Rattle.session.specs.Refusal.{line_of}
+use Rattle.session.specs.Bounds.{IsAnsweredWithin}
 use Rattle.session.specs.Given.{IsGivenFor}
 use Rattle.session.specs.Outcome.{Outcome, Prints, Refuses, refused_work}
 use Rattle.session.specs.Returns.{IsCarriedOut}
@@ -112,9 +113,10 @@ module _ (max_work : ℕ) (statements : List Statement) (i : ℕ) (before mid no
       ends_at out.file out.given ended new (ends_in_part (statement_outcome max_work world tree out.file) asks text.items out.returns.0 next ended got new paid due unput out.returns.1 part)
 
   -- the statement's text was put
-  pub put_at : (text : Vec ℕ Global) (new : Option (List ℕ)) → IsCarriedOut max_work tree mid now world next paid due (Ok text) → Appends got new text.items → IsCarried max_work all (i + 1) before now next had new old due
-  put_at text new out put =
-      carried_on max_work all i before mid now world next tree out.file had got old paid inside (tree_at statements i statement is) first.files first.misses.never_falls last.misses.never_falls carried out.given new due text.items out.returns.0 out.returns.1 put out.returns.2
+  pub put_at : (text : Vec ℕ Global) (new : Option (List ℕ)) → IsCarriedOut max_work tree mid now world next paid due (Ok text) → IsAnsweredWithin world tree → Appends got new text.items
+      → IsCarried max_work all (i + 1) before now next had new old due
+  put_at text new out within put =
+      carried_on max_work all i before mid now world next tree out.file had got old paid inside (tree_at statements i statement is) first.files first.misses.never_falls last.misses.never_falls carried out.given new due text.items out.returns.0 out.returns.1 put out.returns.2 within
 
   -- the run ended there
   pub ended_at : (T : Type 0) (returned : Result (Vec ℕ Global) Stop) (ended : Status) (new : Option (List ℕ)) → IsCarriedOut max_work tree mid now world next paid due returned
@@ -126,9 +128,9 @@ module _ (max_work : ℕ) (statements : List Statement) (i : ℕ) (before mid no
 
   -- the run goes on behind it
   pub on_at : {T : Type 0} (returned : Result (Vec ℕ Global) Stop) (done : T) (new : Option (List ℕ)) → IsCarriedOut max_work tree mid now world next paid due returned
-      → Puts returned (Ok done) got new → IsCarried max_work all (i + 1) before now next had new old due
-  on_at (Ok text) done new out puts = put_at text new out puts
-  on_at (Err why) done new out puts = absurd puts
+      → OnOk returned (IsAnsweredWithin world tree) → Puts returned (Ok done) got new → IsCarried max_work all (i + 1) before now next had new old due
+  on_at (Ok text) done new out within puts = put_at text new out within puts
+  on_at (Err why) done new out within puts = absurd puts
 
 -- reading on
 pub reads_on : (before mid now : FolderState) (failed : Type 0) → OnlyReads ⊥ ⊥ before mid → OnlyReads failed ⊥ mid now → OnlyReads ⊥ ⊥ before now

@@ -31,9 +31,9 @@ answer_for max_work script before after (Ok statements) reads =
     let steps = any_steps before after statements in
     (answer_of max_work (Ok steps.0), record { steps = Ok steps.0; reads = subst (λ (l : List StatementTree). IsScript script (Ok l)) (sym steps.1) reads; given = steps.2; is = refl })
 
-pub serves_nothing : (max_work : ℕ) (source_failed : Type 0) (script : List ℕ) (folder : FolderState) (ended : Status) (had : Option (List ℕ)) → EndsElsewhere ended → (ended ≡ status.ReadFault → source_failed)
-    → Serves max_work source_failed script folder folder ended had had
-serves_nothing max_work source_failed script folder ended had elsewhere fault =
+pub serves_nothing : (max_work : ℕ) (source_failed : Type 0) (script : List ℕ) (folder : FolderState) (ended : Status) (had : Option (List ℕ)) (paid : ℕ) → EndsElsewhere ended → (ended ≡ status.ReadFault → source_failed)
+    → Serves max_work source_failed script folder folder ended had had paid
+serves_nothing max_work source_failed script folder ended had paid elsewhere fault =
     let read = some_reading script in
     let due = answer_for max_work script folder folder read.0 read.1 in
     record {
@@ -45,27 +45,31 @@ serves_nothing max_work source_failed script folder ended had elsewhere fault =
         beginning = (0, appends_none had);
       };
       read_fault = λ is. inl (fault is, refl, refl);
+      pays = record { done = λ is. absurd (not_done ended elsewhere is); refused = λ is. absurd (not_refused ended elsewhere is) };
+      bounds = λ due. elim due [ inl is ↦ absurd (not_done ended elsewhere is) | inr is ↦ absurd (not_refused ended elsewhere is) ];
     }
 
-pub known_nothing : (max_work : ℕ) (source_failed : Type 0) (source : Option (List ℕ)) (folder : FolderState) (ended : Status) (had : Option (List ℕ)) → EndsElsewhere ended → (ended ≡ status.ReadFault → source_failed)
-    → IfSome source (λ script. Serves max_work source_failed script folder folder ended had had)
-known_nothing max_work source_failed None folder ended had elsewhere fault = tt
-known_nothing max_work source_failed (Some script) folder ended had elsewhere fault = serves_nothing max_work source_failed script folder ended had elsewhere fault
+pub known_nothing : (max_work : ℕ) (source_failed : Type 0) (source : Option (List ℕ)) (folder : FolderState) (ended : Status) (had : Option (List ℕ)) (paid : ℕ) → EndsElsewhere ended → (ended ≡ status.ReadFault → source_failed)
+    → IfSome source (λ script. Serves max_work source_failed script folder folder ended had had paid)
+known_nothing max_work source_failed None folder ended had paid elsewhere fault = tt
+known_nothing max_work source_failed (Some script) folder ended had paid elsewhere fault = serves_nothing max_work source_failed script folder ended had paid elsewhere fault
 
 -- statements that were carried out are those of the script
-pub serves_statements : (max_work : ℕ) (script : List ℕ) (statements : List StatementTree) (before after : FolderState) (ended : Status) (had got : Option (List ℕ)) (old new : ℕ) → IsScript script (Ok statements)
-    → CarriesAll max_work statements before after ended had got old new → (ended ≡ status.ReadFault → Rose before.read_faults after.read_faults) → Serves max_work ⊥ script before after ended had got
-serves_statements max_work script statements before after ended had got old new reads carried rose = record {
+pub serves_statements : (max_work : ℕ) (script : List ℕ) (statements : List StatementTree) (before after : FolderState) (ended : Status) (had got : Option (List ℕ)) (paid : ℕ) → IsScript script (Ok statements)
+    → CarriesAll max_work statements before after ended had got 0 paid → (ended ≡ status.ReadFault → Rose before.read_faults after.read_faults) → Serves max_work ⊥ script before after ended had got paid
+serves_statements max_work script statements before after ended had got paid reads carried rose = record {
   answer = answer_of max_work (Ok carried.steps);
   due = record { steps = Ok carried.steps; reads = subst (λ (l : List StatementTree). IsScript script (Ok l)) (sym carried.are) reads; given = carried.given; is = refl };
   carries = carried.carries;
   read_fault = λ is. inr (rose is, carried.read_fault is);
+  pays = carried.pays;
+  bounds = carried.bounds;
 }
 
--- the line of a script that is refused whole
-pub serves_refusal : (max_work : ℕ) (script : List ℕ) (why : Refusal) (before after : FolderState) (ended : Status) (had got : Option (List ℕ)) → IsScript script (Err why)
-    → (ended ≡ status.Refused → Appends had got (line_of why)) → ((n : ℕ) × Appends had got (take n (line_of why))) → IsRefused ended → Serves max_work ⊥ script before after ended had got
-serves_refusal max_work script why before after ended had got reads whole part kinds = record {
+-- the line of a script that is refused whole, for which nothing is paid
+pub serves_refusal : (max_work : ℕ) (script : List ℕ) (why : Refusal) (before after : FolderState) (ended : Status) (had got : Option (List ℕ)) (paid : ℕ) → paid ≡ 0 → IsScript script (Err why)
+    → (ended ≡ status.Refused → Appends had got (line_of why)) → ((n : ℕ) × Appends had got (take n (line_of why))) → IsRefused ended → Serves max_work ⊥ script before after ended had got paid
+serves_refusal max_work script why before after ended had got paid unpaid reads whole part kinds = record {
   answer = answer_of max_work (Err why);
   due = record { steps = Err why; reads = reads; given = tt; is = refl };
   carries = record {
@@ -74,6 +78,8 @@ serves_refusal max_work script why before after ended had got reads whole part k
     beginning = part;
   };
   read_fault = λ is. absurd (refused_not_read ended kinds is);
+  pays = record { done = λ is. absurd (refused_not_done ended kinds is); refused = λ _. omega (arith, unpaid) };
+  bounds = λ _. tt;
 }
 
 -- what caused a fault where the source didn't fail
@@ -82,24 +88,26 @@ from_folder max_work source_failed steps before after had got (inl none) = absur
 from_folder max_work source_failed steps before after had got (inr read) = inr read
 
 -- a run over what was read is a run over the whole
-pub known_whole : (max_work : ℕ) (source_failed : Type 0) (source : Option (List ℕ)) (before after : FolderState) (bytes : List ℕ) (ended : Status) (had got : Option (List ℕ)) → IfSome source (λ left. bytes ≡ take enough left)
-    → Serves max_work ⊥ bytes before after ended had got → IfSome source (λ script. Serves max_work source_failed script before after ended had got)
-known_whole max_work source_failed None before after bytes ended had got read serves = tt
-known_whole max_work source_failed (Some left) before after bytes ended had got read serves =
-    let on = subst (λ (l : List ℕ). Serves max_work ⊥ l before after ended had got) read serves in
+pub known_whole : (max_work : ℕ) (source_failed : Type 0) (source : Option (List ℕ)) (before after : FolderState) (bytes : List ℕ) (ended : Status) (had got : Option (List ℕ)) (paid : ℕ) → IfSome source (λ left. bytes ≡ take enough left)
+    → Serves max_work ⊥ bytes before after ended had got paid → IfSome source (λ script. Serves max_work source_failed script before after ended had got paid)
+known_whole max_work source_failed None before after bytes ended had got paid read serves = tt
+known_whole max_work source_failed (Some left) before after bytes ended had got paid read serves =
+    let on = subst (λ (l : List ℕ). Serves max_work ⊥ l before after ended had got paid) read serves in
     record {
       answer = on.answer;
       due = record { steps = on.due.steps; reads = reads_whole left (statements_read on.due.steps) on.due.reads; given = on.due.given; is = on.due.is };
       carries = on.carries;
       read_fault = λ is. from_folder max_work source_failed on.due.steps before after had got (on.read_fault is);
+      pays = on.pays;
+      bounds = on.bounds;
     }
 
--- a folder isn't read for a script that is refused whole
-pub known_unread : (source : Option (List ℕ)) (before after : FolderState) (bytes : List ℕ) → IfSome source (λ left. bytes ≡ take enough left) → ((why : Refusal) → IsScript bytes (Err why) → after ≡ before)
-    → IfSome source (λ script. (why : Refusal) → IsScript script (Err why) → after ≡ before)
-known_unread None before after bytes read unread = tt
-known_unread (Some left) before after bytes read unread = λ why refused.
-    unread why (subst (λ (l : List ℕ). IsScript l (Err why)) (sym read) (reads_cut left why refused))
+-- what holds where what was read is refused whole holds where the script is
+pub known_refused : (source : Option (List ℕ)) (T : Type 0) (bytes : List ℕ) → IfSome source (λ left. bytes ≡ take enough left) → ((why : Refusal) → IsScript bytes (Err why) → T)
+    → IfSome source (λ script. (why : Refusal) → IsScript script (Err why) → T)
+known_refused None T bytes read whole = tt
+known_refused (Some left) T bytes read whole = λ why refused.
+    whole why (subst (λ (l : List ℕ). IsScript l (Err why)) (sym read) (reads_cut left why refused))
 
 -- a well-formed script was the whole
 emptied : (left bytes : List ℕ) → bytes ≡ take enough left → length bytes ≤ max_script_bytes → drop enough left ≡ []
@@ -121,20 +129,20 @@ pub known_read : (source now : Option (List ℕ)) (bytes : List ℕ) → IfSome 
 known_read None now bytes read = tt
 known_read (Some left) now bytes read = read.0
 
-decided_by : (max_work : ℕ) (source_failed : Type 0) (script : List ℕ) (before after : FolderState) (ended : Status) (had got : Option (List ℕ)) → (ended ≡ status.BadWords → ⊥) → (ended ≡ status.ReadFault → ⊥) → (ended ≡ status.WriteFault → ⊥)
-    → Serves max_work source_failed script before after ended had got → IsDecided max_work script before after ended
-decided_by max_work source_failed script before after status.Done had got words reads writes serves = record { answer = serves.answer; due = serves.due; ends = inl (rw (serves.carries.done refl).0 refl) }
-decided_by max_work source_failed script before after status.Refused had got words reads writes serves = record { answer = serves.answer; due = serves.due; ends = inl (rw (serves.carries.refused refl).0 refl) }
-decided_by max_work source_failed script before after status.BadWords had got words reads writes serves = absurd (words refl)
-decided_by max_work source_failed script before after status.ReadFault had got words reads writes serves = absurd (reads refl)
-decided_by max_work source_failed script before after status.WriteFault had got words reads writes serves = absurd (writes refl)
-decided_by max_work source_failed script before after status.NoMemory had got words reads writes serves = record { answer = serves.answer; due = serves.due; ends = inr refl }
+decided_by : (max_work : ℕ) (source_failed : Type 0) (script : List ℕ) (before after : FolderState) (ended : Status) (had got : Option (List ℕ)) (paid : ℕ) → (ended ≡ status.BadWords → ⊥) → (ended ≡ status.ReadFault → ⊥) → (ended ≡ status.WriteFault → ⊥)
+    → Serves max_work source_failed script before after ended had got paid → IsDecided max_work script before after ended
+decided_by max_work source_failed script before after status.Done had got paid words reads writes serves = record { answer = serves.answer; due = serves.due; ends = inl (rw (serves.carries.done refl).0 refl) }
+decided_by max_work source_failed script before after status.Refused had got paid words reads writes serves = record { answer = serves.answer; due = serves.due; ends = inl (rw (serves.carries.refused refl).0 refl) }
+decided_by max_work source_failed script before after status.BadWords had got paid words reads writes serves = absurd (words refl)
+decided_by max_work source_failed script before after status.ReadFault had got paid words reads writes serves = absurd (reads refl)
+decided_by max_work source_failed script before after status.WriteFault had got paid words reads writes serves = absurd (writes refl)
+decided_by max_work source_failed script before after status.NoMemory had got paid words reads writes serves = record { answer = serves.answer; due = serves.due; ends = inr refl }
 
 -- a run that met no fault ends as the script does
-pub known_decided : (max_work : ℕ) (source_failed : Type 0) (source : Option (List ℕ)) (before after : FolderState) (ended : Status) (had got : Option (List ℕ)) → (ended ≡ status.BadWords → ⊥) → (ended ≡ status.ReadFault → ⊥) → (ended ≡ status.WriteFault → ⊥)
-    → IfSome source (λ script. Serves max_work source_failed script before after ended had got) → IfSome source (λ script. IsDecided max_work script before after ended)
-known_decided max_work source_failed None before after ended had got words reads writes serves = tt
-known_decided max_work source_failed (Some script) before after ended had got words reads writes serves = decided_by max_work source_failed script before after ended had got words reads writes serves
+pub known_decided : (max_work : ℕ) (source_failed : Type 0) (source : Option (List ℕ)) (before after : FolderState) (ended : Status) (had got : Option (List ℕ)) (paid : ℕ) → (ended ≡ status.BadWords → ⊥) → (ended ≡ status.ReadFault → ⊥) → (ended ≡ status.WriteFault → ⊥)
+    → IfSome source (λ script. Serves max_work source_failed script before after ended had got paid) → IfSome source (λ script. IsDecided max_work script before after ended)
+known_decided max_work source_failed None before after ended had got paid words reads writes serves = tt
+known_decided max_work source_failed (Some script) before after ended had got paid words reads writes serves = decided_by max_work source_failed script before after ended had got paid words reads writes serves
 
 one_step : (old new other : FolderState) (a b : Step) → IsSome old.files → a.statement ≡ b.statement → IsGivenFor old new a.statement a.file → IsGivenFor old other b.statement b.file → a ≡ b
 one_step old new other a b known same first second =

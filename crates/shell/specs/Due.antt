@@ -1,9 +1,10 @@
 -- What a run of statements did, held against what is due to them.
-use Rattle.std.specs.Prelude.{◌≡◌, ◌⊎◌, ℕ, ◌+◌, ⊤, take, All, Result, Ok, Err, Vec, List, Option}
+use Rattle.std.specs.Prelude.{◌≡◌, ◌⊎◌, ℕ, ⊤, take, All, Result, Ok, Err, OnOk, Vec, List, Option}
 use Rattle.std.specs.declared.alloc.Global.{Global}
 use Rattle.std.specs.Io.KnownBytes.{Appends}
 use Rattle.outside_io.specs.Files.{FolderState}
 use Rattle.sql_parse.specs.Trees.{StatementTree}
+use Rattle.session.specs.Bounds.{IsAnsweredWithin}
 use Rattle.session.specs.Given.{IsGivenFor}
 use Rattle.session.specs.Refusal.{line_of}
 use Rattle.session.specs.Returns.{IsCarriedOut}
@@ -14,8 +15,8 @@ use Rattle.shell.specs.declared.script.ScriptFault.{ScriptFault}
 use Rattle.shell.specs.declared.script.ScriptFault.TheVariants as script_fault
 use Rattle.shell.specs.declared.status.Status.{Status}
 use Rattle.shell.specs.declared.status.Status.TheVariants as status
-use Rattle.shell.specs.Script.{Answer, Step, script_answer}
-use Rattle.shell.specs.Serve.{Carries, EndsAtRead, IsScript, statements_of_steps}
+use Rattle.shell.specs.Script.{AreAnsweredWithin, Step, script_answer}
+use Rattle.shell.specs.Serve.{Carries, EndsAsDue, EndsAtRead, PaysFor, IsScript, statements_of_steps}
 
 -- a refusal of the whole script is the one that is due; out of memory fits any script
 abbrev pub RefusesScript : List ℕ → ScriptFault → Type 0
@@ -35,18 +36,15 @@ Puts (Err (stop.Refused why)) (Err ended) had got =
 Puts (Err stop.ReadFault) (Err ended) had got = (ended ≡ status.ReadFault) × (got ≡ had)
 Puts (Err stop.NoMemory) (Err ended) had got = (ended ≡ status.NoMemory) × (got ≡ had)
 
--- a statement was carried out, and what it returned was put
+-- a statement was carried out, a query within its bound, and what was returned was put
 pub record CarriesOne {T : Type 0} (max_work : ℕ) (statement : StatementTree) (before after : FolderState) (world next : World) (old new : ℕ) (result : Result T Status) (had got : Option (List ℕ)) : Type 0 where
   pub returned : Result (Vec ℕ Global) Stop
   pub out : IsCarriedOut max_work statement before after world next old new returned
+  pub bounded : OnOk returned (IsAnsweredWithin world statement)
   pub puts : Puts returned result had got
 
--- where the run ended as the answer does, exactly the answer's work was paid
-pub record PaysFor (answer : Answer) (ended : Status) (old new : ℕ) : Type 0 where
-  pub done : ended ≡ status.Done → new ≡ old + answer.work
-  pub refused : ended ≡ status.Refused → new ≡ old + answer.work
-
--- all statements were carried out, up to and with the first refusal, or a part of them
+-- all statements were carried out, up to and with the first refusal, or a part of them; where the run ended as their text
+-- does, exactly the work that is printed was paid, and each query was answered within its bound
 pub record CarriesAll (max_work : ℕ) (statements : List StatementTree) (before after : FolderState) (ended : Status) (had got : Option (List ℕ)) (old new : ℕ) : Type 0 where
   pub steps : List Step
   pub are : statements_of_steps steps ≡ statements
@@ -54,3 +52,4 @@ pub record CarriesAll (max_work : ℕ) (statements : List StatementTree) (before
   pub carries : Carries (script_answer max_work nothing_made steps) ended had got
   pub read_fault : ended ≡ status.ReadFault → EndsAtRead max_work steps had got
   pub pays : PaysFor (script_answer max_work nothing_made steps) ended old new
+  pub bounds : EndsAsDue ended → AreAnsweredWithin max_work nothing_made steps

@@ -1,6 +1,7 @@
 -- The answer to a script: its statements one after another, up to and with the first that is refused.
-use Rattle.std.specs.Prelude.{ℕ, ◌+◌, Bool, true, false, List, [], ◌∷◌, ◌++◌, Option, Some, None, Result, Ok, Err}
+use Rattle.std.specs.Prelude.{ℕ, ⊤, ◌+◌, Bool, true, false, List, [], ◌∷◌, ◌++◌, Option, Some, None, Result, Ok, Err}
 use Rattle.sql_parse.specs.Trees.{StatementTree}
+use Rattle.session.specs.Bounds.{IsAnsweredWithin}
 use Rattle.session.specs.Outcome.{Outcome, Prints, Refuses, refused_work}
 use Rattle.session.specs.Refusal.{line_of}
 use Rattle.session.specs.Statements.{statement_outcome}
@@ -41,6 +42,17 @@ abbrev pub state_after : (max_work : ℕ) → World → List Step → Option Wor
 state_after max_work world [] = Some world
 state_after max_work world (step ∷ rest) =
     left_by (statement_outcome max_work world step.statement step.file) (λ next. state_after max_work next rest)
+
+-- what holds of an outcome's statement and of the state that it leaves, where it is not a refusal
+abbrev pub where_printed : Outcome → (here : Type 0) → (rest : World → Type 0) → Type 0
+where_printed (Prints text work world) here rest = here × rest world
+where_printed (Refuses why) here rest = ⊤
+
+-- each query among these steps that is answered is answered by a sound bouquet, and its work is within the bound
+abbrev pub AreAnsweredWithin : (max_work : ℕ) → World → List Step → Type 0
+AreAnsweredWithin max_work world [] = ⊤
+AreAnsweredWithin max_work world (step ∷ rest) =
+    where_printed (statement_outcome max_work world step.statement step.file) (IsAnsweredWithin world step.statement) (λ next. AreAnsweredWithin max_work next rest)
 
 -- the answer to a script of these statements, or to one that is refused whole
 abbrev pub answer_of : (max_work : ℕ) → Result (List Step) Refusal → Answer

@@ -15,7 +15,7 @@ use Rattle.session.specs.Statements.{AsksForFile}
 use Rattle.session.specs.World.{nothing_made}
 use Rattle.session.specs.declared.refusal.Refusal.{Refusal}
 use Rattle.session.specs.declared.refusal.Refusal.TheVariants as refusal
-use Rattle.shell.specs.Script.{Answer, Step, answer_of, script_answer, state_after}
+use Rattle.shell.specs.Script.{Answer, AreAnsweredWithin, Step, answer_of, script_answer, state_after}
 use Rattle.shell.specs.declared.status.Status.{Status}
 use Rattle.shell.specs.declared.status.Status.TheVariants as status
 
@@ -64,6 +64,15 @@ pub record Carries (answer : Answer) (ended : Status) (old new : Option (List �
   pub refused : ended ≡ status.Refused → (answer.refused ≡ true) × Appends old new answer.text
   pub beginning : (n : ℕ) × Appends old new (take n answer.text)
 
+-- the run ended as the script's text does
+abbrev pub EndsAsDue : Status → Type 0
+EndsAsDue ended = (ended ≡ status.Done) ⊎ (ended ≡ status.Refused)
+
+-- where it did, exactly the work that the text prints was paid
+pub record PaysFor (answer : Answer) (ended : Status) (old new : ℕ) : Type 0 where
+  pub done : ended ≡ status.Done → new ≡ old + answer.work
+  pub refused : ended ≡ status.Refused → new ≡ old + answer.work
+
 -- a run of these steps that ended at a read of the folder: the text of those before one of them went out whole and nothing
 -- more, and this one asks for a file in the state that they leave
 pub record EndsAtRead (max_work : ℕ) (steps : List Step) (old new : Option (List ℕ)) : Type 0 where
@@ -81,12 +90,15 @@ HasReadCause max_work source_failed steps old new before after =
     ⊎ (Rose old.read_faults new.read_faults × IsOkAnd steps (λ these. EndsAtRead max_work these before after))
 
 -- the run carried out the script's statements, up to and with the first refusal, or a part of them; a fault of reading has its
--- cause
-pub record Serves (max_work : ℕ) (source_failed : Type 0) (script : List ℕ) (old new : FolderState) (ended : Status) (before after : Option (List ℕ)) : Type 0 where
+-- cause; and where the run ended as the text does, exactly the work that is printed was paid, and each query was answered
+-- within its bound
+pub record Serves (max_work : ℕ) (source_failed : Type 0) (script : List ℕ) (old new : FolderState) (ended : Status) (before after : Option (List ℕ)) (paid : ℕ) : Type 0 where
   pub answer : Answer
   pub due : IsAnswer max_work script old new answer
   pub carries : Carries answer ended before after
   pub read_fault : ended ≡ status.ReadFault → HasReadCause max_work source_failed due.steps old new before after
+  pub pays : PaysFor answer ended 0 paid
+  pub bounds : EndsAsDue ended → IfOk due.steps (AreAnsweredWithin max_work nothing_made)
 
 -- the run ended as the script's text does, or out of memory
 pub record IsDecided (max_work : ℕ) (script : List ℕ) (old new : FolderState) (ended : Status) : Type 0 where

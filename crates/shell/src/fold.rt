@@ -7,11 +7,13 @@ ghost use Rattle.sql_values.specs.Limits.{max_script_bytes};
 ghost use Rattle.sql_parse.specs.Trees.{statement_tree};
 ghost use Rattle.sql_parse.specs.WellFormed.{IsWellFormed};
 ghost use Rattle.sql_parse.specs.Counts.{predicates_of};
+ghost use Rattle.session.specs.States.{world_of};
 ghost use Rattle.session.specs.World.{nothing_made};
 ghost use Rattle.shell.specs.Due.{CarriesAll, CarriesOne};
 
 use crate::Status;
 use crate::sink::{put_refusal, put_text};
+use bouquet_run::Book;
 use outside_io::{Folder, Sink};
 use session::{Session, Stop};
 use sql_parse::Statement;
@@ -25,22 +27,22 @@ fn carry_out_one<F: Folder, K: Sink>(
     statement: &Statement,
     folder: &mut F,
     sink: &mut K,
-    paid: &mut u128,
+    book: &mut Book,
 ) -> Result<(), Status>
     requires well_formed { IsWellFormed (statement_tree statement.now) }
     requires predicates { predicates_of (statement_tree statement.now) ≤ max_script_bytes }
-    requires room { paid.old + max_work ≤ 2 ^ 126 }
+    requires room { book.old + max_work ≤ 2 ^ 126 }
     ensures carries { CarriesOne max_work (statement_tree statement.now)
-        (F.state folder.old) (F.state folder.new) session.old session.new paid.old paid.new
-        result (K.got sink.old) (K.got sink.new) }
+        (F.state folder.old) (F.state folder.new) (world_of session.old) (world_of session.new)
+        book.old book.new result (K.got sink.old) (K.got sink.new) }
     ensures kinds { IfErr result (λ ended. ended ≢ Status.BadWords) }
-    ensures within { paid.new ≤ paid.old + max_work }
+    ensures within { book.new ≤ book.old + max_work }
     ensures folder { OnlyReads (IsErrOf result Status.ReadFault) ⊥
         (F.state folder.old) (F.state folder.new) }
     ensures sink { HasCause (IsErrOf result Status.WriteFault)
         (K.faults sink.old) (K.faults sink.new) }
 {
-    match session.carry_out(alloc, max_work, statement, folder, paid) {
+    match session.carry_out(alloc, max_work, statement, folder, book) {
         Ok(text) => put_text(sink, &text),
         Err(Stop::Refused(refusal)) => Err(put_refusal(alloc, sink, &refusal)),
         Err(Stop::ReadFault) => Err(Status::ReadFault),
@@ -56,24 +58,25 @@ fn carry_out_each<F: Folder, K: Sink>(
     statements: &[Statement],
     folder: &mut F,
     sink: &mut K,
-    paid: &mut u128,
+    book: &mut Book,
 ) -> Status
-    requires well_formed { All (λ statement. IsWellFormed (statement_tree statement)) statements.now }
+    requires well_formed { All (λ statement.
+        IsWellFormed (statement_tree statement)) statements.now }
     requires predicates { All (λ statement.
         predicates_of (statement_tree statement) ≤ max_script_bytes) statements.now }
-    requires fresh { session.old ≡ nothing_made }
-    requires unpaid { paid.old ≡ 0 }
+    requires fresh { world_of session.old ≡ nothing_made }
+    requires unpaid { book.old ≡ 0 }
     requires most { max_work ≤ 2 ^ 62 }
     ensures carries { CarriesAll max_work (map statement_tree statements.now)
         (F.state folder.old) (F.state folder.new) result
-        (K.got sink.old) (K.got sink.new) paid.old paid.new }
+        (K.got sink.old) (K.got sink.new) book.old book.new }
     ensures kinds { result ≢ Status.BadWords }
     ensures folder { OnlyReads (result ≡ Status.ReadFault) ⊥
         (F.state folder.old) (F.state folder.new) }
     ensures sink { HasCause (result ≡ Status.WriteFault) (K.faults sink.old) (K.faults sink.new) }
 {
     for statement in statements {
-        match carry_out_one(alloc, max_work, session, statement, folder, sink, paid) {
+        match carry_out_one(alloc, max_work, session, statement, folder, sink, book) {
             Ok(()) => {}
             Err(ended) => return ended,
         }
@@ -88,16 +91,17 @@ pub(crate) fn carry_out_all<F: Folder, K: Sink>(
     statements: &[Statement],
     folder: &mut F,
     sink: &mut K,
-    paid: &mut u128,
+    book: &mut Book,
 ) -> Status
-    requires well_formed { All (λ statement. IsWellFormed (statement_tree statement)) statements.now }
+    requires well_formed { All (λ statement.
+        IsWellFormed (statement_tree statement)) statements.now }
     requires predicates { All (λ statement.
         predicates_of (statement_tree statement) ≤ max_script_bytes) statements.now }
-    requires unpaid { paid.old ≡ 0 }
+    requires unpaid { book.old ≡ 0 }
     requires most { max_work ≤ 2 ^ 62 }
     ensures carries { CarriesAll max_work (map statement_tree statements.now)
         (F.state folder.old) (F.state folder.new) result
-        (K.got sink.old) (K.got sink.new) paid.old paid.new }
+        (K.got sink.old) (K.got sink.new) book.old book.new }
     ensures kinds { result ≢ Status.BadWords }
     ensures folder { OnlyReads (result ≡ Status.ReadFault) ⊥
         (F.state folder.old) (F.state folder.new) }
@@ -111,6 +115,6 @@ pub(crate) fn carry_out_all<F: Folder, K: Sink>(
         statements,
         folder,
         sink,
-        paid,
+        book,
     )
 }

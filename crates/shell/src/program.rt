@@ -14,6 +14,7 @@ use crate::fold::carry_out_all;
 use crate::script::{ScriptFault, read_script};
 use crate::sink::{put_refusal, put_text};
 use crate::source::{SourceFault, read_source};
+use bouquet_run::Book;
 use outside_io::{Folder, Sink, Source};
 use std::alloc::Global;
 
@@ -41,34 +42,42 @@ fn carry_out_script<F: Folder, K: Sink>(
     script: &[u8],
     folder: &mut F,
     sink: &mut K,
+    book: &mut Book,
 ) -> Status
     requires most { max_work ≤ 2 ^ 62 }
+    requires unpaid { book.old ≡ 0 }
     ensures serves { Serves max_work ⊥ script.now (F.state folder.old) (F.state folder.new) result
-        (K.got sink.old) (K.got sink.new) }
+        (K.got sink.old) (K.got sink.new) book.new }
     ensures fits { result ≡ Status.Done → length script.now ≤ max_script_bytes }
     ensures kinds { result ≢ Status.BadWords }
     ensures unread { (why : Refusal) → IsScript script.now (Err why) →
         F.state folder.new ≡ F.state folder.old }
+    ensures unpaid_script { (why : Refusal) → IsScript script.now (Err why) →
+        book.new ≡ book.old }
     ensures folder { OnlyReads (result ≡ Status.ReadFault) ⊥
         (F.state folder.old) (F.state folder.new) }
     ensures sink { HasCause (result ≡ Status.WriteFault) (K.faults sink.old) (K.faults sink.new) }
 {
     match read_script(alloc, script) {
-        Ok(statements) => carry_out_all(alloc, max_work, &statements, folder, sink, &mut 0),
+        Ok(statements) => carry_out_all(alloc, max_work, &statements, folder, sink, book),
         Err(ScriptFault::Refused(refusal)) => put_refusal(alloc, sink, &refusal),
         Err(ScriptFault::NoMemory) => Status::NoMemory,
     }
 }
 
 /// Reads the script from the source, carries its statements out and puts what they print into the sink. `words` are
-/// the arguments after the program's name, of which none is taken.
+/// the arguments after the program's name, of which none is taken. What queries paid is entered in the book, in which
+/// nothing stands before.
 pub fn serve<S: Source, F: Folder, K: Sink>(
     alloc: Global,
     words: &[String],
     source: &mut S,
     folder: &mut F,
     sink: &mut K,
+    book: &mut Book,
 ) -> Status
+    requires unpaid { book.old ≡ 0 }
+
     // Where there is an argument, the usage line goes out and nothing is taken from the source.
     ensures bad_words { result ≡ Status.BadWords → words.now ≢ [] }
     ensures usage { words.now ≢ [] →
@@ -76,21 +85,27 @@ pub fn serve<S: Source, F: Folder, K: Sink>(
     ensures untaken { words.now ≢ [] → S.left source.new ≡ S.left source.old }
 
     // Else the text of the script goes out, whole or, after a fault and out of memory, its beginning. ReadFault comes where
-    // the source failed, or the folder for a LOAD whose table is there.
+    // the source failed, or the folder for a LOAD whose table is there. Under Done and Refused exactly the work that is
+    // printed was entered in the book, and each query was answered by a sound bouquet, within its bound.
     ensures serves { words.now ≡ [] → IfSome (S.left source.old) (λ script.
         Serves max_work (Rose (S.faults source.old) (S.faults source.new)) script
-        (F.state folder.old) (F.state folder.new) result (K.got sink.old) (K.got sink.new)) }
+        (F.state folder.old) (F.state folder.new) result (K.got sink.old) (K.got sink.new)
+        book.new) }
     ensures emptied { result ≡ Status.Done →
         IfSome (S.left source.old) (λ _. S.left source.new ≡ Some []) }
     ensures bounded { IfSome (S.left source.old)
         (TakesAtMost (max_script_bytes + 1) (S.left source.new)) }
 
-    // The folder holds what it held, and isn't read for a script that is refused whole.
+    // The folder holds what it held, and isn't read where an argument or the whole script is refused; nor is anything paid
+    // there.
     ensures folder { OnlyReads ⊥ ⊥ (F.state folder.old) (F.state folder.new) }
     ensures unread { words.now ≢ [] → F.state folder.new ≡ F.state folder.old }
     ensures unread_script { IfSome (S.left source.old) (λ script.
         (why : Refusal) → IsScript script (Err why) →
         F.state folder.new ≡ F.state folder.old) }
+    ensures unpaid_words { words.now ≢ [] → book.new ≡ book.old }
+    ensures unpaid_script { IfSome (S.left source.old) (λ script.
+        (why : Refusal) → IsScript script (Err why) → book.new ≡ book.old) }
 
     // Each fault has its cause.
     ensures read_fault { result ≡ Status.ReadFault →
@@ -114,7 +129,7 @@ pub fn serve<S: Source, F: Folder, K: Sink>(
         Err(SourceFault::Failed) => return Status::ReadFault,
         Err(SourceFault::NoMemory) => return Status::NoMemory,
     };
-    carry_out_script(alloc, MAX_WORK, &script, folder, sink)
+    carry_out_script(alloc, MAX_WORK, &script, folder, sink, book)
 }
 
 /// Over a folder of known contents only one answer is due to a script, so what `serve` says of the answer that is due it

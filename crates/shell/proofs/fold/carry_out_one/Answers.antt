@@ -8,6 +8,7 @@ pub returns-in-Ok-clause-carries : goal.returns-in-Ok-clause-carries
 returns-in-Ok-clause-carries g c = record {
   returned = Ok c.in-Ok.text;
   out = c.in-Ok.ensures.due;
+  bounded = c.in-Ok.ensures.bounded;
   puts = puts_text c.in-Ok.text c.put_text.result (g.K.Sink.got c.args.sink.now) (g.K.Sink.got c.put_text.new.sink)
       (rw c.deref.ensures.value at c.put_text.ensures.whole) (rw c.deref.ensures.value at c.put_text.ensures.part) c.put_text.ensures.kinds;
 }
@@ -18,15 +19,16 @@ returns-in-Err-Refused-clause-carries g c =
     record {
       returned = Err (stop.Refused c.in-Err-Refused.refusal);
       out = out.due;
+      bounded = tt;
       puts = (c.put_refusal.ensures.whole, c.put_refusal.ensures.part, c.put_refusal.ensures.kinds);
     }
 
 pub returns-in-Err-ReadFault-clause-carries : goal.returns-in-Err-ReadFault-clause-carries
 returns-in-Err-ReadFault-clause-carries g c =
     let out = rw c.in-Err-ReadFault.field-0-is at c.in-Err-ReadFault.ensures in
-    record { returned = Err stop.ReadFault; out = out.due; puts = (refl, refl) }
+    record { returned = Err stop.ReadFault; out = out.due; bounded = tt; puts = (refl, refl) }
 
 pub returns-in-Err-NoMemory-clause-carries : goal.returns-in-Err-NoMemory-clause-carries
 returns-in-Err-NoMemory-clause-carries g c =
     let out = rw c.in-Err-NoMemory.field-0-is at c.in-Err-NoMemory.ensures in
-    record { returned = Err stop.NoMemory; out = out.due; puts = (refl, refl) }
+    record { returned = Err stop.NoMemory; out = out.due; bounded = tt; puts = (refl, refl) }
