@@ -1,6 +1,7 @@
 // Runs a case in memory, and says what differs.
 use crate::case::{Case, File, name_of};
 use crate::content::put_lines;
+use bouquet_run::Book;
 use outside_io::{MemoryFolder, MemorySink, MemorySource};
 use shell::{Status, serve};
 use std::alloc::{AllocError, Global};
@@ -66,7 +67,15 @@ pub(crate) fn differences_of(alloc: Global, case: &Case) -> Result<String, Alloc
         folder.add(file.name.as_str(), &file.bytes)?;
     }
     let mut sink = MemorySink::new(alloc, Vec::from_slice(alloc, &case.puts)?);
-    let status = serve(alloc, &case.words, &mut source, &mut folder, &mut sink);
+    let mut book = Book::new();
+    let status = serve(
+        alloc,
+        &case.words,
+        &mut source,
+        &mut folder,
+        &mut sink,
+        &mut book,
+    );
     let mut out = String::new(alloc);
     put_status(&mut out, status, case.status)?;
     put_text(&mut out, "prints", sink.bytes(), &case.prints)?;
