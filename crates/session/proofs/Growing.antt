@@ -11,28 +11,34 @@ use Rattle.csv_load.specs.Load.{Appends}
 use Rattle.sql_values.specs.Stored.{ValueRow}
 use Rattle.bouquet_type.specs.Sound.{IsSound}
 use Rattle.bouquet_type.specs.Trees.{bouquet_tree}
+use Rattle.session.specs.Counted.{HasCountsOf, IsCountedBefore}
 use Rattle.session.specs.States.{NamedShape, IsSession}
+use Rattle.session.proofs.Counting.{Grows, counted_before, counted_now, grows_with_rows}
 
--- in a database that all blocks fit that fit the one before
-pub is_grown : (old new grown : DatabaseState) (bouquets : List NamedShape) → new ≡ grown → ((block : BlockTree) → Fits old block → Fits grown block)
+-- in a database that all blocks fit that fit the one before, and whose tables have the rows of that one, and maybe more
+pub is_grown : (old new grown : DatabaseState) (bouquets : List NamedShape) → new ≡ grown → ((block : BlockTree) → Fits old block → Fits grown block) → Grows old grown
     → IsSession (record { database = old; bouquets = bouquets }) → IsSession (record { database = new; bouquets = bouquets })
-is_grown old new grown bouquets is grows session = record {
+is_grown old new grown bouquets is fits grows session = record {
   fit = subst (λ (database : DatabaseState). All (λ kept. Fits database (block_tree kept.bouquet.block)) bouquets) (sym is)
-      (All-weaker (λ (kept : NamedShape). Fits old (block_tree kept.bouquet.block)) (λ (kept : NamedShape). Fits grown (block_tree kept.bouquet.block)) (λ kept. grows (block_tree kept.bouquet.block)) bouquets session.fit);
+      (All-weaker (λ (kept : NamedShape). Fits old (block_tree kept.bouquet.block)) (λ (kept : NamedShape). Fits grown (block_tree kept.bouquet.block)) (λ kept. fits (block_tree kept.bouquet.block)) bouquets session.fit);
   sound = session.sound;
+  counted = subst (λ (database : DatabaseState). All (λ kept. IsCountedBefore database (bouquet_tree kept.bouquet)) bouquets) (sym is)
+      (All-weaker (λ (kept : NamedShape). IsCountedBefore old (bouquet_tree kept.bouquet)) (λ (kept : NamedShape). IsCountedBefore grown (bouquet_tree kept.bouquet)) (λ kept. counted_before old grown (bouquet_tree kept.bouquet) grows) bouquets session.counted);
 }
 
--- with a sound bouquet more, whose block fits
+-- with a sound bouquet more, whose block fits and which has the counts of the tables
 pub is_with_bouquet : (database : DatabaseState) (old new : List NamedShape) (kept : NamedShape) → new ≡ old ++ kept ∷ [] → Fits database (block_tree kept.bouquet.block) → IsSound (bouquet_tree kept.bouquet)
+    → HasCountsOf database.tables (bouquet_tree kept.bouquet)
     → IsSession (record { database = database; bouquets = old }) → IsSession (record { database = database; bouquets = new })
-is_with_bouquet database old new kept is fits sound session =
+is_with_bouquet database old new kept is fits sound counts session =
     subst (λ (bouquets : List NamedShape). IsSession (record { database = database; bouquets = bouquets })) (sym is) (record {
       fit = All-push (λ (one : NamedShape). Fits database (block_tree one.bouquet.block)) old kept session.fit fits;
       sound = All-push (λ (one : NamedShape). IsSound (bouquet_tree one.bouquet)) old kept session.sound sound;
+      counted = All-push (λ (one : NamedShape). IsCountedBefore database (bouquet_tree one.bouquet)) old kept session.counted (counted_now database (bouquet_tree kept.bouquet) counts);
     })
 
 -- with the rows of a file more
 pub is_loaded : (old new : DatabaseState) (table count : ℕ) (bouquets : List NamedShape) (due : Result (List ValueRow) LoadFault) → IsOkAnd due (Appends table old new count)
     → IsSession (record { database = old; bouquets = bouquets }) → IsSession (record { database = new; bouquets = bouquets })
-is_loaded old new table count bouquets (Ok rows) loaded session = is_grown old new (with_rows old table rows) bouquets loaded.appended (fits_with_rows old table rows) session
+is_loaded old new table count bouquets (Ok rows) loaded session = is_grown old new (with_rows old table rows) bouquets loaded.appended (fits_with_rows old table rows) (grows_with_rows old table rows) session
 is_loaded old new table count bouquets (Err fault) loaded session = absurd loaded

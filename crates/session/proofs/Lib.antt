@@ -1,5 +1,6 @@
 pub mod Compiling
 pub mod ContourTexts
+pub mod Counting
 pub mod Given
 pub mod Growing
 pub mod LoadLine

@@ -20,6 +20,7 @@ use Rattle.bouquet_type.specs.Trees.{BouquetTree}
 use Rattle.bouquet_run.specs.Outcomes.{works_over}
 use Rattle.session.specs.Bouquets.{bouquet_due, bouquet_unless, compiled_over, points_refusal, product_refusal, size_refusal, with_due}
 use Rattle.session.specs.Bounds.{RunsWithinBound}
+use Rattle.session.specs.Counted.{HasCountsOf}
 use Rattle.session.specs.declared.refusal.Refusal.{Refusal}
 use Rattle.session.specs.declared.refusal.Refusal.TheVariants as refusal
 use Rattle.session.specs.declared.stop.Stop.{Stop}
@@ -100,7 +101,7 @@ module _ (database : DatabaseState) (query : QueryTree) (levels : Option ℕ) (t
   stops_unpaid go stop.NoMemory world paid gives = tt
 
 -- an answer is within the bound
-pub answered_within : (world : World) (bouquet : BouquetTree) (result : Result (Vec ℕ Global) Stop) → IsSound bouquet
+pub answered_within : (world : World) (bouquet : BouquetTree) (result : Result (Vec ℕ Global) Stop) → IsSound bouquet → HasCountsOf world.database.tables bouquet
     → OnOk result (MeetsBound bouquet (works_over world.database bouquet) (total_work bouquet (works_over world.database bouquet))) → OnOk result (RunsWithinBound world bouquet)
-answered_within world bouquet (Ok text) sound bound = (sound, bound)
-answered_within world bouquet (Err why) sound bound = tt
+answered_within world bouquet (Ok text) sound counts bound = record { sound = sound; counts = counts; bound = bound }
+answered_within world bouquet (Err why) sound counts bound = tt

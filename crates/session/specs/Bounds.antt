@@ -8,12 +8,14 @@ use Rattle.bouquet_type.specs.Runs.{total_work}
 use Rattle.bouquet_type.specs.Bounded.{MeetsBound}
 use Rattle.bouquet_run.specs.Outcomes.{works_over}
 use Rattle.session.specs.Bouquets.{bouquet_due}
+use Rattle.session.specs.Counted.{HasCountsOf}
 use Rattle.session.specs.World.{World, named_in}
 
--- the bouquet is sound, and the work of its run over the world's database meets the bound
-abbrev pub RunsWithinBound : World → BouquetTree → Type 0
-RunsWithinBound world bouquet =
-    let work = works_over world.database bouquet in IsSound bouquet × MeetsBound bouquet work (total_work bouquet work)
+-- the bouquet is sound, its counts are those of the world's tables, and the work of its run over them meets the bound
+pub record RunsWithinBound (world : World) (bouquet : BouquetTree) : Type 0 where
+  pub sound : IsSound bouquet
+  pub counts : HasCountsOf world.database.tables bouquet
+  pub bound : let work = works_over world.database bouquet in MeetsBound bouquet work (total_work bouquet work)
 
 -- so it is for the bouquet by which a query is answered, compiled for it or kept under a name
 abbrev pub IsAnsweredWithin : World → StatementTree → Type 0

@@ -1,4 +1,5 @@
 pub mod World
+pub mod Counted
 pub mod States
 pub mod Outcome
 pub mod Refusal

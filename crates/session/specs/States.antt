@@ -6,6 +6,7 @@ use Rattle.db_catalog.specs.Fits.{Fits}
 use Rattle.bouquet_type.specs.Shapes.{BouquetShape}
 use Rattle.bouquet_type.specs.Sound.{IsSound}
 use Rattle.bouquet_type.specs.Trees.{bouquet_tree}
+use Rattle.session.specs.Counted.{IsCountedBefore}
 use Rattle.session.specs.declared.named_bouquets.KeptBouquet.{KeptBouquet}
 use Rattle.session.specs.World.{NamedBouquet, World}
 
@@ -31,7 +32,9 @@ named_of kept = record { name = kept.name; query = kept.query; bouquet = bouquet
 abbrev pub world_of : SessionState → World
 world_of session = record { database = session.database; bouquets = map named_of session.bouquets }
 
--- what always holds of a session: the block of each bouquet fits the database, and each bouquet is sound
+-- what always holds of a session: the block of each bouquet fits the database, each bouquet is sound, and its counts are those
+-- of the tables as they once were
 pub record IsSession (session : SessionState) : Type 0 where
   pub fit : All (λ kept. Fits session.database (block_tree kept.bouquet.block)) session.bouquets
   pub sound : All (λ kept. IsSound (bouquet_tree kept.bouquet)) session.bouquets
+  pub counted : All (λ kept. IsCountedBefore session.database (bouquet_tree kept.bouquet)) session.bouquets

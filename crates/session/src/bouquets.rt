@@ -13,6 +13,7 @@ ghost use Rattle.bouquet_type.specs.Runs.{total_work};
 ghost use Rattle.bouquet_type.specs.Reports.{told_end};
 ghost use Rattle.bouquet_run.specs.Outcomes.{works_over};
 ghost use Rattle.session.specs.Bouquets.{bouquet_answer, compiled_over, size_refusal};
+ghost use Rattle.session.specs.Counted.{HasCountsOf};
 ghost use Rattle.session.specs.Printed.{answer_text, header_of};
 ghost use Rattle.session.specs.Returns.{GivesBouquet, ReturnsDue};
 ghost use Rattle.session.specs.World.{World};
@@ -49,6 +50,8 @@ pub(crate) fn compiled_over(
         threshold tree (size_refusal database.now tree levels)) result }
     ensures block { IfOk result (λ bouquet. bouquet.block ≡ block) }
     ensures sound { IfOk result (λ bouquet. IsSound (bouquet_tree bouquet)) }
+    ensures counts { IfOk result
+        (λ bouquet. HasCountsOf database.now.tables (bouquet_tree bouquet)) }
 {
     let grid = Grid::new(block.edges().len(), levels)?;
     let stats = stats_of(alloc, database, &block)?;

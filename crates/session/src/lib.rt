@@ -1,7 +1,8 @@
 //! The state of a script and one statement on it: what it prints, what it leaves, or why it is refused.
 //! To the layer above it promises that a statement returns what is due to it in the state before, that what its queries
-//! paid is the work that they print and is within the bound of their bouquets, and that one which stops leaves the state as
-//! it was. The bouquets that are kept always fit the tables, and are sound.
+//! paid is the work that they print and is within the bound of their bouquets, which have the counts of the tables, and that
+//! one which stops leaves the state as it was. The bouquets that are kept always fit the tables, are sound, and have the
+//! counts of the tables as they were when they were compiled.
 //! It never puts anything out, never asks the folder for a file but for a LOAD whose table is there, and never reads a row but
 //! by a meter.
 #![tactic(auto)]

@@ -47,7 +47,7 @@ pub invariant_of-self-2 : goal.invariant_of-self-2
 invariant_of-self-2 c =
     let kept : NamedShape = record { name = c.in_ok-name.name.items; query = c.in_ok-query.query.items; bouquet = c.in_ok-bouquet.bouquet } in
     let fits : Fits c.self.inside.database (block_tree kept.bouquet.block) = rw c.in_ok-bouquet.ensures.block c.in_ok-block.ensures.fits in
-    is_with_bouquet c.self.inside.database c.self.inside.bouquets c.add.new.self kept c.in_ok-add.ensures.added fits c.in_ok-bouquet.ensures.sound c.self.invariant
+    is_with_bouquet c.self.inside.database c.self.inside.bouquets c.add.new.self kept c.in_ok-add.ensures.added fits c.in_ok-bouquet.ensures.sound c.in_ok-bouquet.ensures.counts c.self.invariant
 
 pub returns-clause-due : goal.returns-clause-due
 returns-clause-due c =

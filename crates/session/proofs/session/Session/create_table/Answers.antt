@@ -1,6 +1,7 @@
 -- A database with a table more is grown.
 use Rattle.db_catalog.specs.Database.{new_table, with_table}
 use Rattle.db_catalog.proofs.Growth.{fits_with_table}
+use Rattle.session.proofs.Counting.{grows_with_table}
 use Rattle.session.proofs.Growing.{is_grown}
 use Rattle.session.proofs.session.Session.create_table.Goals as goal
 
@@ -8,4 +9,4 @@ pub invariant_of-self-2 : goal.invariant_of-self-2
 invariant_of-self-2 c =
     let database = c.self.inside.database in
     let table = new_table c.args.table.now.name c.args.table.now.columns in
-    is_grown database c.create_table.new.self (with_table database table) c.self.inside.bouquets (rw (← c.bytes.ensures, ← c.as_slice.ensures) c.in_ok-create_table.ensures.created) (fits_with_table database table) c.self.invariant
+    is_grown database c.create_table.new.self (with_table database table) c.self.inside.bouquets (rw (← c.bytes.ensures, ← c.as_slice.ensures) c.in_ok-create_table.ensures.created) (fits_with_table database table) (grows_with_table database table) c.self.invariant

@@ -4,9 +4,11 @@ use Rattle.std.proofs.lemmas.List.Elements.{All-contains}
 use Rattle.bouquet_type.specs.Sound.{IsSound}
 use Rattle.bouquet_type.specs.Trees.{bouquet_tree}
 use Rattle.session.specs.Bouquets.{bouquet_answer}
+use Rattle.session.specs.Counted.{HasCountsOf, IsCountedBefore}
 use Rattle.session.specs.Run.{at_bouquet, run_outcome, stale_count, unless_stale}
 use Rattle.session.specs.States.{NamedShape, named_shape, named_of, world_of}
 use Rattle.session.specs.World.{World, NamedBouquet, named_in}
+use Rattle.session.proofs.Counting.{counts_fresh}
 use Rattle.session.proofs.Queries.{answered_within}
 use Rattle.session.proofs.session.Session.run.Goals as goal
 
@@ -29,4 +31,7 @@ returns-clause-bounded c =
     let named : NamedBouquet = named_of (named_shape c.bytes.result.now kept) in
     let found : named_in c.args.name.now world.bouquets ≡ Some named = rw (← c.bytes.ensures) c.in-Some.ensures.named in
     let sound : IsSound named.bouquet = All-contains (λ (one : NamedShape). IsSound (bouquet_tree one.bouquet)) c.self.inside.bouquets (named_shape c.bytes.result.now kept) c.self.invariant.sound c.in-Some.ensures.there in
-    rw (← c.self.view_is, found) (answered_within world named.bouquet c.answer.result sound c.answer.ensures.bound)
+    let counted : IsCountedBefore world.database named.bouquet =
+    All-contains (λ (one : NamedShape). IsCountedBefore world.database (bouquet_tree one.bouquet)) c.self.inside.bouquets (named_shape c.bytes.result.now kept) c.self.invariant.counted c.in-Some.ensures.there in
+    let counts : HasCountsOf world.database.tables named.bouquet = counts_fresh world.database named.bouquet counted c.in_ok-check_counts.ensures.answered in
+    rw (← c.self.view_is, found) (answered_within world named.bouquet c.answer.result sound counts c.answer.ensures.bound)

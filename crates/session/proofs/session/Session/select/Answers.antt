@@ -42,4 +42,4 @@ returns-clause-bounded c =
     let query = query_tree c.args.query.now in
     let is : query_due world.database query None default_threshold ≡ Ok (bouquet_tree c.in_ok-bouquet.bouquet) =
     bound world.database query None default_threshold (block_tree c.in_ok-block.block) (Ok c.in_ok-bouquet.bouquet) c.in_ok-block.ensures.refuses.answered c.in_ok-block.ensures.block c.in_ok-bouquet.ensures.due in
-    rw (← c.self.view_is, is) (answered_within world (bouquet_tree c.in_ok-bouquet.bouquet) c.answer.result c.in_ok-bouquet.ensures.sound c.answer.ensures.bound)
+    rw (← c.self.view_is, is) (answered_within world (bouquet_tree c.in_ok-bouquet.bouquet) c.answer.result c.in_ok-bouquet.ensures.sound c.in_ok-bouquet.ensures.counts c.answer.ensures.bound)
