@@ -5,3 +5,4 @@ pub mod LeafSets
 pub mod Members
 pub mod Enumerated
 pub mod Digits
+pub mod Reader

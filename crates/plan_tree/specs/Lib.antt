@@ -6,5 +6,7 @@ pub mod AllPlans
 pub mod Order
 pub mod Sides
 pub mod Text
+pub mod Reading
+pub mod Reader
 pub mod Work
 pub mod Left

@@ -1,6 +1,6 @@
 // The relations that a plan joins. Each function calls itself for the sides of a join, so the stack that it takes is
 // bounded by how deep the plan is.
-ghost use Rattle.std.specs.Prelude.{◌≡◌, ◌<◌, ◌^◌};
+ghost use Rattle.std.specs.Prelude.{◌≡◌, ◌<◌, ◌^◌, min, length};
 ghost use Rattle.std.specs.List.{list_any};
 ghost use Rattle.plan_tree.specs.Plans.{plan_tree, leaves_of, has_leaf, covers_of, FitsSet, BitsAreLeaves};
 
@@ -31,6 +31,20 @@ pub(crate) fn share_leaf(p: &Plan, other: &Plan) -> bool
             share_leaf(left, other) || share_leaf(right, other)
         }
         Plan::IndexLoop(_, left, leaf) => share_leaf(left, other) || has_leaf(other, *leaf),
+    }
+}
+
+/// How many relations a plan joins; 255 stands for more too.
+#[cycle(leaf_count)]
+pub(crate) fn leaf_count(p: &Plan) -> u8
+    ensures { result ≡ min (length (leaves_of (plan_tree p.now))) 255 }
+{
+    match p {
+        Plan::Scan(_) | Plan::IndexScan(_, _) => 1,
+        Plan::Nest(left, right) | Plan::Hash(_, left, right) | Plan::Merge(_, left, right) => {
+            leaf_count(left).saturating_add(leaf_count(right))
+        }
+        Plan::IndexLoop(_, left, _) => leaf_count(left).saturating_add(1),
     }
 }
 

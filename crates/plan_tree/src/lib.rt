@@ -1,14 +1,16 @@
 //! Plans: in which order and by which joins the relations of a block come together, and which trees are plans of it.
 //! To the layers above it promises that `is_plan` finds exactly the plans of a block, whatever tree it is given, that
-//! `covers` is a plan's set of relations, that `plan_order` is a total order of plans, and that `plan_text` is a plan's
-//! text. The definition of a plan's work on stored tables, as one sum, stands here too.
-//! It never reads a table, never looks at a cost, and takes memory for texts and copies alone.
+//! `covers` is a plan's set of relations, that `plan_order` is a total order of plans, that `plan_text` is a plan's
+//! text, and that `read_plan` reads exactly the texts of plans. The definition of a plan's work on stored tables, as one
+//! sum, stands here too.
+//! It never reads a table, never looks at a cost, and takes memory for texts, copies and plans that it reads alone.
 #![tactic(auto)]
 
 mod copies;
 mod leaves;
 mod order;
 mod plan;
+mod read;
 mod rules;
 mod text;
 mod usable;
@@ -17,6 +19,7 @@ pub use copies::copy;
 pub use leaves::{bits_are_leaves, covers};
 pub use order::{plan_order, plan_order_is_total};
 pub use plan::Plan;
+pub use read::{PlanFault, read_plan};
 pub use rules::{all_plans_are_listed, is_plan};
 pub use text::plan_text;
 pub use usable::{has_usable, is_usable};
