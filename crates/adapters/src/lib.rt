@@ -3,4 +3,8 @@
 #![tactic(auto)]
 
 #[cfg(test)]
-mod outside;
+mod failing_files;
+#[cfg(test)]
+mod files;
+#[cfg(test)]
+mod streams;

@@ -1,5 +1,6 @@
 pub mod Fits
 pub mod Counts
+pub mod Staleness
 pub mod Costing
 pub mod Cards
 pub mod Costs

@@ -10,6 +10,7 @@ mod costing;
 mod law;
 mod part;
 mod set;
+mod stale;
 mod stats;
 
 pub use costing::Costing;
@@ -18,4 +19,5 @@ pub use law::{
     costs_grow_with_selectivity, frontiers_lie_above, greedy_plans_cover_all_points,
     one_plan_is_best, optimal_costs_are_least,
 };
-pub use stats::{CountName, IndexStats, RelationStats, Stale, Stats};
+pub use stale::{CountName, Stale, check_count};
+pub use stats::{IndexStats, RelationStats, Stats};

@@ -31,27 +31,3 @@ pub struct IndexStats {
     /// The rows in which the column isn't NULL and meets every usable conjunct on it; none where no conjunct is usable.
     pub matches: Option<u64>,
 }
-
-/// A count of a relation that isn't what it was.
-#[derive(Clone, Copy, Debug, PartialEq, Eq)]
-pub struct Stale {
-    /// The relation, from 0 in FROM order.
-    pub relation: u32,
-    /// Which of its counts.
-    pub count: CountName,
-    /// What it was.
-    pub kept: u64,
-    /// What it is.
-    pub present: u64,
-}
-
-/// A count of a relation, as a refusal names it.
-#[derive(Clone, Copy, Debug, PartialEq, Eq)]
-pub enum CountName {
-    /// The rows of its table.
-    Rows,
-    /// The rows that its filter keeps.
-    Kept,
-    /// How many of its table's columns are indexed.
-    Indexes,
-}

@@ -12,7 +12,7 @@ use Rattle.std.specs.FinMap.{slice_cmp-IsAntisymmetric, nat_cmp-IsAntisymmetric}
 use Rattle.std.specs.FinMap.Entries.{find, put, by_order, find-put}
 use Rattle.std.specs.Map.{lookup}
 use Rattle.std.specs.BTreeMap.{insert_entry}
-use Rattle.outside_io.specs.Files.{file_of, with_file}
+use Rattle.outside_io.specs.Files.{held_file, with_file}
 use Rattle.outside_io.specs.Memory.{named_files}
 
 abbrev pub Entry : Type 0
@@ -44,10 +44,10 @@ find-shown name (e ∷ entries) =
     ]
 
 -- what a look-up in the tree finds is the file of that name
-pub found-file_of : (entries : List Entry) (name key : List ℕ) (found : Option (Vec ℕ Global))
+pub found-held_file : (entries : List Entry) (name key : List ℕ) (found : Option (Vec ℕ Global))
     → key ≡ name → found ≡ tree_find key entries
-    → option_map (λ v. v.items) found ≡ file_of (named_files entries) name
-found-file_of entries name key found same is =
+    → option_map (λ v. v.items) found ≡ held_file (named_files entries) name
+found-held_file entries name key found same is =
     ap (option_map (λ v. v.items)) is
     ∙ sym (find-shown key entries)
     ∙ ap (λ q. find by_name q (map shown entries)) same

@@ -17,8 +17,8 @@ abbrev pub Files : Type 0
 Files = map.FinMap (slice_cmp nat_cmp) (List ℕ)
 
 -- the bytes of the file of this name
-abbrev pub file_of : Files → List ℕ → Option (List ℕ)
-file_of files name = map.get files name
+abbrev pub held_file : Files → List ℕ → Option (List ℕ)
+held_file files name = map.get files name
 
 -- the folder with these bytes under the name
 abbrev pub with_file : Files → List ℕ → List ℕ → Files
@@ -26,10 +26,10 @@ with_file files name bytes = map.insert files name bytes
 
 -- what the result of a read says of the file: its bytes, that it isn't there, or its length
 abbrev pub IsReadAnswer : Files → List ℕ → Result (Vec ℕ Global) FileFault → Type 0
-IsReadAnswer files name (Ok bytes) = file_of files name ≡ Some bytes.items
-IsReadAnswer files name (Err fault.Absent) = file_of files name ≡ None
+IsReadAnswer files name (Ok bytes) = held_file files name ≡ Some bytes.items
+IsReadAnswer files name (Err fault.Absent) = held_file files name ≡ None
 IsReadAnswer files name (Err (fault.TooLong len)) =
-    IsSomeAnd (file_of files name) (λ bytes. length bytes ≡ len)
+    IsSomeAnd (held_file files name) (λ bytes. length bytes ≡ len)
 IsReadAnswer files name (Err fault.Failed) = ⊤
 IsReadAnswer files name (Err fault.NoMemory) = ⊤
 
@@ -57,7 +57,7 @@ IsMiss fault.NoMemory = ⊥
 -- every name but this one has what it had
 abbrev pub KeepsOthers : List ℕ → Option Files → Option Files → Type 0
 KeepsOthers name old new = IfSome old (λ files. IsSomeAnd new (λ after.
-    (other : List ℕ) → other ≢ name → file_of after other ≡ file_of files other))
+    (other : List ℕ) → other ≢ name → held_file after other ≡ held_file files other))
 
 -- what is known of a folder: its files, where its contents are known, and its three counts
 pub record FolderState : Type 0 where

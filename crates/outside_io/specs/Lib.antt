@@ -1,6 +1,7 @@
 pub mod Limits
 pub mod Count
 pub mod Streams
+pub mod Names
 pub mod Files
 pub mod Calls
 pub mod Memory

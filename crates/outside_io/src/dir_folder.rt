@@ -1,14 +1,18 @@
 // The folder of the working directory's files. It relies on the system, of whose files nothing is
-// known, and it never reads more of a file than the limit and one byte.
-ghost use Rattle.std.specs.Prelude.{◌≡◌, ◌⊎◌, IfOk, IfErr, IfSome, OnOk, IsErrOf, IsErrAnd};
+// known. It looks at regular files alone, never where a name leads out, and it never reads more of
+// a file than the limit and one byte.
+ghost use Rattle.std.specs.Prelude.{◌≡◌, ◌⊎◌, [], IfOk, IfErr, IfSome, OnOk, IsErrOf, IsErrAnd};
 ghost use Rattle.std.specs.Prelude.{option_map};
 ghost use Rattle.outside_io.specs.Count.{CountsEach};
 ghost use Rattle.outside_io.specs.Files.{IsReadAnswer, KeepsFileLimit, IsMiss, KeepsOthers};
 ghost use Rattle.outside_io.specs.Files.{OnlyReads, OnlyWrites, unknown_files, with_file};
+ghost use Rattle.outside_io.specs.Names.{IsInside};
 
 use crate::folder::check_len;
 use crate::folder_counts::FolderCounts;
-use crate::writer_sink::write_whole;
+use crate::name::is_inside;
+use crate::regular::check_regular;
+use crate::replace::replace_file;
 use crate::{FileFault, Folder, MAX_FILE_BYTES};
 use std::alloc::Global;
 use std::fs::OpenFile;
@@ -18,13 +22,17 @@ use std::rt::Files;
 use std::{fs, io};
 
 /// The folder of a directory's files: a name is looked up where the program runs.
+///
+/// A name that leads out of the directory is a failure: one that begins with '/', that has the
+/// component '..' between its slashes, or that has a byte 0. So is what is no regular file. A link
+/// in the directory is followed, wherever it leads.
 #[derive(Drop)]
-pub struct DirFolder<'a, R: Files> {
-    files: &'a R,
+pub struct DirFolder<'a, R: Files + Alloc> {
+    rt: &'a R,
     counts: FolderCounts,
 }
 
-impl<'a, R: Files> Model for DirFolder<'a, R> {
+impl<'a, R: Files + Alloc> Model for DirFolder<'a, R> {
     ghost use Rattle.outside_io.specs.Files.{FolderState, unknown_files};
     ghost use Rattle.outside_io.specs.Codes.{folder_code};
 
@@ -45,42 +53,60 @@ fn read_all<R: Read + Drop>(alloc: Global, mut reader: R, expected: u64) -> io::
     Ok(bytes)
 }
 
-// The bytes of an opened file. Its length is asked first, so that a file past the limit isn't read.
-// A file may have more bytes than the system says, so up to one past the limit are read.
+// The bytes of an opened file. Since its name was looked at another file may have taken its place,
+// so it is asked itself whether it is a regular one. Its length is asked first, so that a file past
+// the limit isn't read. A file may have more bytes than the system says, so up to one past the
+// limit are read.
 fn read_whole<F: OpenFile + Read + Drop>(alloc: Global, file: F) -> Result<Vec<u8>, FileFault>
     ensures within { KeepsFileLimit result }
     ensures whole { IfOk result (λ bytes. IfSome (F.remaining file) (λ held. bytes.items ≡ held)) }
 {
-    let len = file.metadata()?.len();
+    let found = file.metadata()?;
+    check_regular(&found)?;
+    let len = found.len();
     check_len(len)?;
     let bytes = read_all(alloc, file.take(MAX_FILE_BYTES + 1), len + 1)?;
     check_len(bytes.len() as u64)?;
     Ok(bytes)
 }
 
+// Only a regular file is opened: opening a pipe would wait for its other end.
 fn read_named<R: Files>(files: &R, alloc: Global, name: &str) -> Result<Vec<u8>, FileFault>
-    ensures { KeepsFileLimit result }
+    ensures within { KeepsFileLimit result }
+    ensures inside { IfOk result (λ _. IsInside name.now) }
+    ensures outside { ¬ (IsInside name.now) → IsErrOf result FileFault.Failed }
 {
+    if !is_inside(name) {
+        return Err(FileFault::Failed);
+    }
+    check_regular(&fs::metadata(files, name)?)?;
     read_whole(alloc, fs::open(files, name)?)
 }
 
-fn write_named<R: Files>(files: &R, name: &str, bytes: &[u8]) -> io::Result<()> {
-    write_whole(&mut fs::create(files, name)?, bytes)
+fn write_named<R: Files + Alloc>(rt: &R, name: &str, bytes: &[u8]) -> Result<(), FileFault>
+    ensures kinds { IfErr result (λ e. (e ≡ FileFault.Failed) ⊎ (e ≡ FileFault.NoMemory)) }
+    ensures outside { ¬ (IsInside name.now) → IsErrOf result FileFault.Failed }
+    ensures no_name { name.now ≡ [] → IsErrOf result FileFault.Failed }
+{
+    if name.is_empty() || !is_inside(name) {
+        return Err(FileFault::Failed);
+    }
+    replace_file(rt, name, bytes)
 }
 
-impl<'a, R: Files> DirFolder<'a, R> {
+impl<'a, R: Files + Alloc> DirFolder<'a, R> {
     /// The files of the working directory.
-    pub fn new(files: &'a R) -> DirFolder<'a, R>
+    pub fn new(rt: &'a R) -> DirFolder<'a, R>
         ensures { result ≡ unknown_files 0 0 0 }
     {
         DirFolder {
-            files,
+            rt,
             counts: FolderCounts::new(),
         }
     }
 }
 
-impl<'a, R: Files> Folder for DirFolder<'a, R> {
+impl<'a, R: Files + Alloc> Folder for DirFolder<'a, R> {
     ghost state = { λ f. f };
 
     fn read(&mut self, alloc: Global, name: &str) -> Result<Vec<u8>, FileFault>
@@ -93,12 +119,17 @@ impl<'a, R: Files> Folder for DirFolder<'a, R> {
         ensures read_faults { CountsEach (IsErrOf result FileFault.Failed)
             self.old.read_faults self.new.read_faults }
         ensures misses { CountsEach (IsErrAnd result IsMiss) self.old.misses self.new.misses }
+
+        // No name leads out.
+        ensures outside { ¬ (IsInside name.now) → IsErrOf result FileFault.Failed }
     {
-        let outcome = read_named(self.files, alloc, name);
+        let outcome = read_named(self.rt, alloc, name);
         self.counts.count_read(&outcome);
         outcome
     }
 
+    /// The bytes are put into a new file, which then takes the place of the old one, so that a write
+    /// which fails leaves that whole.
     fn write(&mut self, name: &str, bytes: &[u8]) -> Result<(), FileFault>
         ensures written { OnOk result (self.new.files
             ≡ option_map (λ files. with_file files name.now bytes.now) self.old.files) }
@@ -108,15 +139,15 @@ impl<'a, R: Files> Folder for DirFolder<'a, R> {
         ensures kinds { IfErr result (λ e. (e ≡ FileFault.Failed) ⊎ (e ≡ FileFault.NoMemory)) }
         ensures writes { OnlyWrites (IsErrOf result FileFault.Failed) self.old self.new }
 
-        // Each failure is counted once, and nothing else is. It is the one fault.
+        // Each failure is counted once, and nothing else is.
         ensures write_faults { CountsEach (IsErrOf result FileFault.Failed)
             self.old.write_faults self.new.write_faults }
-        ensures only_failed { IfErr result (λ e. e ≡ FileFault.Failed) }
+
+        // No name leads out, and there has to be one.
+        ensures outside { ¬ (IsInside name.now) → IsErrOf result FileFault.Failed }
+        ensures no_name { name.now ≡ [] → IsErrOf result FileFault.Failed }
     {
-        let outcome = match write_named(self.files, name, bytes) {
-            Ok(()) => Ok(()),
-            Err(_) => Err(FileFault::Failed),
-        };
+        let outcome = write_named(self.rt, name, bytes);
         self.counts.count_write(&outcome);
         outcome
     }

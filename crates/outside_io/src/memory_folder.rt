@@ -4,7 +4,7 @@ ghost use Rattle.std.specs.Prelude.{◌≡◌, ◌⊎◌, ◌↔◌, OnOk, OnErr
 ghost use Rattle.std.specs.Prelude.{IsTrue, option_map};
 ghost use Rattle.std.specs.FinMap as finite;
 ghost use Rattle.outside_io.specs.Files.{IsReadAnswer, KeepsFileLimit, IsMiss, OnlyReads};
-ghost use Rattle.outside_io.specs.Files.{OnlyWrites, file_of, with_file};
+ghost use Rattle.outside_io.specs.Files.{OnlyWrites, held_file, with_file};
 ghost use Rattle.outside_io.specs.Count.{CountsEach};
 ghost use Rattle.outside_io.specs.Calls.{no_calls, fails_next, after_call};
 ghost use Rattle.outside_io.specs.Memory.{named_files, folder_state_of};
@@ -63,7 +63,7 @@ fn put_file(
 // Lends the bytes under the name.
 fn lend_file<'a>(files: &'a BTreeMap<Vec<u8>, Vec<u8>>, name: &str) -> Option<&'a [u8]>
     ensures { option_map (λ bytes. bytes.now) result
-        ≡ file_of (named_files files.now.entries) name.now }
+        ≡ held_file (named_files files.now.entries) name.now }
 {
     match files.get(name.as_bytes()) {
         Some(bytes) => Some(bytes.as_slice()),
@@ -102,7 +102,7 @@ impl MemoryFolder {
 
     /// The bytes under the name. This is none of the counted calls.
     pub fn get(&self, name: &str) -> Option<&[u8]>
-        ensures { option_map (λ bytes. bytes.now) result ≡ file_of self.now.files name.now }
+        ensures { option_map (λ bytes. bytes.now) result ≡ held_file self.now.files name.now }
     {
         lend_file(&self.files, name)
     }

@@ -9,12 +9,13 @@ use Rattle.query_block.specs.Blocks.{RelationTree}
 use Rattle.query_block.specs.Meaning.{rows_at}
 use Rattle.plan_tree.specs.Work.{table_rows}
 use Rattle.cost_model.specs.Counts.{relation_stats_of}
-use Rattle.cost_model.specs.declared.stats.CountName.{CountName}
-use Rattle.cost_model.specs.declared.stats.CountName.TheVariants.{Rows}
+use Rattle.cost_model.specs.declared.stale.CountName.{CountName}
+use Rattle.cost_model.specs.declared.stale.CountName.TheVariants.{Rows}
 use Rattle.cost_model.specs.declared.stats.RelationStats.{RelationStats}
-use Rattle.cost_model.specs.declared.stats.Stale.{Stale}
+use Rattle.cost_model.specs.declared.stale.Stale.{Stale}
 use Rattle.cost_model.specs.declared.stats.Stats.{Stats}
-use Rattle.table_stats.specs.Fresh.{changed, first_stale, stale_in}
+use Rattle.cost_model.specs.Staleness.{changed}
+use Rattle.table_stats.specs.Fresh.{first_stale, stale_in}
 use Rattle.db_catalog.specs.Database.{DatabaseState, more_indexed, more_rows, new_table, with_index, with_rows, with_table}
 use Rattle.bouquet_type.specs.Trees.{BouquetTree}
 use Rattle.session.specs.Counted.{HasCountsOf, HaveGrown, IsCountedBefore}

@@ -1,6 +1,7 @@
 -- What always holds of a session holds once there is more in it.
 use Rattle.std.proofs.Common.{◌≡◌, ℕ, [], ◌∷◌, ◌++◌, List, subst, sym}
 use Rattle.std.specs.Prelude.{All, Result, Ok, Err, IsOkAnd}
+use Rattle.std.specs.Str.{IsUtf8}
 use Rattle.std.proofs.lemmas.List.Elements.{All-weaker, All-push}
 use Rattle.query_block.specs.Blocks.{BlockTree, block_tree}
 use Rattle.db_catalog.specs.Database.{DatabaseState, with_rows}
@@ -9,7 +10,6 @@ use Rattle.db_catalog.proofs.Growth.{fits_with_rows}
 use Rattle.csv_load.specs.declared.fault.LoadFault.{LoadFault}
 use Rattle.csv_load.specs.Load.{Appends}
 use Rattle.sql_values.specs.Stored.{ValueRow}
-use Rattle.bouquet_type.specs.Sound.{IsSound}
 use Rattle.bouquet_type.specs.Trees.{bouquet_tree}
 use Rattle.session.specs.Counted.{HasCountsOf, IsCountedBefore}
 use Rattle.session.specs.States.{NamedShape, IsSession}
@@ -21,20 +21,20 @@ pub is_grown : (old new grown : DatabaseState) (bouquets : List NamedShape) → 
 is_grown old new grown bouquets is fits grows session = record {
   fit = subst (λ (database : DatabaseState). All (λ kept. Fits database (block_tree kept.bouquet.block)) bouquets) (sym is)
       (All-weaker (λ (kept : NamedShape). Fits old (block_tree kept.bouquet.block)) (λ (kept : NamedShape). Fits grown (block_tree kept.bouquet.block)) (λ kept. fits (block_tree kept.bouquet.block)) bouquets session.fit);
-  sound = session.sound;
+  texts = session.texts;
   counted = subst (λ (database : DatabaseState). All (λ kept. IsCountedBefore database (bouquet_tree kept.bouquet)) bouquets) (sym is)
       (All-weaker (λ (kept : NamedShape). IsCountedBefore old (bouquet_tree kept.bouquet)) (λ (kept : NamedShape). IsCountedBefore grown (bouquet_tree kept.bouquet)) (λ kept. counted_before old grown (bouquet_tree kept.bouquet) grows) bouquets session.counted);
 }
 
--- with a sound bouquet more, whose block fits and which has the counts of the tables
-pub is_with_bouquet : (database : DatabaseState) (old new : List NamedShape) (kept : NamedShape) → new ≡ old ++ kept ∷ [] → Fits database (block_tree kept.bouquet.block) → IsSound (bouquet_tree kept.bouquet)
-    → HasCountsOf database.tables (bouquet_tree kept.bouquet)
+-- with a bouquet more, whose block fits, which has the counts of the tables, and the text of whose query is UTF-8
+pub is_with_bouquet : (database : DatabaseState) (old new : List NamedShape) (kept : NamedShape) → new ≡ old ++ kept ∷ [] → Fits database (block_tree kept.bouquet.block)
+    → HasCountsOf database.tables (bouquet_tree kept.bouquet) → IsUtf8 kept.query
     → IsSession (record { database = database; bouquets = old }) → IsSession (record { database = database; bouquets = new })
-is_with_bouquet database old new kept is fits sound counts session =
+is_with_bouquet database old new kept is fits counts text session =
     subst (λ (bouquets : List NamedShape). IsSession (record { database = database; bouquets = bouquets })) (sym is) (record {
       fit = All-push (λ (one : NamedShape). Fits database (block_tree one.bouquet.block)) old kept session.fit fits;
-      sound = All-push (λ (one : NamedShape). IsSound (bouquet_tree one.bouquet)) old kept session.sound sound;
       counted = All-push (λ (one : NamedShape). IsCountedBefore database (bouquet_tree one.bouquet)) old kept session.counted (counted_now database (bouquet_tree kept.bouquet) counts);
+      texts = All-push (λ (one : NamedShape). IsUtf8 one.query) old kept session.texts text;
     })
 
 -- with the rows of a file more

@@ -1,3 +1,4 @@
+pub mod Carried
 pub mod Compiling
 pub mod ContourTexts
 pub mod Counting
@@ -6,7 +7,9 @@ pub mod Growing
 pub mod LoadLine
 pub mod NamedColumns
 pub mod NamedLists
+pub mod Opening
 pub mod Queries
 pub mod RowsPrinted
 pub mod Sizes
+pub mod Unpaid
 pub mod Widths

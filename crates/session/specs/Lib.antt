@@ -8,12 +8,14 @@ pub mod Printed
 pub mod Bouquets
 pub mod CreateTable
 pub mod CreateIndex
+pub mod Given
 pub mod Load
 pub mod Select
 pub mod Compile
 pub mod Run
 pub mod Explain
+pub mod Save
+pub mod Open
 pub mod Statements
-pub mod Given
 pub mod Returns
 pub mod Bounds

@@ -1,13 +1,12 @@
 -- What comes of LOAD.
-use Rattle.std.specs.Prelude.{ℕ, nat_le, List, length, Option, Some, None, Result, Ok, Err, if◌then◌else◌}
-use Rattle.sql_values.specs.Limits.{max_file_bytes}
+use Rattle.std.specs.Prelude.{ℕ, List, length, Option, Result, Ok, Err}
 use Rattle.sql_values.specs.Stored.{ValueRow}
-use Rattle.sql_values.specs.declared.limit.LimitName.TheVariants as limit
 use Rattle.sql_parse.specs.declared.tree.LoadDef.{LoadDef}
 use Rattle.db_catalog.specs.Database.{with_rows}
 use Rattle.csv_load.specs.declared.fault.LoadFault.{LoadFault}
 use Rattle.csv_load.specs.Load.{load_due}
 use Rattle.session.specs.declared.refusal.Refusal.TheVariants as refusal
+use Rattle.session.specs.Given.{at_file}
 use Rattle.session.specs.Outcome.{Outcome, Prints, Refuses, at_table}
 use Rattle.session.specs.Printed.{load_line}
 use Rattle.session.specs.World.{World, with_database}
@@ -17,13 +16,10 @@ abbrev pub with_loaded : World → ℕ → Result (List ValueRow) LoadFault → 
 with_loaded world number (Ok rows) = Prints (load_line (length rows)) 0 (with_database world (with_rows world.database number rows))
 with_loaded world number (Err fault) = Refuses (refusal.NotLoaded fault)
 
--- a file loaded, if the folder has it and it isn't too long
-abbrev pub load_file : World → ℕ → List ℕ → Option (List ℕ) → Outcome
-load_file world number name None = Refuses (refusal.AbsentFile name)
-load_file world number name (Some bytes) =
-    if nat_le (length bytes) max_file_bytes then with_loaded world number (load_due world.database number bytes)
-    else Refuses (refusal.PastLimit limit.File (length bytes))
+-- the rows of these bytes
+abbrev pub load_bytes : World → ℕ → (bytes : List ℕ) → Outcome
+load_bytes world number bytes = with_loaded world number (load_due world.database number bytes)
 
 -- with the file that the folder gives under the name that it loads
 abbrev pub load_outcome : World → LoadDef → (file : Option (List ℕ)) → Outcome
-load_outcome world load file = at_table world load.table (λ number. load_file world number load.file file)
+load_outcome world load file = at_table world load.table (λ number. at_file load.file (load_bytes world number) file)

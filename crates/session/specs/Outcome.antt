@@ -5,9 +5,11 @@ use Rattle.session.specs.World.{World}
 use Rattle.session.specs.declared.refusal.Refusal.{Refusal}
 use Rattle.session.specs.declared.refusal.Refusal.TheVariants as refusal
 
--- a statement prints a text for some work and leaves a state, or it is refused
+-- a statement prints a text for some work and leaves a state; or a file of this name is written, nothing is printed and the
+-- state stays; or it is refused
 pub data Outcome : Type 0 where
   Prints : List ℕ → ℕ → World → Outcome
+  Saves : (name bytes : List ℕ) → Outcome
   Refuses : Refusal → Outcome
 
 -- the work that was paid when a refusal comes: that which its line prints

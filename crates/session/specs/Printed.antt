@@ -41,12 +41,19 @@ answer_text database block end =
 abbrev pub load_line : ℕ → List ℕ
 load_line rows = codes "-- load rows=" ++ (decimal rows ++ codes "\n")
 
--- what a compiled bouquet prints: how many points its grid has, how many contours it has, and the most plans of one
-abbrev pub compile_line : BouquetTree → List ℕ
-compile_line bouquet =
+-- the size of a bouquet behind a label: how many points its grid has, how many contours it has, and the most plans of one
+abbrev pub size_line : (label : List ℕ) → BouquetTree → List ℕ
+size_line label bouquet =
     let grid = bouquet.costing.grid in
-    codes "-- compile points=" ++ (decimal (grid.levels ^ grid.axes) ++ (codes " contours=" ++ (decimal (length bouquet.contours)
+    label ++ (decimal (grid.levels ^ grid.axes) ++ (codes " contours=" ++ (decimal (length bouquet.contours)
     ++ (codes " r=" ++ (decimal (most_plans bouquet.contours) ++ codes "\n")))))
+
+-- what a compiled bouquet prints, and one of a file
+abbrev pub compile_line : BouquetTree → List ℕ
+compile_line bouquet = size_line (codes "-- compile points=") bouquet
+
+abbrev pub open_line : BouquetTree → List ℕ
+open_line bouquet = size_line (codes "-- open points=") bouquet
 
 -- the texts of plans, a space before each but the first
 abbrev pub plan_texts : List PlanTree → List ℕ

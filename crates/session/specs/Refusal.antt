@@ -11,9 +11,11 @@ use Rattle.csv_load.specs.declared.fault.LoadFault.{LoadFault}
 use Rattle.csv_load.specs.declared.fault.LoadFault.TheVariants as load
 use Rattle.sql_bind.specs.declared.fault.BindFault.{BindFault}
 use Rattle.sql_bind.specs.declared.fault.BindFault.TheVariants as bind
-use Rattle.cost_model.specs.declared.stats.CountName.{CountName}
-use Rattle.cost_model.specs.declared.stats.CountName.TheVariants as count
-use Rattle.cost_model.specs.declared.stats.Stale.{Stale}
+use Rattle.cost_model.specs.declared.stale.Stale.{Stale}
+use Rattle.cost_model.specs.Staleness.{count_word}
+use Rattle.bouquet_file.specs.declared.fault.OpenFault.{OpenFault}
+use Rattle.bouquet_file.specs.declared.fault.OpenFault.TheVariants as opening
+use Rattle.bouquet_file.specs.Paths.{fault_path}
 use Rattle.session.specs.declared.refusal.Later.{Later}
 use Rattle.session.specs.declared.refusal.Later.TheVariants as later
 use Rattle.session.specs.declared.refusal.Refusal.{Refusal}
@@ -93,16 +95,15 @@ not_bound_line bind.NoMemory = error_line []
 abbrev pub no_bouquet_line : List ℕ → List ℕ
 no_bouquet_line name = error_line (codes "E13 bouquet " ++ name)
 
--- which count isn't what it was
-abbrev pub count_word : CountName → List ℕ
-count_word count.Rows = codes "rows"
-count_word count.Kept = codes "kept"
-count_word count.Indexes = codes "indexes"
-
 -- a count that isn't what it was: the relation, the count, what it was, what it is
 abbrev pub stale_line : Stale → List ℕ
 stale_line stale =
     error_line (codes "E15 stale" ++ (spaced stale.relation ++ (codes " " ++ (count_word stale.count ++ (spaced stale.kept ++ spaced stale.present)))))
+
+-- a file that is no bouquet of the query: where it isn't; out of memory refuses nothing
+abbrev pub not_opened_line : OpenFault → List ℕ
+not_opened_line (opening.Stale stale) = stale_line stale
+not_opened_line fault = error_line (codes "E14 file " ++ fault_path fault)
 
 -- what isn't built yet
 abbrev pub later_word : Later → List ℕ
@@ -121,6 +122,7 @@ line_of (refusal.NoBouquet name) = no_bouquet_line name
 line_of (refusal.IsStale stale) = stale_line stale
 line_of (refusal.AbsentFile name) = error_line (codes "E09 absent " ++ name)
 line_of (refusal.NotLoaded fault) = not_loaded_line fault
+line_of (refusal.NotOpened fault) = not_opened_line fault
 line_of (refusal.PastLimit limit value) = limit_line limit value
 line_of (refusal.PastWork spent) = error_line (codes "E16 " ++ (codes "work" ++ spaced spent))
 line_of (refusal.Later what) = error_line (codes "E00 later " ++ later_word what)

@@ -1,6 +1,6 @@
 -- What comes of RUN.
 use Rattle.std.specs.Prelude.{ℕ, List, Option, Some, None}
-use Rattle.cost_model.specs.declared.stats.Stale.{Stale}
+use Rattle.cost_model.specs.declared.stale.Stale.{Stale}
 use Rattle.table_stats.specs.Fresh.{first_stale}
 use Rattle.db_catalog.specs.Database.{DatabaseState}
 use Rattle.bouquet_type.specs.Trees.{BouquetTree}

@@ -1,5 +1,5 @@
 -- What comes of each statement.
-use Rattle.std.specs.Prelude.{ℕ, List, Option, IsSome}
+use Rattle.std.specs.Prelude.{◌≡◌, ℕ, List, Option, None, IsSome}
 use Rattle.sql_parse.specs.Trees.{StatementTree, CreateTable, CreateIndex, Load, Select, Compile, Run, Explain, SaveFile, OpenFile, Audit}
 use Rattle.db_catalog.specs.Database.{table_number}
 use Rattle.session.specs.Compile.{compile_outcome}
@@ -10,11 +10,13 @@ use Rattle.session.specs.Load.{load_outcome}
 use Rattle.session.specs.Outcome.{Outcome, Refuses}
 use Rattle.session.specs.Run.{run_outcome}
 use Rattle.session.specs.Select.{select_outcome}
-use Rattle.session.specs.World.{World}
+use Rattle.session.specs.Save.{save_outcome}
+use Rattle.session.specs.Open.{open_outcome, open_refusal}
+use Rattle.session.specs.World.{World, named_in}
 use Rattle.session.specs.declared.refusal.Later.TheVariants as later
 use Rattle.session.specs.declared.refusal.Refusal.TheVariants as refusal
 
--- what comes of a statement, with the file that the folder gives under the name that it loads
+-- what comes of a statement, with the file that the folder gives for it
 abbrev pub statement_outcome : (max_work : ℕ) → World → StatementTree → (file : Option (List ℕ)) → Outcome
 statement_outcome max_work world (CreateTable table) file = create_table_outcome world table
 statement_outcome max_work world (CreateIndex index) file = create_index_outcome world index
@@ -23,11 +25,17 @@ statement_outcome max_work world (Select query) file = select_outcome max_work w
 statement_outcome max_work world (Compile name levels threshold query) file = compile_outcome world name levels threshold query
 statement_outcome max_work world (Run name) file = run_outcome max_work world name
 statement_outcome max_work world (Explain name) file = explain_outcome world name
-statement_outcome max_work world (SaveFile save) file = Refuses (refusal.Later later.Statement)
-statement_outcome max_work world (OpenFile name file_name query) file = Refuses (refusal.Later later.Statement)
+statement_outcome max_work world (SaveFile save) file = save_outcome world save
+statement_outcome max_work world (OpenFile name file_name query) file = open_outcome world name file_name query file
 statement_outcome max_work world (Audit audit) file = Refuses (refusal.Later later.Statement)
 
--- a statement asks for a file: a LOAD into a table that is there, and no other
+-- a statement asks for a file: a LOAD into a table that is there, and an OPEN that isn't refused before; no other
 abbrev pub AsksForFile : World → StatementTree → Type 0
 AsksForFile world (Load load) = IsSome (table_number world.database load.table)
+AsksForFile world (OpenFile name file_name query) = open_refusal world name query ≡ None
 AsksForFile world other = ⊥
+
+-- a statement writes the file of this name: a SAVE of a bouquet that is there, and no other
+abbrev pub WritesFile : World → StatementTree → (name : List ℕ) → Type 0
+WritesFile world (SaveFile save) name = (name ≡ save.file) × IsSome (named_in save.name world.bouquets)
+WritesFile world other name = ⊥

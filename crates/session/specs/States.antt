@@ -1,10 +1,10 @@
 -- What is seen of a session, and the state of a script for which it stands.
 use Rattle.std.specs.Prelude.{ℕ, List, All, map}
+use Rattle.std.specs.Str.{IsUtf8}
 use Rattle.query_block.specs.Blocks.{block_tree}
 use Rattle.db_catalog.specs.Database.{DatabaseState}
 use Rattle.db_catalog.specs.Fits.{Fits}
 use Rattle.bouquet_type.specs.Shapes.{BouquetShape}
-use Rattle.bouquet_type.specs.Sound.{IsSound}
 use Rattle.bouquet_type.specs.Trees.{bouquet_tree}
 use Rattle.session.specs.Counted.{IsCountedBefore}
 use Rattle.session.specs.declared.named_bouquets.KeptBouquet.{KeptBouquet}
@@ -32,9 +32,9 @@ named_of kept = record { name = kept.name; query = kept.query; bouquet = bouquet
 abbrev pub world_of : SessionState → World
 world_of session = record { database = session.database; bouquets = map named_of session.bouquets }
 
--- what always holds of a session: the block of each bouquet fits the database, each bouquet is sound, and its counts are those
--- of the tables as they once were
+-- what always holds of a session: the block of each bouquet fits the database, its counts are those of the tables as they once
+-- were, and the text of its query is UTF-8
 pub record IsSession (session : SessionState) : Type 0 where
   pub fit : All (λ kept. Fits session.database (block_tree kept.bouquet.block)) session.bouquets
-  pub sound : All (λ kept. IsSound (bouquet_tree kept.bouquet)) session.bouquets
   pub counted : All (λ kept. IsCountedBefore session.database (bouquet_tree kept.bouquet)) session.bouquets
+  pub texts : All (λ kept. IsUtf8 kept.query) session.bouquets

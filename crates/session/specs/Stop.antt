@@ -12,6 +12,8 @@ use Rattle.ess_grid.specs.declared.fault.GridFault.{GridFault}
 use Rattle.ess_grid.specs.declared.fault.GridFault.TheVariants as grid
 use Rattle.table_stats.specs.declared.fault.StatsFault.{StatsFault}
 use Rattle.table_stats.specs.declared.fault.StatsFault.TheVariants as counts
+use Rattle.bouquet_file.specs.declared.fault.OpenFault.{OpenFault}
+use Rattle.bouquet_file.specs.declared.fault.OpenFault.TheVariants as opening
 use Rattle.sql_values.specs.declared.limit.LimitName.TheVariants as limit
 use Rattle.session.specs.declared.refusal.Refusal.TheVariants as refusal
 use Rattle.session.specs.Outcome.{Outcome, Refuses}
@@ -20,7 +22,15 @@ use Rattle.session.specs.Outcome.{Outcome, Refuses}
 abbrev pub StopsAt : Outcome → Stop → Type 0
 StopsAt due (stop.Refused why) = due ≡ Refuses why
 StopsAt due stop.ReadFault = ⊤
+StopsAt due stop.WriteFault = ⊤
 StopsAt due stop.NoMemory = ⊤
+
+-- the folder failed
+abbrev pub IsFault : Stop → Type 0
+IsFault (stop.Refused why) = ⊥
+IsFault stop.ReadFault = ⊤
+IsFault stop.WriteFault = ⊤
+IsFault stop.NoMemory = ⊥
 
 -- a refusal of the database, of a file, or of a query; out of memory refuses nothing
 abbrev pub stop_of_change : DbFault → Stop
@@ -34,6 +44,10 @@ stop_of_load fault = stop.Refused (refusal.NotLoaded fault)
 abbrev pub stop_of_binding : BindFault → Stop
 stop_of_binding bind.NoMemory = stop.NoMemory
 stop_of_binding fault = stop.Refused (refusal.NotBound fault)
+
+abbrev pub stop_of_opening : OpenFault → Stop
+stop_of_opening opening.NoMemory = stop.NoMemory
+stop_of_opening fault = stop.Refused (refusal.NotOpened fault)
 
 abbrev pub stop_of_grid : GridFault → Stop
 stop_of_grid (grid.BadLevels given) = stop.Refused (refusal.PastLimit limit.Levels given)

@@ -1,12 +1,13 @@
 // The compiled bouquet of a block, and the answer of a bouquet: its run over the tables, with its rows sorted and printed, and
 // how it ended. It reaches rows by the meter of the run alone, and never prints a work that wasn't paid into the book.
-ghost use Rattle.std.specs.Prelude.{◌≡◌, ◌+◌, ◌^◌, ◌≤◌, IfOk, IfSome, OnOk, IsErrOf, length};
+ghost use Rattle.std.specs.Prelude.{◌≡◌, ◌+◌, ◌^◌, ◌≤◌, IfOk, IfSome, OnOk, length, IsErrAnd};
 ghost use Rattle.sql_values.specs.Limits.{min_levels, max_levels, max_threshold};
 ghost use Rattle.query_block.specs.Blocks.{block_tree, width_of};
 ghost use Rattle.query_block.specs.Meaning.{meaning_of};
 ghost use Rattle.db_catalog.specs.Fits.{Fits};
 ghost use Rattle.exec_pipe.specs.Executions.{AreRowsOf};
 ghost use Rattle.bouquet_type.specs.Trees.{bouquet_tree};
+ghost use Rattle.bouquet_type.specs.Compiled.{IsCompiled};
 ghost use Rattle.bouquet_type.specs.Sound.{IsSound};
 ghost use Rattle.bouquet_type.specs.Bounded.{MeetsBound};
 ghost use Rattle.bouquet_type.specs.Runs.{total_work};
@@ -17,6 +18,7 @@ ghost use Rattle.session.specs.Counted.{HasCountsOf};
 ghost use Rattle.session.specs.Printed.{answer_text, header_of};
 ghost use Rattle.session.specs.Returns.{GivesBouquet, ReturnsDue};
 ghost use Rattle.session.specs.World.{World};
+ghost use Rattle.session.specs.Stop.{IsFault};
 
 use crate::columns::header_of;
 use crate::lines;
@@ -98,8 +100,10 @@ pub(crate) fn answer(
     ensures bound { let tree = bouquet_tree bouquet.now in
         let work = works_over database.now tree in
         OnOk result (MeetsBound tree work (total_work tree work)) }
+    ensures sound { let tree = bouquet_tree bouquet.now in
+        OnOk result (IsCompiled tree → IsSound tree) }
     ensures within { book.new ≤ book.old + max_work }
-    ensures no_fault { IsErrOf result Stop.ReadFault → ⊥ }
+    ensures no_fault { IsErrAnd result IsFault → ⊥ }
 {
     let block = bouquet.block();
     let names = header_of(alloc, database, block)?;

@@ -1,17 +1,18 @@
 // COMPILE: the name and the numbers are looked at before the query is bound.
-ghost use Rattle.std.specs.Prelude.{◌≡◌, ◌≤◌, OnErr, OnOk, IsErrOf, IfOk, IfErr, IfSome, None, Some, unwrap_or};
+ghost use Rattle.std.specs.Prelude.{◌≡◌, ◌≤◌, OnErr, OnOk, IfOk, IfErr, IfSome, None, Some, unwrap_or, IsErrAnd};
 ghost use Rattle.sql_values.specs.Limits.{max_levels, max_script_bytes, max_threshold, min_levels, default_threshold};
+ghost use Rattle.std.specs.Str.{IsUtf8};
+ghost use Rattle.sql_parse.specs.Canonical.{canonical_query};
 ghost use Rattle.sql_parse.specs.Trees.{query_tree};
 ghost use Rattle.sql_parse.specs.WellFormed.{IsWellFormedQuery};
 ghost use Rattle.sql_parse.specs.Counts.{of_condition, predicates_in};
 ghost use Rattle.session.specs.Compile.{compile_outcome, levels_refusal, threshold_refusal};
 ghost use Rattle.session.specs.Returns.{ReturnsFree};
 ghost use Rattle.session.specs.States.{world_of};
+ghost use Rattle.session.specs.Stop.{IsFault};
 
 use crate::bouquets::compiled_over;
-use crate::lines;
 use crate::named::taken;
-use crate::named_bouquets::KeptBouquet;
 use crate::refusal::Refusal;
 use crate::session::Session;
 use crate::stop::Stop;
@@ -22,7 +23,8 @@ use std::alloc::Global;
 
 // Levels that no axis has are refused.
 fn check_levels(levels: Option<u64>) -> Result<(), Refusal>
-    ensures range { OnOk result (IfSome levels (λ given. (min_levels ≤ given) × (given ≤ max_levels))) }
+    ensures range { OnOk result
+        (IfSome levels (λ given. (min_levels ≤ given) × (given ≤ max_levels))) }
     ensures none { OnOk result (levels_refusal levels ≡ None) }
     ensures refusal { IfErr result (λ why. levels_refusal levels ≡ Some why) }
 {
@@ -53,12 +55,13 @@ impl Session {
     /// Keeps the compiled bouquet of a query under a new name, with the canonical text of the query, and prints its size.
     pub(crate) fn compile(&mut self, alloc: Global, compile: &CompileDef) -> Result<Vec<u8>, Stop>
         requires well_formed { IsWellFormedQuery (query_tree compile.now.query) }
+        requires canonical { IsUtf8 (canonical_query (query_tree compile.now.query)) }
         requires predicates { of_condition predicates_in (query_tree compile.now.query).condition
             ≤ max_script_bytes }
         ensures due { ReturnsFree (compile_outcome (world_of self.old) compile.now.name
             compile.now.levels compile.now.threshold (query_tree compile.now.query))
             result (world_of self.new) }
-        ensures no_fault { IsErrOf result Stop.ReadFault → ⊥ }
+        ensures no_fault { IsErrAnd result IsFault → ⊥ }
         ensures unchanged { OnErr result (self.new ≡ self.old) }
     {
         if self.bouquets.get(compile.name.bytes()).is_some() {
@@ -68,10 +71,7 @@ impl Session {
         let threshold = checked_threshold(compile.threshold)?;
         let block = bind(alloc, &self.database, &compile.query)?;
         let bouquet = compiled_over(alloc, &self.database, block, compile.levels, threshold)?;
-        let text = lines::compile_line(alloc, &bouquet)?;
         let query = print_query(alloc, &compile.query)?;
-        let name = Vec::from_slice(alloc, compile.name.bytes())?;
-        self.bouquets.add(name, KeptBouquet { query, bouquet })?;
-        Ok(text)
+        self.keep(alloc, "-- compile points=", &compile.name, query, bouquet)
     }
 }

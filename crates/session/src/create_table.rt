@@ -1,8 +1,9 @@
 // CREATE TABLE.
-ghost use Rattle.std.specs.Prelude.{◌≡◌, ◌<◌, length, OnErr, IsErrOf};
+ghost use Rattle.std.specs.Prelude.{◌≡◌, ◌<◌, length, OnErr, IsErrAnd};
 ghost use Rattle.session.specs.CreateTable.{create_table_outcome};
 ghost use Rattle.session.specs.Returns.{ReturnsFree};
 ghost use Rattle.session.specs.States.{world_of};
+ghost use Rattle.session.specs.Stop.{IsFault};
 
 use crate::session::Session;
 use crate::stop::Stop;
@@ -13,8 +14,9 @@ impl Session {
     /// Makes a table, which prints nothing.
     pub(crate) fn create_table(&mut self, alloc: Global, table: &TableDef) -> Result<Vec<u8>, Stop>
         requires some { 0 < length table.now.columns }
-        ensures due { ReturnsFree (create_table_outcome (world_of self.old) table.now) result (world_of self.new) }
-        ensures no_fault { IsErrOf result Stop.ReadFault → ⊥ }
+        ensures due { ReturnsFree (create_table_outcome (world_of self.old) table.now)
+            result (world_of self.new) }
+        ensures no_fault { IsErrAnd result IsFault → ⊥ }
         ensures unchanged { OnErr result (self.new ≡ self.old) }
     {
         self.database

@@ -1,10 +1,10 @@
 //! The state of a script and one statement on it: what it prints, what it leaves, or why it is refused.
 //! To the layer above it promises that a statement returns what is due to it in the state before, that what its queries
 //! paid is the work that they print and is within the bound of their bouquets, which have the counts of the tables, and that
-//! one which stops leaves the state as it was. The bouquets that are kept always fit the tables, are sound, and have the
-//! counts of the tables as they were when they were compiled.
-//! It never puts anything out, never asks the folder for a file but for a LOAD whose table is there, and never reads a row but
-//! by a meter.
+//! one which stops leaves the state as it was. The bouquets that are kept, compiled or opened from a file, always fit the
+//! tables, and have the counts of the tables as they were when they came.
+//! It never puts anything out, never asks the folder for a file but for a LOAD whose table is there and an OPEN that isn't
+//! refused before, never writes one but for a SAVE, and never reads a row but by a meter.
 #![tactic(auto)]
 
 mod bouquets;
@@ -13,12 +13,16 @@ mod compile;
 mod create_index;
 mod create_table;
 mod explain;
+mod files;
+mod keep;
 mod lines;
 mod load;
 mod named;
 mod named_bouquets;
+mod open_file;
 mod refusal;
 mod run;
+mod save_file;
 mod select;
 mod session;
 mod stop;

@@ -5,7 +5,7 @@ ghost use Rattle.plan_tree.specs.Text.{plan_text_of};
 ghost use Rattle.bouquet_type.specs.Budgets.{budget_of};
 ghost use Rattle.bouquet_type.specs.Reports.{told_end};
 ghost use Rattle.bouquet_type.specs.Trees.{bouquet_tree, contour_tree};
-ghost use Rattle.session.specs.Printed.{report_line, load_line, compile_line, contour_line, contour_lines, plan_texts};
+ghost use Rattle.session.specs.Printed.{report_line, load_line, size_line, contour_line, contour_lines, plan_texts};
 
 use bouquet_type::{Bouquet, Contour, Report};
 use itoa::Buffer;
@@ -82,16 +82,16 @@ pub(crate) fn push_report(
     Ok(())
 }
 
-/// The line that a compiled bouquet prints.
-pub(crate) fn compile_line(alloc: Global, bouquet: &Bouquet) -> Result<Vec<u8>, AllocError>
-    ensures { IfOk result (λ text. text.items ≡ compile_line (bouquet_tree bouquet.now)) }
+/// The line with the size of a bouquet, behind a label.
+pub(crate) fn size_line(
+    alloc: Global,
+    label: &str,
+    bouquet: &Bouquet,
+) -> Result<Vec<u8>, AllocError>
+    ensures { IfOk result (λ text. text.items ≡ size_line label.now (bouquet_tree bouquet.now)) }
 {
     let mut text = Vec::new(alloc);
-    push_labelled(
-        &mut text,
-        "-- compile points=",
-        bouquet.grid().points() as u128,
-    )?;
+    push_labelled(&mut text, label, bouquet.grid().points() as u128)?;
     push_labelled(&mut text, " contours=", bouquet.contours().len() as u128)?;
     push_labelled(&mut text, " r=", u128::from(bouquet.most()))?;
     text.push(b'\n')?;

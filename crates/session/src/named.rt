@@ -3,7 +3,7 @@ ghost use Rattle.std.specs.Prelude.{◌≡◌, ◌<◌, ◌≤◌, length, IfSom
 ghost use Rattle.sql_values.specs.Limits.{max_columns};
 ghost use Rattle.session.specs.CreateIndex.{column_number};
 ghost use Rattle.session.specs.Outcome.{Refuses};
-ghost use Rattle.session.specs.Stop.{StopsAt};
+ghost use Rattle.session.specs.Stop.{IsFault, StopsAt};
 
 use crate::refusal::Refusal;
 use crate::stop::Stop;
@@ -13,7 +13,7 @@ use sql_values::ColumnDef;
 /// There is no table of this name.
 pub(crate) fn no_table(name: &Name) -> Stop
     ensures refusal { StopsAt (Refuses (Refusal.NoTable name.now)) result }
-    ensures no_fault { result ≡ Stop.ReadFault → ⊥ }
+    ensures no_fault { IsFault result → ⊥ }
 {
     match name.clone() {
         Ok(name) => Stop::Refused(Refusal::NoTable(name)),
@@ -24,7 +24,7 @@ pub(crate) fn no_table(name: &Name) -> Stop
 /// The table has no column of this name.
 pub(crate) fn no_column(name: &Name) -> Stop
     ensures refusal { StopsAt (Refuses (Refusal.NoColumn name.now)) result }
-    ensures no_fault { result ≡ Stop.ReadFault → ⊥ }
+    ensures no_fault { IsFault result → ⊥ }
 {
     match name.clone() {
         Ok(name) => Stop::Refused(Refusal::NoColumn(name)),
@@ -35,7 +35,7 @@ pub(crate) fn no_column(name: &Name) -> Stop
 /// There is no bouquet of this name.
 pub(crate) fn no_bouquet(name: &Name) -> Stop
     ensures refusal { StopsAt (Refuses (Refusal.NoBouquet name.now)) result }
-    ensures no_fault { result ≡ Stop.ReadFault → ⊥ }
+    ensures no_fault { IsFault result → ⊥ }
 {
     match name.clone() {
         Ok(name) => Stop::Refused(Refusal::NoBouquet(name)),
@@ -46,7 +46,7 @@ pub(crate) fn no_bouquet(name: &Name) -> Stop
 /// A bouquet has this name already.
 pub(crate) fn taken(name: &Name) -> Stop
     ensures refusal { StopsAt (Refuses (Refusal.NameTaken name.now)) result }
-    ensures no_fault { result ≡ Stop.ReadFault → ⊥ }
+    ensures no_fault { IsFault result → ⊥ }
 {
     match name.clone() {
         Ok(name) => Stop::Refused(Refusal::NameTaken(name)),

@@ -1,8 +1,9 @@
 // Why a script or a statement is refused: each refusal is a value, and becomes its line here alone.
 ghost use Rattle.std.specs.Prelude.{◌≡◌, ◌++◌, IfOk, OnOk, codes, decimal};
-ghost use Rattle.session.specs.Refusal.{line_of, error_line, limit_line, no_table_line, no_column_line, duplicate_line, not_made_line, not_bound_line, field_line, fields_line, not_loaded_line, no_token_line, token_fault_word, later_word, count_word, stale_line};
+ghost use Rattle.session.specs.Refusal.{line_of, error_line, limit_line, no_table_line, no_column_line, duplicate_line, not_made_line, not_bound_line, field_line, fields_line, not_loaded_line, no_token_line, token_fault_word, later_word, stale_line, not_opened_line};
 
-use cost_model::{CountName, Stale};
+use bouquet_file::{OpenFault, path_text};
+use cost_model::Stale;
 use csv_load::LoadFault;
 use db_catalog::DbFault;
 use itoa::Buffer;
@@ -44,6 +45,8 @@ pub enum Refusal {
     AbsentFile(Text),
     /// The file gives no rows to its table.
     NotLoaded(LoadFault),
+    /// The file is no bouquet of the query over the tables.
+    NotOpened(OpenFault),
     /// A quantity is past its limit, with this value.
     PastLimit(LimitName, u128),
     /// The work of a query is past the most that one may cost, and so many units were spent on it.
@@ -222,16 +225,6 @@ fn no_token_line(alloc: Global, fault: &LexFault) -> Result<Vec<u8>, AllocError>
     )
 }
 
-fn count_word(count: CountName) -> &'static str
-    ensures { result.now ≡ count_word count }
-{
-    match count {
-        CountName::Rows => "rows",
-        CountName::Kept => "kept",
-        CountName::Indexes => "indexes",
-    }
-}
-
 // The line of a count that isn't what it was.
 fn stale_line(alloc: Global, stale: &Stale) -> Result<Vec<u8>, AllocError>
     ensures { IfOk result (λ line. line.items ≡ stale_line stale.now) }
@@ -239,11 +232,21 @@ fn stale_line(alloc: Global, stale: &Stale) -> Result<Vec<u8>, AllocError>
     let mut line = Vec::from_slice(alloc, b"error E15 stale")?;
     push_number(&mut line, u128::from(stale.relation))?;
     line.push(b' ')?;
-    line.extend_from_slice(count_word(stale.count).as_bytes())?;
+    line.extend_from_slice(stale.count.word().as_bytes())?;
     push_number(&mut line, u128::from(stale.kept))?;
     push_number(&mut line, u128::from(stale.present))?;
     line.push(b'\n')?;
     Ok(line)
+}
+
+// The line of a file that is no bouquet. Out of memory refuses nothing.
+fn not_opened_line(alloc: Global, fault: OpenFault) -> Result<Vec<u8>, AllocError>
+    ensures { IfOk result (λ line. line.items ≡ not_opened_line fault) }
+{
+    match fault {
+        OpenFault::Stale(stale) => stale_line(alloc, &stale),
+        _ => error_line(alloc, "E14 file ", &path_text(alloc, fault)?),
+    }
 }
 
 /// The line that a refusal puts.
@@ -262,6 +265,7 @@ pub fn refusal_line(alloc: Global, refusal: &Refusal) -> Result<Vec<u8>, AllocEr
         Refusal::IsStale(stale) => stale_line(alloc, stale),
         Refusal::AbsentFile(name) => error_line(alloc, "E09 absent ", name.bytes()),
         Refusal::NotLoaded(fault) => not_loaded_line(alloc, fault),
+        Refusal::NotOpened(fault) => not_opened_line(alloc, *fault),
         Refusal::PastLimit(limit, value) => limit_line(alloc, *limit, *value),
         Refusal::PastWork(spent) => number_line(alloc, "E16 ", "work", *spent),
         Refusal::Later(what) => error_line(alloc, "E00 later ", later_word(*what).as_bytes()),

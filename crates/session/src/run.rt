@@ -1,14 +1,15 @@
 // RUN: a bouquet's counts are looked at before a row is read.
-ghost use Rattle.std.specs.Prelude.{◌+◌, ◌^◌, ◌≤◌, OnOk, IsErrOf};
+ghost use Rattle.std.specs.Prelude.{◌+◌, ◌^◌, ◌≤◌, OnOk, IsErrAnd};
 ghost use Rattle.sql_parse.specs.Trees.{Run};
 ghost use Rattle.query_block.specs.Blocks.{block_tree};
 ghost use Rattle.db_catalog.specs.Fits.{Fits};
-ghost use Rattle.table_stats.specs.Fresh.{RefusesFirst};
+ghost use Rattle.cost_model.specs.Staleness.{RefusesFirst};
 ghost use Rattle.bouquet_type.specs.Trees.{bouquet_tree};
 ghost use Rattle.session.specs.Bounds.{IsAnsweredWithin};
 ghost use Rattle.session.specs.Returns.{ReturnsDue};
 ghost use Rattle.session.specs.Run.{run_outcome, stale_count};
 ghost use Rattle.session.specs.States.{world_of};
+ghost use Rattle.session.specs.Stop.{IsFault};
 
 use crate::bouquets::answer;
 use crate::named::no_bouquet;
@@ -45,7 +46,7 @@ impl Session {
             result (world_of self.now) book.old book.new }
         ensures bounded { OnOk result (IsAnsweredWithin (world_of self.now) (Run name.now)) }
         ensures within { book.new ≤ book.old + max_work }
-        ensures no_fault { IsErrOf result Stop.ReadFault → ⊥ }
+        ensures no_fault { IsErrAnd result IsFault → ⊥ }
     {
         let Some(kept) = self.bouquets.get(name.bytes()) else {
             return Err(no_bouquet(name));

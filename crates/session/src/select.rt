@@ -1,5 +1,5 @@
 // SELECT: a query is bound before anything else is asked of it, then compiled, then answered by a run of its bouquet.
-ghost use Rattle.std.specs.Prelude.{◌+◌, ◌^◌, ◌≤◌, OnOk, IsErrOf};
+ghost use Rattle.std.specs.Prelude.{◌+◌, ◌^◌, ◌≤◌, OnOk, IsErrAnd};
 ghost use Rattle.sql_values.specs.Limits.{max_script_bytes};
 ghost use Rattle.sql_parse.specs.Trees.{Select, query_tree};
 ghost use Rattle.sql_parse.specs.WellFormed.{IsWellFormedQuery};
@@ -8,6 +8,7 @@ ghost use Rattle.session.specs.Bounds.{IsAnsweredWithin};
 ghost use Rattle.session.specs.Returns.{ReturnsDue};
 ghost use Rattle.session.specs.Select.{select_outcome};
 ghost use Rattle.session.specs.States.{world_of};
+ghost use Rattle.session.specs.Stop.{IsFault};
 
 use crate::bouquets::{answer, compiled_over};
 use crate::session::Session;
@@ -31,12 +32,13 @@ impl Session {
         requires predicates { of_condition predicates_in (query_tree query.now).condition
             ≤ max_script_bytes }
         requires room { book.old + max_work ≤ 2 ^ 126 }
-        ensures due { ReturnsDue (select_outcome max_work (world_of self.now) (query_tree query.now))
+        ensures due { ReturnsDue
+            (select_outcome max_work (world_of self.now) (query_tree query.now))
             result (world_of self.now) book.old book.new }
         ensures bounded { OnOk result
             (IsAnsweredWithin (world_of self.now) (Select (query_tree query.now))) }
         ensures within { book.new ≤ book.old + max_work }
-        ensures no_fault { IsErrOf result Stop.ReadFault → ⊥ }
+        ensures no_fault { IsErrAnd result IsFault → ⊥ }
     {
         let block = bind(alloc, &self.database, query)?;
         let bouquet = compiled_over(alloc, &self.database, block, None, DEFAULT_THRESHOLD as u32)?;

@@ -1,11 +1,10 @@
 // What the statements so far have made, and what one statement more does. A statement that stops changes nothing.
-ghost use Rattle.std.specs.Prelude.{◌≡◌, ◌+◌, ◌^◌, ◌≤◌, OnOk, OnErr, IsErrOf};
-ghost use Rattle.outside_io.specs.Files.{OnlyReads};
+ghost use Rattle.std.specs.Prelude.{◌≡◌, ◌+◌, ◌^◌, ◌≤◌, OnOk, OnErr};
 ghost use Rattle.sql_parse.specs.Trees.{statement_tree};
 ghost use Rattle.sql_parse.specs.WellFormed.{IsWellFormed};
 ghost use Rattle.sql_parse.specs.Counts.{predicates_of};
 ghost use Rattle.sql_values.specs.Limits.{max_script_bytes};
-ghost use Rattle.session.specs.Returns.{IsCarriedOut};
+ghost use Rattle.session.specs.Returns.{IsCarriedOut, UsesFolder};
 ghost use Rattle.session.specs.Bounds.{IsAnsweredWithin};
 ghost use Rattle.session.specs.States.{world_of};
 ghost use Rattle.session.specs.World.{nothing_made};
@@ -60,8 +59,9 @@ impl Session {
         }
     }
 
-    /// Carries a statement out and returns what it prints. One that stops changes nothing. A query has a budget of `max_work`
-    /// units, and what it paid is entered in the book, whatever the answer.
+    /// Carries a statement out and returns what it prints. One that stops changes nothing, but that the file which a SAVE
+    /// couldn't write may hold anything. A query has a budget of `max_work` units, and what it paid is entered in the book,
+    /// whatever the answer.
     pub fn carry_out<F: Folder>(
         &mut self,
         alloc: Global,
@@ -74,13 +74,13 @@ impl Session {
         requires predicates { predicates_of (statement_tree statement.now) ≤ max_script_bytes }
         requires room { book.old + max_work ≤ 2 ^ 126 }
         ensures due { IsCarriedOut max_work (statement_tree statement.now)
-            (F.state folder.old) (F.state folder.new) (world_of self.old) (world_of self.new) book.old book.new result }
+            (F.state folder.old) (F.state folder.new) (world_of self.old) (world_of self.new)
+            book.old book.new result }
         ensures unchanged { OnErr result (self.new ≡ self.old) }
         ensures bounded { OnOk result
             (IsAnsweredWithin (world_of self.old) (statement_tree statement.now)) }
         ensures within { book.new ≤ book.old + max_work }
-        ensures folder { OnlyReads (IsErrOf result Stop.ReadFault) ⊥
-            (F.state folder.old) (F.state folder.new) }
+        ensures folder { UsesFolder result (F.state folder.old) (F.state folder.new) }
     {
         match statement {
             Statement::CreateTable(table) => self.create_table(alloc, table),
@@ -90,8 +90,8 @@ impl Session {
             Statement::Compile(compile) => self.compile(alloc, compile),
             Statement::Run(name) => self.run(alloc, max_work, name, book),
             Statement::Explain(name) => self.explain(alloc, name),
-            Statement::SaveFile(_) => Err(later(Later::Statement)),
-            Statement::OpenFile(_) => Err(later(Later::Statement)),
+            Statement::SaveFile(save) => self.save_file(alloc, save, folder),
+            Statement::OpenFile(opened) => self.open_file(alloc, opened, folder),
             Statement::Audit(_) => Err(later(Later::Statement)),
         }
     }

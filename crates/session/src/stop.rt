@@ -1,5 +1,6 @@
 // Why a statement isn't carried out.
 use crate::refusal::Refusal;
+use bouquet_file::OpenFault;
 use cost_model::Stale;
 use csv_load::LoadFault;
 use db_catalog::DbFault;
@@ -14,8 +15,10 @@ use table_stats::StatsFault;
 pub enum Stop {
     /// It is refused.
     Refused(Refusal),
-    /// The folder failed.
+    /// The folder failed to read a file.
     ReadFault,
+    /// The folder failed to write a file, which may hold anything.
+    WriteFault,
     /// Out of memory.
     NoMemory,
 }
@@ -69,6 +72,20 @@ impl From<BindFault> for Stop {
         match fault {
             BindFault::NoMemory => Stop::NoMemory,
             fault => Stop::Refused(Refusal::NotBound(fault)),
+        }
+    }
+}
+
+impl From<OpenFault> for Stop {
+    ghost use Rattle.std.specs.Prelude.{◌≡◌};
+    ghost use Rattle.session.specs.Stop.{stop_of_opening};
+
+    ghost from_gives = { λ fault stop. stop ≡ stop_of_opening fault };
+
+    fn from(fault: OpenFault) -> Stop {
+        match fault {
+            OpenFault::NoMemory => Stop::NoMemory,
+            fault => Stop::Refused(Refusal::NotOpened(fault)),
         }
     }
 }

@@ -1,76 +1,101 @@
 -- What is said of a whole run of the program.
-use Rattle.std.proofs.Common.{◌≡◌, inl, inr, ℕ, ◌≤◌, List, [], ◌∷◌, length, take, drop, Option, Some, None, refl, sym, ap, ◌∙◌, subst, arith}
+use Rattle.std.proofs.Common.{◌≡◌, ◌⊎◌, inl, inr, ℕ, ◌≤◌, List, [], length, take, drop, Option, Some, None, refl, sym, ap, ◌∙◌, subst, arith}
 use Rattle.std.specs.Prelude.{IfSome, IsSome, Result, Ok, Err, IfOk}
 use Rattle.std.specs.Io.KnownBytes.{Appends}
 use Rattle.std.proofs.lemmas.List.{drop_all, length-take}
-use Rattle.std.proofs.lemmas.List.Elements.{All-head, All-tail}
 use Rattle.outside_io.specs.Count.{Rose}
 use Rattle.outside_io.specs.Files.{FolderState}
 use Rattle.sql_values.specs.Limits.{max_script_bytes}
 use Rattle.sql_parse.specs.Trees.{StatementTree}
-use Rattle.shell.specs.declared.status.Status.{Status}
-use Rattle.shell.specs.declared.status.Status.TheVariants as status
 use Rattle.session.specs.declared.refusal.Refusal.{Refusal}
 use Rattle.session.specs.Refusal.{line_of}
-use Rattle.session.specs.Given.{IsGivenFor}
-use Rattle.session.proofs.Given.{one_file_for}
-use Rattle.shell.specs.Script.{Answer, Step, answer_of}
-use Rattle.shell.specs.Serve.{IsScript, IsAnswer, Serves, IsDecided, HasReadCause, statements_of_steps, statements_read}
+use Rattle.shell.specs.declared.status.Status.{Status}
+use Rattle.shell.specs.declared.status.Status.TheVariants as status
+use Rattle.shell.specs.Script.{Answer, AreGiven, Step, answer_of, at_start}
+use Rattle.shell.specs.Serve.{IsScript, IsAnswer, LeavesFiles, Serves, IsDecided, HasReadCause, statements_read}
 use Rattle.shell.specs.Due.{CarriesAll}
 use Rattle.shell.specs.Source.{TakesAtMost}
 use Rattle.shell.proofs.Beginning.{IsRefused, refused_not_done, refused_not_read}
 use Rattle.shell.proofs.Carrying.{appends_none}
-use Rattle.shell.proofs.Ends.{EndsElsewhere, not_done, not_refused}
-use Rattle.shell.proofs.Steps.{AreGiven, any_steps}
+use Rattle.shell.proofs.Steps.{any_steps, one_script_answer}
 use Rattle.shell.proofs.Scripts.{enough, some_reading, one_reading, reads_whole, reads_cut}
+
+-- the run ended before anything was carried out
+abbrev pub EndsBefore : Status → Type 0
+EndsBefore ended = (ended ≡ status.ReadFault) ⊎ (ended ≡ status.NoMemory)
+
+not_done : (ended : Status) → EndsBefore ended → ended ≡ status.Done → ⊥
+not_done ended (inl fault) is = cc (fault, is)
+not_done ended (inr memory) is = cc (memory, is)
+
+not_refused : (ended : Status) → EndsBefore ended → ended ≡ status.Refused → ⊥
+not_refused ended (inl fault) is = cc (fault, is)
+not_refused ended (inr memory) is = cc (memory, is)
+
+not_write : (ended : Status) → EndsBefore ended → ended ≡ status.WriteFault → ⊥
+not_write ended (inl fault) is = cc (fault, is)
+not_write ended (inr memory) is = cc (memory, is)
+
+-- no step was carried out, and the folder holds what it held
+leaves_all : (max_work : ℕ) (folder : FolderState) (ended : Status) → EndsBefore ended → (steps : Result (List Step) Refusal) → IfOk steps (LeavesFiles max_work ended folder folder)
+leaves_all max_work folder ended before (Err why) = tt
+leaves_all max_work folder ended before (Ok steps) = record {
+  due = λ e. elim e [ inl is ↦ absurd (not_done ended before is) | inr is ↦ absurd (not_refused ended before is) ];
+  part = record { earlier = []; later = steps; are = refl; files = inl refl };
+}
 
 -- an answer is due to each script
 answer_for : (max_work : ℕ) (script : List ℕ) (before after : FolderState) (read : Result (List StatementTree) Refusal) → IsScript script read → (answer : Answer) × IsAnswer max_work script before after answer
-answer_for max_work script before after (Err why) reads = (answer_of max_work (Err why), record { steps = Err why; reads = reads; given = tt; is = refl })
+answer_for max_work script before after (Err why) reads = (answer_of max_work before.files (Err why), record { steps = Err why; reads = reads; given = tt; is = refl })
 answer_for max_work script before after (Ok statements) reads =
-    let steps = any_steps before after statements in
-    (answer_of max_work (Ok steps.0), record { steps = Ok steps.0; reads = subst (λ (l : List StatementTree). IsScript script (Ok l)) (sym steps.1) reads; given = steps.2; is = refl })
+    let steps = any_steps (Rose before.misses after.misses) max_work statements (at_start before.files) in
+    (answer_of max_work before.files (Ok steps.0), record { steps = Ok steps.0; reads = subst (λ (l : List StatementTree). IsScript script (Ok l)) (sym steps.1) reads; given = steps.2; is = refl })
 
-pub serves_nothing : (max_work : ℕ) (source_failed : Type 0) (script : List ℕ) (folder : FolderState) (ended : Status) (had : Option (List ℕ)) (paid : ℕ) → EndsElsewhere ended → (ended ≡ status.ReadFault → source_failed)
-    → Serves max_work source_failed script folder folder ended had had paid
-serves_nothing max_work source_failed script folder ended had paid elsewhere fault =
+pub serves_nothing : (max_work : ℕ) (source_failed sink_failed : Type 0) (script : List ℕ) (folder : FolderState) (ended : Status) (had : Option (List ℕ)) (paid : ℕ) → EndsBefore ended → (ended ≡ status.ReadFault → source_failed)
+    → Serves max_work source_failed sink_failed script folder folder ended had had paid
+serves_nothing max_work source_failed sink_failed script folder ended had paid before fault =
     let read = some_reading script in
     let due = answer_for max_work script folder folder read.0 read.1 in
     record {
       answer = due.0;
       due = due.1;
       carries = record {
-        done = λ is. absurd (not_done ended elsewhere is);
-        refused = λ is. absurd (not_refused ended elsewhere is);
+        done = λ is. absurd (not_done ended before is);
+        refused = λ is. absurd (not_refused ended before is);
         beginning = (0, appends_none had);
       };
       read_fault = λ is. inl (fault is, refl, refl);
-      pays = record { done = λ is. absurd (not_done ended elsewhere is); refused = λ is. absurd (not_refused ended elsewhere is) };
-      bounds = λ due. elim due [ inl is ↦ absurd (not_done ended elsewhere is) | inr is ↦ absurd (not_refused ended elsewhere is) ];
+      write_fault = λ is. absurd (not_write ended before is);
+      files = leaves_all max_work folder ended before due.1.steps;
+      pays = record { done = λ is. absurd (not_done ended before is); refused = λ is. absurd (not_refused ended before is) };
+      bounds = λ e. elim e [ inl is ↦ absurd (not_done ended before is) | inr is ↦ absurd (not_refused ended before is) ];
     }
 
-pub known_nothing : (max_work : ℕ) (source_failed : Type 0) (source : Option (List ℕ)) (folder : FolderState) (ended : Status) (had : Option (List ℕ)) (paid : ℕ) → EndsElsewhere ended → (ended ≡ status.ReadFault → source_failed)
-    → IfSome source (λ script. Serves max_work source_failed script folder folder ended had had paid)
-known_nothing max_work source_failed None folder ended had paid elsewhere fault = tt
-known_nothing max_work source_failed (Some script) folder ended had paid elsewhere fault = serves_nothing max_work source_failed script folder ended had paid elsewhere fault
+pub known_nothing : (max_work : ℕ) (source_failed sink_failed : Type 0) (source : Option (List ℕ)) (folder : FolderState) (ended : Status) (had : Option (List ℕ)) (paid : ℕ) → EndsBefore ended → (ended ≡ status.ReadFault → source_failed)
+    → IfSome source (λ script. Serves max_work source_failed sink_failed script folder folder ended had had paid)
+known_nothing max_work source_failed sink_failed None folder ended had paid before fault = tt
+known_nothing max_work source_failed sink_failed (Some script) folder ended had paid before fault = serves_nothing max_work source_failed sink_failed script folder ended had paid before fault
 
 -- statements that were carried out are those of the script
-pub serves_statements : (max_work : ℕ) (script : List ℕ) (statements : List StatementTree) (before after : FolderState) (ended : Status) (had got : Option (List ℕ)) (paid : ℕ) → IsScript script (Ok statements)
-    → CarriesAll max_work statements before after ended had got 0 paid → (ended ≡ status.ReadFault → Rose before.read_faults after.read_faults) → Serves max_work ⊥ script before after ended had got paid
-serves_statements max_work script statements before after ended had got paid reads carried rose = record {
-  answer = answer_of max_work (Ok carried.steps);
+pub serves_statements : (max_work : ℕ) (sink_failed : Type 0) (script : List ℕ) (statements : List StatementTree) (before after : FolderState) (ended : Status) (had got : Option (List ℕ)) (paid : ℕ) → IsScript script (Ok statements)
+    → CarriesAll max_work sink_failed statements before after ended had got 0 paid → (ended ≡ status.ReadFault → Rose before.read_faults after.read_faults) → Serves max_work ⊥ sink_failed script before after ended had got paid
+serves_statements max_work sink_failed script statements before after ended had got paid reads carried rose = record {
+  answer = answer_of max_work before.files (Ok carried.steps);
   due = record { steps = Ok carried.steps; reads = subst (λ (l : List StatementTree). IsScript script (Ok l)) (sym carried.are) reads; given = carried.given; is = refl };
   carries = carried.carries;
   read_fault = λ is. inr (rose is, carried.read_fault is);
+  write_fault = carried.write_fault;
+  files = carried.files;
   pays = carried.pays;
   bounds = carried.bounds;
 }
 
 -- the line of a script that is refused whole, for which nothing is paid
-pub serves_refusal : (max_work : ℕ) (script : List ℕ) (why : Refusal) (before after : FolderState) (ended : Status) (had got : Option (List ℕ)) (paid : ℕ) → paid ≡ 0 → IsScript script (Err why)
-    → (ended ≡ status.Refused → Appends had got (line_of why)) → ((n : ℕ) × Appends had got (take n (line_of why))) → IsRefused ended → Serves max_work ⊥ script before after ended had got paid
-serves_refusal max_work script why before after ended had got paid unpaid reads whole part kinds = record {
-  answer = answer_of max_work (Err why);
+pub serves_refusal : (max_work : ℕ) (sink_failed : Type 0) (script : List ℕ) (why : Refusal) (folder : FolderState) (ended : Status) (had got : Option (List ℕ)) (paid : ℕ) → paid ≡ 0 → IsScript script (Err why)
+    → (ended ≡ status.Refused → Appends had got (line_of why)) → ((n : ℕ) × Appends had got (take n (line_of why))) → IsRefused ended → (ended ≡ status.WriteFault → sink_failed)
+    → Serves max_work ⊥ sink_failed script folder folder ended had got paid
+serves_refusal max_work sink_failed script why folder ended had got paid unpaid reads whole part kinds sink = record {
+  answer = answer_of max_work folder.files (Err why);
   due = record { steps = Err why; reads = reads; given = tt; is = refl };
   carries = record {
     done = λ is. absurd (refused_not_done ended kinds is);
@@ -78,6 +103,8 @@ serves_refusal max_work script why before after ended had got paid unpaid reads 
     beginning = part;
   };
   read_fault = λ is. absurd (refused_not_read ended kinds is);
+  write_fault = λ is. inl (sink is);
+  files = tt;
   pays = record { done = λ is. absurd (refused_not_done ended kinds is); refused = λ _. omega (arith, unpaid) };
   bounds = λ _. tt;
 }
@@ -88,16 +115,18 @@ from_folder max_work source_failed steps before after had got (inl none) = absur
 from_folder max_work source_failed steps before after had got (inr read) = inr read
 
 -- a run over what was read is a run over the whole
-pub known_whole : (max_work : ℕ) (source_failed : Type 0) (source : Option (List ℕ)) (before after : FolderState) (bytes : List ℕ) (ended : Status) (had got : Option (List ℕ)) (paid : ℕ) → IfSome source (λ left. bytes ≡ take enough left)
-    → Serves max_work ⊥ bytes before after ended had got paid → IfSome source (λ script. Serves max_work source_failed script before after ended had got paid)
-known_whole max_work source_failed None before after bytes ended had got paid read serves = tt
-known_whole max_work source_failed (Some left) before after bytes ended had got paid read serves =
-    let on = subst (λ (l : List ℕ). Serves max_work ⊥ l before after ended had got paid) read serves in
+pub known_whole : (max_work : ℕ) (source_failed sink_failed : Type 0) (source : Option (List ℕ)) (before after : FolderState) (bytes : List ℕ) (ended : Status) (had got : Option (List ℕ)) (paid : ℕ) → IfSome source (λ left. bytes ≡ take enough left)
+    → Serves max_work ⊥ sink_failed bytes before after ended had got paid → IfSome source (λ script. Serves max_work source_failed sink_failed script before after ended had got paid)
+known_whole max_work source_failed sink_failed None before after bytes ended had got paid read serves = tt
+known_whole max_work source_failed sink_failed (Some left) before after bytes ended had got paid read serves =
+    let on = subst (λ (l : List ℕ). Serves max_work ⊥ sink_failed l before after ended had got paid) read serves in
     record {
       answer = on.answer;
       due = record { steps = on.due.steps; reads = reads_whole left (statements_read on.due.steps) on.due.reads; given = on.due.given; is = on.due.is };
       carries = on.carries;
       read_fault = λ is. from_folder max_work source_failed on.due.steps before after had got (on.read_fault is);
+      write_fault = on.write_fault;
+      files = on.files;
       pays = on.pays;
       bounds = on.bounds;
     }
@@ -129,49 +158,31 @@ pub known_read : (source now : Option (List ℕ)) (bytes : List ℕ) → IfSome 
 known_read None now bytes read = tt
 known_read (Some left) now bytes read = read.0
 
-decided_by : (max_work : ℕ) (source_failed : Type 0) (script : List ℕ) (before after : FolderState) (ended : Status) (had got : Option (List ℕ)) (paid : ℕ) → (ended ≡ status.BadWords → ⊥) → (ended ≡ status.ReadFault → ⊥) → (ended ≡ status.WriteFault → ⊥)
-    → Serves max_work source_failed script before after ended had got paid → IsDecided max_work script before after ended
-decided_by max_work source_failed script before after status.Done had got paid words reads writes serves = record { answer = serves.answer; due = serves.due; ends = inl (rw (serves.carries.done refl).0 refl) }
-decided_by max_work source_failed script before after status.Refused had got paid words reads writes serves = record { answer = serves.answer; due = serves.due; ends = inl (rw (serves.carries.refused refl).0 refl) }
-decided_by max_work source_failed script before after status.BadWords had got paid words reads writes serves = absurd (words refl)
-decided_by max_work source_failed script before after status.ReadFault had got paid words reads writes serves = absurd (reads refl)
-decided_by max_work source_failed script before after status.WriteFault had got paid words reads writes serves = absurd (writes refl)
-decided_by max_work source_failed script before after status.NoMemory had got paid words reads writes serves = record { answer = serves.answer; due = serves.due; ends = inr refl }
+decided_by : (max_work : ℕ) (source_failed sink_failed : Type 0) (script : List ℕ) (before after : FolderState) (ended : Status) (had got : Option (List ℕ)) (paid : ℕ) → (ended ≡ status.BadWords → ⊥) → (ended ≡ status.ReadFault → ⊥) → (ended ≡ status.WriteFault → ⊥)
+    → Serves max_work source_failed sink_failed script before after ended had got paid → IsDecided max_work script before after ended
+decided_by max_work source_failed sink_failed script before after status.Done had got paid words reads writes serves = record { answer = serves.answer; due = serves.due; ends = inl (rw (serves.carries.done refl).0 refl) }
+decided_by max_work source_failed sink_failed script before after status.Refused had got paid words reads writes serves = record { answer = serves.answer; due = serves.due; ends = inl (rw (serves.carries.refused refl).0 refl) }
+decided_by max_work source_failed sink_failed script before after status.BadWords had got paid words reads writes serves = absurd (words refl)
+decided_by max_work source_failed sink_failed script before after status.ReadFault had got paid words reads writes serves = absurd (reads refl)
+decided_by max_work source_failed sink_failed script before after status.WriteFault had got paid words reads writes serves = absurd (writes refl)
+decided_by max_work source_failed sink_failed script before after status.NoMemory had got paid words reads writes serves = record { answer = serves.answer; due = serves.due; ends = inr refl }
 
 -- a run that met no fault ends as the script does
-pub known_decided : (max_work : ℕ) (source_failed : Type 0) (source : Option (List ℕ)) (before after : FolderState) (ended : Status) (had got : Option (List ℕ)) (paid : ℕ) → (ended ≡ status.BadWords → ⊥) → (ended ≡ status.ReadFault → ⊥) → (ended ≡ status.WriteFault → ⊥)
-    → IfSome source (λ script. Serves max_work source_failed script before after ended had got paid) → IfSome source (λ script. IsDecided max_work script before after ended)
-known_decided max_work source_failed None before after ended had got paid words reads writes serves = tt
-known_decided max_work source_failed (Some script) before after ended had got paid words reads writes serves = decided_by max_work source_failed script before after ended had got paid words reads writes serves
+pub known_decided : (max_work : ℕ) (source_failed sink_failed : Type 0) (source : Option (List ℕ)) (before after : FolderState) (ended : Status) (had got : Option (List ℕ)) (paid : ℕ) → (ended ≡ status.BadWords → ⊥) → (ended ≡ status.ReadFault → ⊥) → (ended ≡ status.WriteFault → ⊥)
+    → IfSome source (λ script. Serves max_work source_failed sink_failed script before after ended had got paid) → IfSome source (λ script. IsDecided max_work script before after ended)
+known_decided max_work source_failed sink_failed None before after ended had got paid words reads writes serves = tt
+known_decided max_work source_failed sink_failed (Some script) before after ended had got paid words reads writes serves = decided_by max_work source_failed sink_failed script before after ended had got paid words reads writes serves
 
-one_step : (old new other : FolderState) (a b : Step) → IsSome old.files → a.statement ≡ b.statement → IsGivenFor old new a.statement a.file → IsGivenFor old other b.statement b.file → a ≡ b
-one_step old new other a b known same first second =
-    let here : IsGivenFor old other a.statement b.file = subst (λ (s : StatementTree). IsGivenFor old other s b.file) (sym same) second in
-    let file : a.file ≡ b.file = one_file_for old new other a.statement a.file b.file known first here in
-    λ i. record { statement = same i; file = file i }
-
--- over a folder of known contents the statements determine the steps
-same_steps : (old new other : FolderState) (xs ys : List Step) → IsSome old.files → statements_of_steps xs ≡ statements_of_steps ys → AreGiven old new xs → AreGiven old other ys → xs ≡ ys
-same_steps old new other [] [] known same first second = refl
-same_steps old new other [] (y ∷ ys) known same first second = cc same
-same_steps old new other (x ∷ xs) [] known same first second = cc same
-same_steps old new other (x ∷ xs) (y ∷ ys) known same first second =
-    let P : Step → Type 0 = λ (s : Step). IsGivenFor old new s.statement s.file in
-    let Q : Step → Type 0 = λ (s : Step). IsGivenFor old other s.statement s.file in
-    let head : x.statement ≡ y.statement = cc same in
-    let tail : statements_of_steps xs ≡ statements_of_steps ys = cc same in
-    let here : x ≡ y = one_step old new other x y known head (All-head P x xs first) (All-head Q y ys second) in
-    let rest : xs ≡ ys = same_steps old new other xs ys known tail (All-tail P x xs first) (All-tail Q y ys second) in
-    λ i. here i ∷ rest i
-
-same_reading : (old new other : FolderState) (a b : Result (List Step) Refusal) → IsSome old.files → statements_read a ≡ statements_read b → IfOk a (AreGiven old new) → IfOk b (AreGiven old other) → a ≡ b
-same_reading old new other (Err x) (Err y) known same first second = let why : x ≡ y = cc same in ap Err why
-same_reading old new other (Err x) (Ok ys) known same first second = cc same
-same_reading old new other (Ok xs) (Err y) known same first second = cc same
-same_reading old new other (Ok xs) (Ok ys) known same first second = ap Ok (same_steps old new other xs ys known (cc same) first second)
+-- the statements determine the answer, also where there are none
+same_reading : (max_work : ℕ) (missed other : Type 0) (folder : FolderState) (a b : Result (List Step) Refusal) → IsSome folder.files → statements_read a ≡ statements_read b
+    → IfOk a (AreGiven missed max_work (at_start folder.files)) → IfOk b (AreGiven other max_work (at_start folder.files)) → answer_of max_work folder.files a ≡ answer_of max_work folder.files b
+same_reading max_work missed other folder (Err x) (Err y) known same first second = let why : x ≡ y = cc same in ap (λ (w : Refusal). answer_of max_work folder.files (Err w)) why
+same_reading max_work missed other folder (Err x) (Ok ys) known same first second = cc same
+same_reading max_work missed other folder (Ok xs) (Err y) known same first second = cc same
+same_reading max_work missed other folder (Ok xs) (Ok ys) known same first second = one_script_answer max_work missed other (at_start folder.files) xs ys known (cc same) first second
 
 -- two answers that are due are one
 pub one_answer : (max_work : ℕ) (script : List ℕ) (old new other : FolderState) (one two : Answer) → IsSome old.files → IsAnswer max_work script old new one → IsAnswer max_work script old other two → one ≡ two
 one_answer max_work script old new other one two known first second =
     let same = one_reading script (statements_read first.steps) (statements_read second.steps) first.reads second.reads in
-    first.is ∙ ap (answer_of max_work) (same_reading old new other first.steps second.steps known same first.given second.given) ∙ sym second.is
+    first.is ∙ same_reading max_work (Rose old.misses new.misses) (Rose old.misses other.misses) old first.steps second.steps known same first.given second.given ∙ sym second.is

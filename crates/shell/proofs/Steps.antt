@@ -1,22 +1,100 @@
 -- The steps of a run: its statements, each with the file that the folder gives for it.
-use Rattle.std.proofs.Common.{◌≡◌, List, [], ◌∷◌, refl, ap}
-use Rattle.std.specs.Prelude.{All}
-use Rattle.std.proofs.lemmas.List.Elements.{All-nil, All-cons}
-use Rattle.outside_io.specs.Files.{FolderState}
-use Rattle.sql_parse.specs.Trees.{StatementTree}
-use Rattle.session.specs.Given.{IsGivenFor}
-use Rattle.session.proofs.Given.{any_given_for}
-use Rattle.shell.specs.Script.{Step}
+use Rattle.std.proofs.Common.{◌≡◌, inl, inr, ℕ, List, [], ◌∷◌, Option, Some, None, refl, sym, ap, ◌∙◌, subst, arith}
+use Rattle.std.specs.Prelude.{IfSome, IsSome}
+use Rattle.outside_io.specs.Files.{Files, held_file}
+use Rattle.sql_parse.specs.Trees.{StatementTree, Load, OpenFile}
+use Rattle.session.specs.Given.{IsGiven, IsGivenFor}
+use Rattle.session.specs.Outcome.{Outcome, Prints, Saves, Refuses}
+use Rattle.session.specs.Returns.{with_saved}
+use Rattle.shell.specs.Script.{Answer, AreGiven, ScriptState, Step, and_then, left_by, printed_by, script_answer, step_outcome}
 use Rattle.shell.specs.Serve.{statements_of_steps}
 
--- the steps of a run give files
-abbrev pub AreGiven : FolderState → FolderState → List Step → Type 0
-AreGiven before after steps = All (λ step. IsGivenFor before after step.statement step.file) steps
+-- a miss in a part of a run is one in the run
+given_wider : {missed more : Type 0} (held : Option Files) (name : List ℕ) (file : Option (List ℕ)) → (missed → more) → IsGiven held missed name file → IsGiven held more name file
+given_wider None name file so (inl within) = inl within
+given_wider None name file so (inr miss) = inr (so miss)
+given_wider (Some files) name file so given = given
+
+pub given_for_wider : {missed more : Type 0} (held : Option Files) (statement : StatementTree) (file : Option (List ℕ)) → (missed → more) → IsGivenFor held missed statement file → IsGivenFor held more statement file
+given_for_wider held (Load load) file so given = given_wider held load.file file so given
+given_for_wider held (OpenFile name file_name query) file so given = given_wider held file_name file so given
+given_for_wider held other file so given = given
+
+-- some file is given under every name, and for every statement
+any_given : (missed : Type 0) (held : Option Files) (name : List ℕ) → (file : Option (List ℕ)) × IsGiven held missed name file
+any_given missed None name = (Some [], inl (omega arith))
+any_given missed (Some files) name = (held_file files name, refl)
+
+any_given_for : (missed : Type 0) (held : Option Files) (statement : StatementTree) → (file : Option (List ℕ)) × IsGivenFor held missed statement file
+any_given_for missed held (Load load) = any_given missed held load.file
+any_given_for missed held (OpenFile name file_name query) = any_given missed held file_name
+any_given_for missed held other = (None, refl)
+
+-- steps of these statements from a state, where there is one
+abbrev pub StepsFrom : (missed : Type 0) (max_work : ℕ) → List StatementTree → Option ScriptState → Type 0
+StepsFrom missed max_work statements left = (steps : List Step) × (statements_of_steps steps ≡ statements) × IfSome left (λ state. AreGiven missed max_work state steps)
+
+steps_from : (missed : Type 0) (max_work : ℕ) (statements : List StatementTree) (state : ScriptState) (left : Option ScriptState) → ((next : ScriptState) → StepsFrom missed max_work statements (Some next)) → StepsFrom missed max_work statements left
+steps_from missed max_work statements state None any = let some = any state in (some.0, some.1, tt)
+steps_from missed max_work statements state (Some next) any = any next
 
 -- statements that weren't carried out have steps too
-pub any_steps : (before after : FolderState) (statements : List StatementTree) → (steps : List Step) × (statements_of_steps steps ≡ statements) × AreGiven before after steps
-any_steps before after [] = ([], refl, All-nil (λ (step : Step). IsGivenFor before after step.statement step.file))
-any_steps before after (statement ∷ rest) =
-    let here = any_given_for before after statement in
-    let more = any_steps before after rest in
-    (record { statement = statement; file = here.0 } ∷ more.0, ap (λ s. statement ∷ s) more.1, All-cons (λ (step : Step). IsGivenFor before after step.statement step.file) (record { statement = statement; file = here.0 }) more.0 here.1 more.2)
+pub any_steps : (missed : Type 0) (max_work : ℕ) (statements : List StatementTree) (state : ScriptState) → StepsFrom missed max_work statements (Some state)
+any_steps missed max_work [] state = ([], refl, tt)
+any_steps missed max_work (statement ∷ rest) state =
+    let file = any_given_for missed state.files statement in
+    let step : Step = record { statement = statement; file = file.0 } in
+    let more = steps_from missed max_work rest state (left_by (step_outcome max_work state step) state) (any_steps missed max_work rest) in
+    (step ∷ more.0, ap (λ (l : List StatementTree). statement ∷ l) more.1, (file.1, more.2))
+
+-- and so have those behind a step
+pub steps_behind : (missed : Type 0) (max_work : ℕ) (statements : List StatementTree) (state : ScriptState) (left : Option ScriptState) → StepsFrom missed max_work statements left
+steps_behind missed max_work statements state left = steps_from missed max_work statements state left (any_steps missed max_work statements)
+
+-- a folder of known contents gives one file, and for a statement too
+one_file : (missed other : Type 0) (held : Option Files) (name : List ℕ) (a b : Option (List ℕ)) → IsSome held → IsGiven held missed name a → IsGiven held other name b → a ≡ b
+one_file missed other None name a b known first second = cc known
+one_file missed other (Some files) name a b known first second = first ∙ sym second
+
+one_file_for : (missed other : Type 0) (held : Option Files) (statement : StatementTree) (a b : Option (List ℕ)) → IsSome held → IsGivenFor held missed statement a → IsGivenFor held other statement b → a ≡ b
+one_file_for missed other held (Load load) a b known first second = one_file missed other held load.file a b known first second
+one_file_for missed other held (OpenFile name file_name query) a b known first second = one_file missed other held file_name a b known first second
+one_file_for missed other held statement a b known first second = first ∙ sym second
+
+-- a folder of known contents stays one
+saved_known : (name bytes : List ℕ) (held : Option Files) → IsSome held → IsSome (with_saved name bytes held)
+saved_known name bytes None known = cc known
+saved_known name bytes (Some files) known = refl
+
+stays_known : (due : Outcome) (state : ScriptState) → IsSome state.files → IfSome (left_by due state) (λ next. IsSome next.files)
+stays_known (Prints text work world) state known = known
+stays_known (Saves name bytes) state known = saved_known name bytes state.files known
+stays_known (Refuses why) state known = tt
+
+one_step : (missed other : Type 0) (held : Option Files) (a b : Step) → IsSome held → a.statement ≡ b.statement → IsGivenFor held missed a.statement a.file → IsGivenFor held other b.statement b.file → a ≡ b
+one_step missed other held a b known same first second =
+    let here : IsGivenFor held other a.statement b.file = subst (λ (s : StatementTree). IsGivenFor held other s b.file) (sym same) second in
+    let file : a.file ≡ b.file = one_file_for missed other held a.statement a.file b.file known first here in
+    λ i. record { statement = same i; file = file i }
+
+same_behind : (here : Answer) (left : Option ScriptState) (one two : ScriptState → Answer) (P Q : ScriptState → Type 0) → IfSome left (λ next. IsSome next.files)
+    → ((next : ScriptState) → IsSome next.files → P next → Q next → one next ≡ two next) → IfSome left P → IfSome left Q → and_then here left one ≡ and_then here left two
+same_behind here None one two P Q known same first second = refl
+same_behind here (Some next) one two P Q known same first second = ap (λ (a : Answer). and_then here (Some next) (λ _. a)) (same next known first second)
+
+-- over a folder of known contents the statements determine the answer
+pub one_script_answer : (max_work : ℕ) (missed other : Type 0) (state : ScriptState) (xs ys : List Step) → IsSome state.files → statements_of_steps xs ≡ statements_of_steps ys
+    → AreGiven missed max_work state xs → AreGiven other max_work state ys → script_answer max_work state xs ≡ script_answer max_work state ys
+one_script_answer max_work missed other state [] [] known same first second = refl
+one_script_answer max_work missed other state [] (y ∷ ys) known same first second = cc same
+one_script_answer max_work missed other state (x ∷ xs) [] known same first second = cc same
+one_script_answer max_work missed other state (x ∷ xs) (y ∷ ys) known same first second =
+    let head : x.statement ≡ y.statement = cc same in
+    let tail : statements_of_steps xs ≡ statements_of_steps ys = cc same in
+    let here : x ≡ y = one_step missed other state.files x y known head first.0 second.0 in
+    let moved : AreGiven missed max_work state (y ∷ xs) = subst (λ (s : Step). AreGiven missed max_work state (s ∷ xs)) here first in
+    let due = step_outcome max_work state y in
+    ap (λ (s : Step). script_answer max_work state (s ∷ xs)) here
+    ∙ same_behind (printed_by due) (left_by due state) (λ next. script_answer max_work next xs) (λ next. script_answer max_work next ys)
+    (λ next. AreGiven missed max_work next xs) (λ next. AreGiven other max_work next ys) (stays_known due state known)
+    (λ next holds left right. one_script_answer max_work missed other next xs ys holds tail left right) moved.1 second.1

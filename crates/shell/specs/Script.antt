@@ -1,9 +1,13 @@
 -- The answer to a script: its statements one after another, up to and with the first that is refused.
-use Rattle.std.specs.Prelude.{ℕ, ⊤, ◌+◌, Bool, true, false, List, [], ◌∷◌, ◌++◌, Option, Some, None, Result, Ok, Err}
+use Rattle.std.specs.Prelude.{ℕ, ⊤, ◌+◌, Bool, true, false, List, [], ◌∷◌, ◌++◌, Option, Some, None, IfSome, Result, Ok, Err}
+use Rattle.std.specs.Option.{option_and_then, option_map_or}
+use Rattle.outside_io.specs.Files.{Files}
 use Rattle.sql_parse.specs.Trees.{StatementTree}
 use Rattle.session.specs.Bounds.{IsAnsweredWithin}
-use Rattle.session.specs.Outcome.{Outcome, Prints, Refuses, refused_work}
+use Rattle.session.specs.Given.{IsGivenFor}
+use Rattle.session.specs.Outcome.{Outcome, Prints, Saves, Refuses, refused_work}
 use Rattle.session.specs.Refusal.{line_of}
+use Rattle.session.specs.Returns.{with_saved}
 use Rattle.session.specs.Statements.{statement_outcome}
 use Rattle.session.specs.World.{World, nothing_made}
 use Rattle.session.specs.declared.refusal.Refusal.{Refusal}
@@ -19,42 +23,72 @@ pub record Answer : Type 0 where
   pub work : ℕ
   pub refused : Bool
 
--- what a statement prints, and then what comes after it
-abbrev pub and_then : Outcome → (World → Answer) → Answer
-and_then (Prints text work world) rest =
-    let after = rest world in
-    record { text = text ++ after.text; work = work + after.work; refused = after.refused }
-and_then (Refuses why) rest = record { text = line_of why; work = refused_work why; refused = true }
+-- the state of a script: what its statements have made, and the files of the folder, where they are known
+pub record ScriptState : Type 0 where
+  pub world : World
+  pub files : Option Files
 
--- the answer to statements from a state
-abbrev pub script_answer : (max_work : ℕ) → World → List Step → Answer
-script_answer max_work world [] = record { text = []; work = 0; refused = false }
-script_answer max_work world (step ∷ rest) =
-    and_then (statement_outcome max_work world step.statement step.file) (λ next. script_answer max_work next rest)
+-- before the first statement, over a folder of these files
+abbrev pub at_start : Option Files → ScriptState
+at_start files = record { world = nothing_made; files = files }
 
--- what comes of the state that an outcome leaves; a refusal leaves none
-abbrev pub left_by : Outcome → (World → Option World) → Option World
-left_by (Prints text work world) rest = rest world
-left_by (Refuses why) rest = None
+-- what comes of a step
+abbrev pub step_outcome : (max_work : ℕ) → ScriptState → Step → Outcome
+step_outcome max_work state step = statement_outcome max_work state.world step.statement step.file
+
+-- the state that an outcome leaves; a refusal leaves none
+abbrev pub left_by : Outcome → ScriptState → Option ScriptState
+left_by (Prints text work world) state = Some (record state { world = world })
+left_by (Saves name bytes) state = Some (record state { files = with_saved name bytes state.files })
+left_by (Refuses why) state = None
+
+-- what an outcome prints and costs
+abbrev pub printed_by : Outcome → Answer
+printed_by (Prints text work world) = record { text = text; work = work; refused = false }
+printed_by (Saves name bytes) = record { text = []; work = 0; refused = false }
+printed_by (Refuses why) = record { text = line_of why; work = refused_work why; refused = true }
+
+-- a step's answer, and that of the steps behind it in the state that it leaves, where it leaves one
+abbrev pub and_then : Answer → Option ScriptState → (ScriptState → Answer) → Answer
+and_then here None rest = here
+and_then here (Some next) rest =
+    let after = rest next in
+    record { text = here.text ++ after.text; work = here.work + after.work; refused = after.refused }
+
+-- the answer to steps from a state
+abbrev pub script_answer : (max_work : ℕ) → ScriptState → List Step → Answer
+script_answer max_work state [] = record { text = []; work = 0; refused = false }
+script_answer max_work state (step ∷ rest) =
+    let due = step_outcome max_work state step in
+    and_then (printed_by due) (left_by due state) (λ next. script_answer max_work next rest)
 
 -- the state that these steps leave, where none of them is refused
-abbrev pub state_after : (max_work : ℕ) → World → List Step → Option World
-state_after max_work world [] = Some world
-state_after max_work world (step ∷ rest) =
-    left_by (statement_outcome max_work world step.statement step.file) (λ next. state_after max_work next rest)
+abbrev pub state_after : (max_work : ℕ) → ScriptState → List Step → Option ScriptState
+state_after max_work state [] = Some state
+state_after max_work state (step ∷ rest) =
+    option_and_then (λ next. state_after max_work next rest) (left_by (step_outcome max_work state step) state)
 
--- what holds of an outcome's statement and of the state that it leaves, where it is not a refusal
-abbrev pub where_printed : Outcome → (here : Type 0) → (rest : World → Type 0) → Type 0
-where_printed (Prints text work world) here rest = here × rest world
-where_printed (Refuses why) here rest = ⊤
+-- the files that the folder holds after these steps, up to and with the first that is refused
+abbrev pub files_after : (max_work : ℕ) → ScriptState → List Step → Option Files
+files_after max_work state [] = state.files
+files_after max_work state (step ∷ rest) =
+    option_map_or (λ next. files_after max_work next rest) (left_by (step_outcome max_work state step) state) state.files
 
--- each query among these steps that is answered is answered by a sound bouquet, and its work is within the bound
-abbrev pub AreAnsweredWithin : (max_work : ℕ) → World → List Step → Type 0
-AreAnsweredWithin max_work world [] = ⊤
-AreAnsweredWithin max_work world (step ∷ rest) =
-    where_printed (statement_outcome max_work world step.statement step.file) (IsAnsweredWithin world step.statement) (λ next. AreAnsweredWithin max_work next rest)
+-- the folder gives each step's file, up to and with the first that is refused; or, where its files are unknown, it missed one
+abbrev pub AreGiven : (missed : Type 0) → (max_work : ℕ) → ScriptState → List Step → Type 0
+AreGiven missed max_work state [] = ⊤
+AreGiven missed max_work state (step ∷ rest) =
+    IsGivenFor state.files missed step.statement step.file
+    × IfSome (left_by (step_outcome max_work state step) state) (λ next. AreGiven missed max_work next rest)
 
--- the answer to a script of these statements, or to one that is refused whole
-abbrev pub answer_of : (max_work : ℕ) → Result (List Step) Refusal → Answer
-answer_of max_work (Err why) = record { text = line_of why; work = 0; refused = true }
-answer_of max_work (Ok steps) = script_answer max_work nothing_made steps
+-- each query among these steps that is answered is within the bound
+abbrev pub AreAnsweredWithin : (max_work : ℕ) → ScriptState → List Step → Type 0
+AreAnsweredWithin max_work state [] = ⊤
+AreAnsweredWithin max_work state (step ∷ rest) =
+    IfSome (left_by (step_outcome max_work state step) state)
+    (λ next. IsAnsweredWithin state.world step.statement × AreAnsweredWithin max_work next rest)
+
+-- the answer to a script of these statements over a folder of these files, or to one that is refused whole
+abbrev pub answer_of : (max_work : ℕ) → Option Files → Result (List Step) Refusal → Answer
+answer_of max_work files (Err why) = record { text = line_of why; work = 0; refused = true }
+answer_of max_work files (Ok steps) = script_answer max_work (at_start files) steps

@@ -1,8 +1,7 @@
 // The fold over the statements of a script: each is carried out and what it prints is put, up to and with the first that is
 // refused. It relies on the session for what a statement prints, and never looks at what a file or an answer holds.
 ghost use Rattle.std.specs.Prelude.{◌≡◌, ◌≢◌, ℕ, ◌+◌, ◌^◌, ◌≤◌, map, All, IfErr, IsErrOf};
-ghost use Rattle.outside_io.specs.Count.{HasCause};
-ghost use Rattle.outside_io.specs.Files.{OnlyReads};
+ghost use Rattle.outside_io.specs.Count.{Rose};
 ghost use Rattle.sql_values.specs.Limits.{max_script_bytes};
 ghost use Rattle.sql_parse.specs.Trees.{statement_tree};
 ghost use Rattle.sql_parse.specs.WellFormed.{IsWellFormed};
@@ -10,6 +9,7 @@ ghost use Rattle.sql_parse.specs.Counts.{predicates_of};
 ghost use Rattle.session.specs.States.{world_of};
 ghost use Rattle.session.specs.World.{nothing_made};
 ghost use Rattle.shell.specs.Due.{CarriesAll, CarriesOne};
+ghost use Rattle.shell.specs.Serve.{NeverFalls};
 
 use crate::Status;
 use crate::sink::{put_refusal, put_text};
@@ -32,20 +32,19 @@ fn carry_out_one<F: Folder, K: Sink>(
     requires well_formed { IsWellFormed (statement_tree statement.now) }
     requires predicates { predicates_of (statement_tree statement.now) ≤ max_script_bytes }
     requires room { book.old + max_work ≤ 2 ^ 126 }
-    ensures carries { CarriesOne max_work (statement_tree statement.now)
-        (F.state folder.old) (F.state folder.new) (world_of session.old) (world_of session.new)
+    ensures carries { CarriesOne max_work (Rose (K.faults sink.old) (K.faults sink.new))
+        (statement_tree statement.now) (F.state folder.old) (F.state folder.new)
+        (world_of session.old) (world_of session.new)
         book.old book.new result (K.got sink.old) (K.got sink.new) }
     ensures kinds { IfErr result (λ ended. ended ≢ Status.BadWords) }
     ensures within { book.new ≤ book.old + max_work }
-    ensures folder { OnlyReads (IsErrOf result Status.ReadFault) ⊥
-        (F.state folder.old) (F.state folder.new) }
-    ensures sink { HasCause (IsErrOf result Status.WriteFault)
-        (K.faults sink.old) (K.faults sink.new) }
+    ensures sink { K.faults sink.old ≤ K.faults sink.new }
 {
     match session.carry_out(alloc, max_work, statement, folder, book) {
         Ok(text) => put_text(sink, &text),
         Err(Stop::Refused(refusal)) => Err(put_refusal(alloc, sink, &refusal)),
         Err(Stop::ReadFault) => Err(Status::ReadFault),
+        Err(Stop::WriteFault) => Err(Status::WriteFault),
         Err(Stop::NoMemory) => Err(Status::NoMemory),
     }
 }
@@ -67,13 +66,14 @@ fn carry_out_each<F: Folder, K: Sink>(
     requires fresh { world_of session.old ≡ nothing_made }
     requires unpaid { book.old ≡ 0 }
     requires most { max_work ≤ 2 ^ 62 }
-    ensures carries { CarriesAll max_work (map statement_tree statements.now)
-        (F.state folder.old) (F.state folder.new) result
+    ensures carries { CarriesAll max_work (Rose (K.faults sink.old) (K.faults sink.new))
+        (map statement_tree statements.now) (F.state folder.old) (F.state folder.new) result
         (K.got sink.old) (K.got sink.new) book.old book.new }
     ensures kinds { result ≢ Status.BadWords }
-    ensures folder { OnlyReads (result ≡ Status.ReadFault) ⊥
-        (F.state folder.old) (F.state folder.new) }
-    ensures sink { HasCause (result ≡ Status.WriteFault) (K.faults sink.old) (K.faults sink.new) }
+    ensures folder { NeverFalls (F.state folder.old) (F.state folder.new) }
+    ensures read_fault { result ≡ Status.ReadFault →
+        Rose (F.state folder.old).read_faults (F.state folder.new).read_faults }
+    ensures sink { K.faults sink.old ≤ K.faults sink.new }
 {
     for statement in statements {
         match carry_out_one(alloc, max_work, session, statement, folder, sink, book) {
@@ -99,13 +99,14 @@ pub(crate) fn carry_out_all<F: Folder, K: Sink>(
         predicates_of (statement_tree statement) ≤ max_script_bytes) statements.now }
     requires unpaid { book.old ≡ 0 }
     requires most { max_work ≤ 2 ^ 62 }
-    ensures carries { CarriesAll max_work (map statement_tree statements.now)
-        (F.state folder.old) (F.state folder.new) result
+    ensures carries { CarriesAll max_work (Rose (K.faults sink.old) (K.faults sink.new))
+        (map statement_tree statements.now) (F.state folder.old) (F.state folder.new) result
         (K.got sink.old) (K.got sink.new) book.old book.new }
     ensures kinds { result ≢ Status.BadWords }
-    ensures folder { OnlyReads (result ≡ Status.ReadFault) ⊥
-        (F.state folder.old) (F.state folder.new) }
-    ensures sink { HasCause (result ≡ Status.WriteFault) (K.faults sink.old) (K.faults sink.new) }
+    ensures folder { NeverFalls (F.state folder.old) (F.state folder.new) }
+    ensures read_fault { result ≡ Status.ReadFault →
+        Rose (F.state folder.old).read_faults (F.state folder.new).read_faults }
+    ensures sink { K.faults sink.old ≤ K.faults sink.new }
 {
     let mut session = Session::new(alloc);
     carry_out_each(

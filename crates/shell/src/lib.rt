@@ -1,7 +1,7 @@
 //! The program but for its adapters: it reads a script, carries its statements out one after another and prints what
 //! each answers, up to and with the first that is refused.
-//! To the program it promises, for every source, folder and sink, which bytes go out and what each status means. It
-//! never prints what wasn't due, and never answers a fault that none of the three counted.
+//! To the program it promises, for every source, folder and sink, which bytes go out, what the folder holds afterwards and
+//! what each status means. It never prints what wasn't due, and never answers a fault that none of the three counted.
 #![tactic(auto)]
 
 mod fold;

@@ -1,12 +1,12 @@
 // The call that does all that the program does.
 ghost use Rattle.std.specs.Prelude.{◌≡◌, ◌≢◌, ◌⊎◌, ℕ, ◌+◌, ◌^◌, ◌≤◌, List, [], length, Some, Err, IsSome, IfSome};
 ghost use Rattle.outside_io.specs.Count.{Rose, HasCause};
-ghost use Rattle.outside_io.specs.Files.{FolderState, OnlyReads};
+ghost use Rattle.outside_io.specs.Files.{FolderState};
 ghost use Rattle.sql_values.specs.Limits.{max_script_bytes};
 ghost use Rattle.session.specs.declared.refusal.Refusal.{Refusal};
 ghost use Rattle.shell.specs.Limits.{max_work};
 ghost use Rattle.shell.specs.Script.{Answer};
-ghost use Rattle.shell.specs.Serve.{IsScript, IsAnswer, Serves, RefusesWords, IsDecided, usage_line};
+ghost use Rattle.shell.specs.Serve.{IsScript, IsAnswer, Serves, RefusesWords, IsDecided, NeverFalls, usage_line};
 ghost use Rattle.shell.specs.Source.{TakesAtMost};
 
 use crate::Status;
@@ -46,17 +46,22 @@ fn carry_out_script<F: Folder, K: Sink>(
 ) -> Status
     requires most { max_work ≤ 2 ^ 62 }
     requires unpaid { book.old ≡ 0 }
-    ensures serves { Serves max_work ⊥ script.now (F.state folder.old) (F.state folder.new) result
-        (K.got sink.old) (K.got sink.new) book.new }
+    ensures serves { Serves max_work ⊥ (Rose (K.faults sink.old) (K.faults sink.new)) script.now
+        (F.state folder.old) (F.state folder.new) result (K.got sink.old) (K.got sink.new)
+        book.new }
     ensures fits { result ≡ Status.Done → length script.now ≤ max_script_bytes }
     ensures kinds { result ≢ Status.BadWords }
     ensures unread { (why : Refusal) → IsScript script.now (Err why) →
         F.state folder.new ≡ F.state folder.old }
     ensures unpaid_script { (why : Refusal) → IsScript script.now (Err why) →
         book.new ≡ book.old }
-    ensures folder { OnlyReads (result ≡ Status.ReadFault) ⊥
-        (F.state folder.old) (F.state folder.new) }
-    ensures sink { HasCause (result ≡ Status.WriteFault) (K.faults sink.old) (K.faults sink.new) }
+    ensures folder { NeverFalls (F.state folder.old) (F.state folder.new) }
+    ensures read_fault { result ≡ Status.ReadFault →
+        Rose (F.state folder.old).read_faults (F.state folder.new).read_faults }
+    ensures write_fault { result ≡ Status.WriteFault →
+        Rose (K.faults sink.old) (K.faults sink.new)
+        ⊎ Rose (F.state folder.old).write_faults (F.state folder.new).write_faults }
+    ensures sink { K.faults sink.old ≤ K.faults sink.new }
 {
     match read_script(alloc, script) {
         Ok(statements) => carry_out_all(alloc, max_work, &statements, folder, sink, book),
@@ -85,10 +90,12 @@ pub fn serve<S: Source, F: Folder, K: Sink>(
     ensures untaken { words.now ≢ [] → S.left source.new ≡ S.left source.old }
 
     // Else the text of the script goes out, whole or, after a fault and out of memory, its beginning. ReadFault comes where
-    // the source failed, or the folder for a LOAD whose table is there. Under Done and Refused exactly the work that is
-    // printed was entered in the book, and each query was answered by a sound bouquet, within its bound.
+    // the source failed, or the folder for a statement that asks for a file; WriteFault where the sink failed, or the folder
+    // for one that writes a file. Under Done and Refused the folder holds what the statements leave, exactly the work that is
+    // printed was entered in the book, and each query was answered within its bouquet's bound.
     ensures serves { words.now ≡ [] → IfSome (S.left source.old) (λ script.
-        Serves max_work (Rose (S.faults source.old) (S.faults source.new)) script
+        Serves max_work (Rose (S.faults source.old) (S.faults source.new))
+        (Rose (K.faults sink.old) (K.faults sink.new)) script
         (F.state folder.old) (F.state folder.new) result (K.got sink.old) (K.got sink.new)
         book.new) }
     ensures emptied { result ≡ Status.Done →
@@ -96,9 +103,8 @@ pub fn serve<S: Source, F: Folder, K: Sink>(
     ensures bounded { IfSome (S.left source.old)
         (TakesAtMost (max_script_bytes + 1) (S.left source.new)) }
 
-    // The folder holds what it held, and isn't read where an argument or the whole script is refused; nor is anything paid
-    // there.
-    ensures folder { OnlyReads ⊥ ⊥ (F.state folder.old) (F.state folder.new) }
+    // The folder isn't asked where an argument or the whole script is refused; nor is anything paid there.
+    ensures folder { NeverFalls (F.state folder.old) (F.state folder.new) }
     ensures unread { words.now ≢ [] → F.state folder.new ≡ F.state folder.old }
     ensures unread_script { IfSome (S.left source.old) (λ script.
         (why : Refusal) → IsScript script (Err why) →
@@ -111,12 +117,15 @@ pub fn serve<S: Source, F: Folder, K: Sink>(
     ensures read_fault { result ≡ Status.ReadFault →
         Rose (S.faults source.old) (S.faults source.new)
         ⊎ Rose (F.state folder.old).read_faults (F.state folder.new).read_faults }
-    ensures write_fault { HasCause (result ≡ Status.WriteFault)
-        (K.faults sink.old) (K.faults sink.new) }
+    ensures write_fault { result ≡ Status.WriteFault →
+        Rose (K.faults sink.old) (K.faults sink.new)
+        ⊎ Rose (F.state folder.old).write_faults (F.state folder.new).write_faults }
+    ensures sink { K.faults sink.old ≤ K.faults sink.new }
 
     // Where no count of faults rose, the run ends as the script's text does, or out of memory.
     ensures decided { words.now ≡ [] → ¬ (Rose (S.faults source.old) (S.faults source.new))
         → ¬ (Rose (F.state folder.old).read_faults (F.state folder.new).read_faults)
+        → ¬ (Rose (F.state folder.old).write_faults (F.state folder.new).write_faults)
         → ¬ (Rose (K.faults sink.old) (K.faults sink.new))
         → IfSome (S.left source.old) (λ script.
         IsDecided max_work script (F.state folder.old) (F.state folder.new) result) }

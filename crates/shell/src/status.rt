@@ -13,7 +13,7 @@ pub enum Status {
     BadWords,
     /// The source failed, or the folder at a read.
     ReadFault,
-    /// The sink failed.
+    /// The sink failed, or the folder at a write.
     WriteFault,
     /// Out of memory.
     NoMemory,

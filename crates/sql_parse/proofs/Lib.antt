@@ -16,6 +16,7 @@ pub mod PrintedStatements
 pub mod Sound
 pub mod WrittenParts
 pub mod SoundForms
+pub mod CanonicalUtf8
 pub mod Literals
 pub mod WellFormed
 pub mod CanonicalText

@@ -91,7 +91,7 @@ halved-doubled : (v : List ℕ) → halved false (doubled v) ≡ v
 halved-doubled [] = refl
 halved-doubled (b ∷ v) = grind (arith, nat_tests, halved-doubled v)
 
-between_quotes-quoted : (v : List ℕ) → between_quotes (quoted v) ≡ doubled v
+pub between_quotes-quoted : (v : List ℕ) → between_quotes (quoted v) ≡ doubled v
 between_quotes-quoted v = grind (arith, common_steps)
 
 quoted-text : (v : List ℕ) → text_value_of (quoted v) ≡ v

@@ -18,7 +18,7 @@ sound-front : (front back : List Lexeme) → EachSound (front ++ back) → EachS
 sound-front [] back sound = tt
 sound-front (token ∷ front) back sound = (sound.0, sound-front front back sound.1)
 
-sound-back : (front back : List Lexeme) → EachSound (front ++ back) → EachSound back
+pub sound-back : (front back : List Lexeme) → EachSound (front ++ back) → EachSound back
 sound-back [] back sound = sound
 sound-back (token ∷ front) back sound = sound-back front back sound.1
 
@@ -203,7 +203,7 @@ selection-writable : IsWritable IsSelection selection_parts
 selection-writable tokens None sound form = (mark-sound m.Star, tt, tt)
 selection-writable tokens (Some columns) sound form = listed-writable IsColRef column_parts colref-writable tokens columns sound form
 
-select-writable : IsWritable IsSelect query_parts
+pub select-writable : IsWritable IsSelect query_parts
 select-writable tokens query sound form =
     let all : EachSound (mark m.Select ∷ (form.0 ++ mark m.From ∷ (form.1 ++ form.2))) = subst EachSound form.3 sound in
     let later : EachSound (mark m.From ∷ (form.1 ++ form.2)) = sound-back form.0 (mark m.From ∷ (form.1 ++ form.2)) all.1 in (

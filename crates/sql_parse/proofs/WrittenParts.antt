@@ -162,7 +162,7 @@ space-white : (joined : Bool) → AllPass is_white (cond joined [] (codes " "))
 space-white true = All-nil (λ b. is_white b ≡ true)
 space-white false = AllPass-from_list_all is_white (codes " ") refl
 
-may_be_written : (joined : Bool) (parts : List Part) → Writable parts → MayBeWritten (with_spaces joined parts)
+pub may_be_written : (joined : Bool) (parts : List Part) → Writable parts → MayBeWritten (with_spaces joined parts)
 may_be_written joined [] sound = tt
 may_be_written joined (part ∷ parts) sound = (
   space-white _,

@@ -5,6 +5,7 @@ use Rattle.sql_values.specs.declared.value.Value.TheVariants as value
 use Rattle.sql_parse.specs.declared.tree.Term.{Term}
 use Rattle.sql_parse.specs.declared.tree.Term.TheVariants as term
 use Rattle.sql_parse.specs.Trees.{ConditionTree, ConditionTrees, Compare, Between, OneOf, IsNull, Not, And, Or, NoMore, More, QueryTree, StatementTree, CreateTable, CreateIndex, Load, Select, Compile, Run, Explain, SaveFile, OpenFile, Audit}
+use Rattle.sql_parse.specs.Canonical.{canonical_query}
 
 -- an operand isn't NULL as a literal
 abbrev pub IsNotNull : Term → Type 0
@@ -43,15 +44,16 @@ IsWellFormedQuery query =
     (0 < length query.from) × IfSome query.columns (λ columns. 0 < length columns)
     × IfSome query.condition IsWellFormedCondition
 
--- a new table has a column, and the name of a file is UTF-8
+-- a new table has a column; the name of a file is UTF-8, and so is the canonical text of a query
+-- that is compiled or that a file is opened for
 abbrev pub IsWellFormed : StatementTree → Type 0
 IsWellFormed (CreateTable table) = 0 < length table.columns
 IsWellFormed (CreateIndex index) = Unit {0}
 IsWellFormed (Load load) = IsUtf8 load.file
 IsWellFormed (Select query) = IsWellFormedQuery query
-IsWellFormed (Compile name levels threshold query) = IsWellFormedQuery query
+IsWellFormed (Compile name levels threshold query) = IsWellFormedQuery query × IsUtf8 (canonical_query query)
 IsWellFormed (Run name) = Unit {0}
 IsWellFormed (Explain name) = Unit {0}
 IsWellFormed (SaveFile save) = IsUtf8 save.file
-IsWellFormed (OpenFile name file query) = IsUtf8 file × IsWellFormedQuery query
+IsWellFormed (OpenFile name file query) = IsUtf8 file × IsWellFormedQuery query × IsUtf8 (canonical_query query)
 IsWellFormed (Audit audit) = Unit {0}

@@ -14,8 +14,9 @@ use Rattle.plan_tree.specs.Work.{table_rows}
 use Rattle.db_catalog.specs.Database.{DatabaseState}
 use Rattle.cost_model.specs.declared.stats.RelationStats.{RelationStats}
 use Rattle.table_stats.specs.Product.{first_past, row_counts}
-use Rattle.cost_model.specs.declared.stats.Stale.{Stale}
-use Rattle.table_stats.specs.Fresh.{RefusesFirst, first_stale, stale_in}
+use Rattle.cost_model.specs.declared.stale.Stale.{Stale}
+use Rattle.cost_model.specs.Staleness.{RefusesFirst}
+use Rattle.table_stats.specs.Fresh.{first_stale, stale_in}
 
 pub at-tree : (P : RelationTree → Type 0) (relations : List Relation) (place : ℕ) (relation : Relation) → All P (map relation_tree relations) → place < length relations
     → relation ≡ get_or relations place relation → P (relation_tree relation)

@@ -3,26 +3,12 @@ ghost use Rattle.std.specs.Prelude.{◌<◌, length};
 ghost use Rattle.query_block.specs.Blocks.{block_tree, relation_tree};
 ghost use Rattle.db_catalog.specs.Fits.{Fits};
 ghost use Rattle.cost_model.specs.Fits.{FitsBlock};
-ghost use Rattle.table_stats.specs.Fresh.{RefusesFirst, changed, first_stale, stale_in};
+ghost use Rattle.cost_model.specs.Staleness.{RefusesFirst};
+ghost use Rattle.table_stats.specs.Fresh.{first_stale, stale_in};
 
-use cost_model::{CountName, RelationStats, Stale, Stats};
+use cost_model::{CountName, RelationStats, Stale, Stats, check_count};
 use db_catalog::Database;
 use query_block::{Block, Relation};
-
-// Refuses a count that isn't what it was.
-fn check(relation: u32, count: CountName, kept: u64, present: u64) -> Result<(), Stale>
-    ensures { RefusesFirst (changed relation count kept present) result }
-{
-    if kept != present {
-        return Err(Stale {
-            relation,
-            count,
-            kept,
-            present,
-        });
-    }
-    Ok(())
-}
 
 // Refuses the first count of a relation that isn't what it was.
 fn check_relation(
@@ -34,10 +20,10 @@ fn check_relation(
     requires { relation.now.table < length db.now.tables }
     ensures { RefusesFirst (stale_in db.now number (relation_tree relation.now) kept.now) result }
 {
-    check(number, CountName::Rows, kept.rows, db.rows(relation.table))?;
+    check_count(number, CountName::Rows, kept.rows, db.rows(relation.table))?;
     let indexed = db.indexes(relation.table).len() as u64;
     let columns = kept.columns.as_slice().len() as u64;
-    check(number, CountName::Indexes, columns, indexed)
+    check_count(number, CountName::Indexes, columns, indexed)
 }
 
 /// Whether counts are still those of a block's tables: for each relation in FROM order the rows of its table are so

@@ -1,8 +1,9 @@
--- The space is wide enough, and every bouquet meets the bound.
+-- The space is wide enough, every bouquet meets the bound, and a compiled one is sound.
 use Rattle.std.proofs.Common.{◌≡◌, ap, arith}
 use Rattle.query_block.specs.Blocks.{block_tree, width_of}
 use Rattle.bouquet_type.specs.Trees.{bouquet_tree}
 use Rattle.bouquet_type.proofs.Meets.{bouquet-bound}
+use Rattle.contours.proofs.Soundness.{compiled-sound}
 use Rattle.bouquet_run.specs.Outcomes.{works_over}
 use Rattle.session.proofs.Widths.{width_some}
 use Rattle.session.proofs.bouquets.answer.Goals as goal
@@ -15,3 +16,6 @@ new-space-requires-clause-some c =
 pub returns-in-Ok-clause-bound : goal.returns-in-Ok-clause-bound
 returns-in-Ok-clause-bound c =
     bouquet-bound c.args.bouquet.now c.block-block.ensures.bouquet (works_over c.args.database.now (bouquet_tree c.args.bouquet.now))
+
+pub returns-in-Ok-clause-sound : goal.returns-in-Ok-clause-sound
+returns-in-Ok-clause-sound c = compiled-sound (bouquet_tree c.args.bouquet.now) c.block-block.ensures.bouquet.costing

@@ -6,7 +6,8 @@ use Rattle.query_block.specs.Blocks.{RelationTree, relation_tree}
 use Rattle.db_catalog.specs.Fits.{FitsTable}
 use Rattle.cost_model.specs.Fits.{FitsRelation}
 use Rattle.table_stats.proofs.Relations.{at-tree, next-stale, handed-on}
-use Rattle.table_stats.specs.Fresh.{RefusesFirst, first_stale, stale_in}
+use Rattle.cost_model.specs.Staleness.{RefusesFirst}
+use Rattle.table_stats.specs.Fresh.{first_stale, stale_in}
 use Rattle.table_stats.proofs.staleness.fresh.Goals as goal
 
 pub bounds-kept-number : goal.bounds-kept-number

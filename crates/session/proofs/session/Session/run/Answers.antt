@@ -1,6 +1,7 @@
 -- The bouquet of the name, whose counts are still those of the tables, answers.
 use Rattle.std.proofs.Common.{◌≡◌, ◌∙◌, Some, None, refl, ap}
 use Rattle.std.proofs.lemmas.List.Elements.{All-contains}
+use Rattle.bouquet_type.specs.Compiled.{IsCompiled}
 use Rattle.bouquet_type.specs.Sound.{IsSound}
 use Rattle.bouquet_type.specs.Trees.{bouquet_tree}
 use Rattle.session.specs.Bouquets.{bouquet_answer}
@@ -30,8 +31,7 @@ returns-clause-bounded c =
     let kept = c.in-Some.kept.now in
     let named : NamedBouquet = named_of (named_shape c.bytes.result.now kept) in
     let found : named_in c.args.name.now world.bouquets ≡ Some named = rw (← c.bytes.ensures) c.in-Some.ensures.named in
-    let sound : IsSound named.bouquet = All-contains (λ (one : NamedShape). IsSound (bouquet_tree one.bouquet)) c.self.inside.bouquets (named_shape c.bytes.result.now kept) c.self.invariant.sound c.in-Some.ensures.there in
     let counted : IsCountedBefore world.database named.bouquet =
     All-contains (λ (one : NamedShape). IsCountedBefore world.database (bouquet_tree one.bouquet)) c.self.inside.bouquets (named_shape c.bytes.result.now kept) c.self.invariant.counted c.in-Some.ensures.there in
     let counts : HasCountsOf world.database.tables named.bouquet = counts_fresh world.database named.bouquet counted c.in_ok-check_counts.ensures.answered in
-    rw (← c.self.view_is, found) (answered_within world named.bouquet c.answer.result sound counts c.answer.ensures.bound)
+    rw (← c.self.view_is, found) (answered_within world named.bouquet (IsCompiled named.bouquet → IsSound named.bouquet) c.answer.result c.answer.ensures.sound counts c.answer.ensures.bound)

@@ -5,11 +5,12 @@ use Rattle.std.proofs.lemmas.Result.{err_from_is_err_and}
 use Rattle.sql_values.specs.Limits.{default_threshold}
 use Rattle.query_block.specs.Blocks.{block_tree}
 use Rattle.sql_parse.specs.Trees.{query_tree}
+use Rattle.bouquet_type.specs.Sound.{IsSound}
 use Rattle.bouquet_type.specs.Trees.{bouquet_tree}
 use Rattle.session.specs.Bouquets.{bouquet_answer}
 use Rattle.session.specs.States.{world_of}
 use Rattle.session.specs.World.{World}
-use Rattle.session.proofs.Queries.{answered_within, bound, query_due, stops_unpaid, unbound}
+use Rattle.session.proofs.Queries.{answered_within, bound, query_due, stops_unpaid, unbound, whatever_comes}
 use Rattle.session.proofs.session.Session.select.Goals as goal
 
 pub returns-in_err-block-clause-due : goal.returns-in_err-block-clause-due
@@ -42,4 +43,4 @@ returns-clause-bounded c =
     let query = query_tree c.args.query.now in
     let is : query_due world.database query None default_threshold ≡ Ok (bouquet_tree c.in_ok-bouquet.bouquet) =
     bound world.database query None default_threshold (block_tree c.in_ok-block.block) (Ok c.in_ok-bouquet.bouquet) c.in_ok-block.ensures.refuses.answered c.in_ok-block.ensures.block c.in_ok-bouquet.ensures.due in
-    rw (← c.self.view_is, is) (answered_within world (bouquet_tree c.in_ok-bouquet.bouquet) c.answer.result c.in_ok-bouquet.ensures.sound c.in_ok-bouquet.ensures.counts c.answer.ensures.bound)
+    rw (← c.self.view_is, is) (answered_within world (bouquet_tree c.in_ok-bouquet.bouquet) (IsSound (bouquet_tree c.in_ok-bouquet.bouquet)) c.answer.result (whatever_comes c.answer.result (IsSound (bouquet_tree c.in_ok-bouquet.bouquet)) c.in_ok-bouquet.ensures.sound) c.in_ok-bouquet.ensures.counts c.answer.ensures.bound)

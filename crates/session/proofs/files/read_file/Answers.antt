@@ -1,7 +1,7 @@
 -- What the folder gave, where it isn't the file's bytes.
 use Rattle.session.specs.declared.stop.Stop.TheVariants as stop
 use Rattle.session.proofs.Given.{reads_long, reads_stopped}
-use Rattle.session.proofs.load.read_file.Goals as goal
+use Rattle.session.proofs.files.read_file.Goals as goal
 
 pub returns-in-Err-TooLong-clause-file : goal.returns-in-Err-TooLong-clause-file
 returns-in-Err-TooLong-clause-file g c =

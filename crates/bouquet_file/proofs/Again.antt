@@ -1,0 +1,185 @@
+-- What is written is read again as it was: no float, not deep, each part fits.
+use Rattle.std.proofs.Common.{◌≡◌, ℕ, ◌+◌, ◌^◌, ◌<◌, ◌≤◌, Bool, true, false, cond, List, [], ◌∷◌, map, length, All, Option, Some, None, Ok, codes, decimal, bytes_eq, nat_eq, nat_le, refl, sym, ap, ◌∙◌, arith}
+use Rattle.std.specs.Prelude.{⊤}
+use Rattle.std.proofs.Math.Dec.{leb-zero}
+use Rattle.std.proofs.lemmas.Bool.{le-leb}
+use Rattle.std.proofs.lemmas.Bool.Decides.{nat_tests}
+use Rattle.std.proofs.lemmas.Slice.Eq.{bytes_eq-Decides}
+use Rattle.std.proofs.lemmas.List.Elements.{All-head, All-tail}
+use Rattle.sql_values.specs.Limits.{max_rows, max_columns, max_points, min_levels, max_levels, max_threshold}
+use Rattle.serde_json.specs.Data.{Data, array, Items, depth, items_depth}
+use Rattle.serde_json.specs.View.{items_of}
+use Rattle.serde_json.specs.Written.{has_float, items_have_float}
+use Rattle.query_block.specs.Blocks.{BlockTree, IsBlock}
+use Rattle.plan_tree.specs.Plans.{PlanTree}
+use Rattle.plan_tree.specs.Enumerated.{IsPlan}
+use Rattle.plan_tree.specs.Text.{plan_text_of}
+use Rattle.cost_model.specs.declared.stats.RelationStats.{RelationStats}
+use Rattle.bouquet_type.specs.Trees.{BouquetTree, ContourTree}
+use Rattle.bouquet_file.specs.declared.fault.FieldPath.TheVariants as path
+use Rattle.bouquet_file.specs.declared.fault.OpenFault.TheVariants as fault
+use Rattle.bouquet_file.specs.declared.relations.KeptCounts.{KeptCounts}
+use Rattle.bouquet_file.specs.Steps.{Checked, pure, ◌>>=◌, ◌>>◌, need, check, each, every}
+use Rattle.bouquet_file.specs.Values.{within, list_within, item_count, decimal_number}
+use Rattle.bouquet_file.specs.Written.{plan_value, contour_value, relation_value, file_value}
+use Rattle.bouquet_file.specs.Checks.{levels_within, counts_at, plan_fits, contour_fits, changed_in, changed_counts, unless_changed, plan_here, contour_at}
+use Rattle.bouquet_file.specs.Parts.{FileParts, parts_of}
+use Rattle.bouquet_file.specs.Opened.{file_of}
+use Rattle.bouquet_file.proofs.Numbers.{number-again}
+use Rattle.bouquet_file.proofs.Plans.{found-by-text, plan-has_text}
+
+-- ---- lists that are written
+
+module _ {A : Type 0} (write : A → Data) where
+  pub no-floats : ((x : A) → has_float (write x) ≡ false) → (xs : List A) → items_have_float (items_of (map write xs)) ≡ false
+  no-floats none [] = refl
+  no-floats none (x ∷ xs) = rw (none x) (no-floats none xs)
+
+  pub shallow : (most : ℕ) → ((x : A) → depth (write x) ≤ most) → (xs : List A) → items_depth (items_of (map write xs)) ≤ most
+  shallow most low [] = omega arith
+  shallow most low (x ∷ xs) = omega (arith, low x, shallow most low xs)
+
+  count-written : (xs : List A) → item_count (items_of (map write xs)) ≡ length xs
+  count-written [] = refl
+  count-written (x ∷ xs) = omega (arith, count-written xs)
+
+  list-written : (least most : ℕ) (xs : List A) → least ≤ length xs → length xs ≤ most → list_within least most (Some (array (items_of (map write xs)))) ≡ Some (items_of (map write xs))
+  list-written least most xs low high = rw (count-written xs, le-leb least (length xs) low, le-leb (length xs) most high) refl
+
+  each-written : {B : Type 0} (read : ℕ → Data → Checked B) (see : A → B) (P : A → Type 0) → ((n : ℕ) (x : A) → P x → read n (write x) ≡ Ok (see x)) → (n : ℕ) (xs : List A) → All P xs
+      → each read n (items_of (map write xs)) ≡ Ok (map see xs)
+  each-written read see P again n [] all = refl
+  each-written read see P again n (x ∷ xs) all =
+      rw (again n x (All-head P x xs all), each-written read see P again (n + 1) xs (All-tail P x xs all)) refl
+
+  every-written : (test : ℕ → Data → Checked ⊤) (P : A → Type 0) → ((n : ℕ) (x : A) → P x → test n (write x) ≡ Ok tt) → (n : ℕ) (xs : List A) → All P xs
+      → every test n (items_of (map write xs)) ≡ Ok tt
+  every-written test P again n [] all = refl
+  every-written test P again n (x ∷ xs) all = rw (again n x (All-head P x xs all)) (every-written test P again (n + 1) xs (All-tail P x xs all))
+
+same-text : (text : List ℕ) → bytes_eq text text ≡ true
+same-text text = (bytes_eq-Decides text text).1 refl
+
+in-range : (least most n : ℕ) → least ≤ n → n ≤ most → within least most (Some n) ≡ Some n
+in-range least most n low high = rw (le-leb least n low, le-leb n most high) refl
+
+-- ---- counts
+
+abbrev pub kept_of : RelationStats → KeptCounts
+kept_of stats = record { rows = stats.rows; kept = stats.kept; indexes = length stats.columns }
+
+pub record AreFew (stats : RelationStats) : Type 0 where
+  pub rows : stats.rows ≤ max_rows
+  pub kept : stats.kept ≤ max_rows
+  pub indexes : length stats.columns ≤ max_columns
+
+counts-again : (n : ℕ) (stats : RelationStats) → AreFew stats → counts_at n (relation_value stats) ≡ Ok (kept_of stats)
+counts-again n stats few =
+    rw (in-range 0 max_rows stats.rows (omega arith) few.rows, in-range 0 max_rows stats.kept (omega arith) few.kept, in-range 0 max_columns (length stats.columns) (omega arith) few.indexes) refl
+
+same-number : (n : ℕ) → nat_eq n n ≡ true
+same-number n = grind (arith, nat_tests)
+
+unchanged : (n : ℕ) (stats : List RelationStats) → changed_counts n (map kept_of stats) stats ≡ None
+unchanged n [] = refl
+unchanged n (one ∷ stats) = rw (same-number one.rows, same-number one.kept, same-number (length one.columns)) (unchanged (n + 1) stats)
+
+-- ---- contours
+
+plan-fits : (contour n : ℕ) (p : PlanTree) → plan_fits contour n (plan_value p) ≡ Ok tt
+plan-fits contour n p = refl
+
+pub record IsContourTree (block : BlockTree) (contour : ContourTree) : Type 0 where
+  pub cost : contour.cost ≤ 2 ^ 114
+  pub some : 1 ≤ length contour.plans
+  pub few : length contour.plans ≤ max_points
+  pub plans : All (IsPlan block) contour.plans
+
+contour-fits : (block : BlockTree) (n : ℕ) (contour : ContourTree) → IsContourTree block contour → contour_fits n (contour_value contour) ≡ Ok tt
+contour-fits block n contour is =
+    rw (
+      number-again contour.cost (omega (arith, is.cost)),
+      list-written plan_value 1 max_points contour.plans is.some is.few,
+    ) (every-written plan_value (plan_fits n) (IsPlan block) (λ number p plan. plan-fits n number p) 1 contour.plans is.plans)
+
+plan-again : (block : BlockTree) → IsBlock block → (contour n : ℕ) (p : PlanTree) → IsPlan block p → plan_here block contour n (plan_value p) ≡ Ok p
+plan-again block is contour n p plan = rw (found-by-text block p (plan_text_of p) is plan (plan-has_text block p is plan)) refl
+
+map-same : {A : Type 0} (xs : List A) → map (λ x. x) xs ≡ xs
+map-same [] = refl
+map-same (x ∷ xs) = ap (λ more. x ∷ more) (map-same xs)
+
+contour-again : (block : BlockTree) → IsBlock block → (n : ℕ) (contour : ContourTree) → IsContourTree block contour → contour_at block n (contour_value contour) ≡ Ok contour
+contour-again block is_block n contour is =
+    rw (
+      number-again contour.cost (omega (arith, is.cost)),
+      le-leb contour.cost (2 ^ 114) is.cost,
+      list-written plan_value 1 max_points contour.plans is.some is.few,
+      each-written plan_value (plan_here block n) (λ p. p) (IsPlan block) (plan-again block is_block n) 1 contour.plans is.plans,
+      map-same contour.plans,
+    ) refl
+
+-- ---- a file
+
+-- what holds of a bouquet whose file is read again
+pub record IsWritable (bouquet : BouquetTree) : Type 0 where
+  pub block : IsBlock bouquet.costing.block
+  pub axes : bouquet.costing.grid.axes ≡ length bouquet.costing.block.edges
+  pub low_levels : min_levels ≤ bouquet.costing.grid.levels
+  pub high_levels : bouquet.costing.grid.levels ≤ max_levels
+  pub points : bouquet.costing.grid.levels ^ length bouquet.costing.block.edges ≤ max_points
+  pub threshold : bouquet.threshold ≤ max_threshold
+  pub relations : length bouquet.costing.stats.relations ≡ length bouquet.costing.block.relations
+  pub counts : All AreFew bouquet.costing.stats.relations
+  pub some : 1 ≤ length bouquet.contours
+  pub few : length bouquet.contours ≤ 128
+  pub contours : All (IsContourTree bouquet.costing.block) bouquet.contours
+
+levels-again : (axes levels : ℕ) → min_levels ≤ levels → levels ≤ max_levels → levels ^ axes ≤ max_points → levels_within axes (within min_levels max_levels (Some levels)) ≡ Some levels
+levels-again axes levels low high few = rw (in-range min_levels max_levels levels low high, le-leb (levels ^ axes) max_points few) refl
+
+parts-again : (bouquet : BouquetTree) (query : List ℕ) → IsWritable bouquet → parts_of (Some (file_value bouquet query)) bouquet.costing.block
+    ≡ Ok (record {
+      query = query;
+      levels = bouquet.costing.grid.levels;
+      threshold = bouquet.threshold;
+      counts = map kept_of bouquet.costing.stats.relations;
+      contours = items_of (map contour_value bouquet.contours);
+    })
+parts-again bouquet query is =
+    let block = bouquet.costing.block in
+    let stats = bouquet.costing.stats.relations in
+    rw (
+      levels-again (length block.edges) bouquet.costing.grid.levels is.low_levels is.high_levels is.points,
+      in-range 0 max_threshold bouquet.threshold (omega arith) is.threshold,
+      list-written relation_value (length block.relations) (length block.relations) stats (omega (arith, is.relations)) (omega (arith, is.relations)),
+      each-written relation_value counts_at kept_of AreFew counts-again 1 stats is.counts,
+      list-written contour_value 1 128 bouquet.contours is.some is.few,
+      every-written contour_value contour_fits (IsContourTree block) (contour-fits block) 1 bouquet.contours is.contours,
+    ) refl
+
+pub file_again : (bouquet : BouquetTree) (query : List ℕ) → IsWritable bouquet → file_of (Some (file_value bouquet query)) query bouquet.costing.block bouquet.costing.stats ≡ Ok bouquet
+file_again bouquet query is =
+    rw (
+      parts-again bouquet query is,
+      same-text query,
+      unchanged 0 bouquet.costing.stats.relations,
+      each-written contour_value (contour_at bouquet.costing.block) (λ contour. contour) (IsContourTree bouquet.costing.block) (contour-again bouquet.costing.block is.block) 1 bouquet.contours is.contours,
+      map-same bouquet.contours,
+      is.axes,
+    ) refl
+
+-- ---- its text
+
+contour-float : (contour : ContourTree) → has_float (contour_value contour) ≡ false
+contour-float contour = rw (no-floats plan_value (λ p. refl) contour.plans) refl
+
+pub file_float : (bouquet : BouquetTree) (query : List ℕ) → has_float (file_value bouquet query) ≡ false
+file_float bouquet query = rw (no-floats contour_value contour-float bouquet.contours, no-floats relation_value (λ stats. refl) bouquet.costing.stats.relations) refl
+
+contour-shallow : (contour : ContourTree) → depth (contour_value contour) ≤ 2
+contour-shallow contour = omega (arith, shallow plan_value 0 (λ p. omega arith) contour.plans)
+
+pub file_shallow : (bouquet : BouquetTree) (query : List ℕ) → depth (file_value bouquet query) ≤ 127
+file_shallow bouquet query =
+    omega (arith, shallow contour_value 2 contour-shallow bouquet.contours, shallow relation_value 1 (λ stats. omega arith) bouquet.costing.stats.relations)

@@ -1,0 +1,98 @@
+-- Each bouquet can be written, and what is opened is one.
+use Rattle.std.proofs.Common.{◌≡◌, Some, Result, Ok, Err, IfOk, Vec, Global, ℕ, ◌+◌, ◌^◌, ◌<◌, ◌≤◌, true, List, [], ◌∷◌, map, length, All, nat_eq, refl, sym, ap, subst, arith}
+use Rattle.std.proofs.Math.ListN.{length-map}
+use Rattle.std.specs.List.{AllZip, list_any}
+use Rattle.std.specs.Str.{IsUtf8}
+use Rattle.std.proofs.lemmas.Str.{is_utf8-from_IsUtf8}
+use Rattle.std.proofs.lemmas.Bool.Decides.{nat_tests}
+use Rattle.std.proofs.lemmas.List.Elements.{All-nil, All-cons, All-head, All-tail, All-map, All-weaker, All-contains}
+use Rattle.std.proofs.lemmas.Slice.Zip.{AllZip-long}
+use Rattle.std.proofs.lemmas.Map.Steps.{length-le_from_distinct_below}
+use Rattle.sql_values.specs.Limits.{min_levels, max_levels, max_points, max_threshold}
+use Rattle.ess_grid.specs.Points.{GridShape}
+use Rattle.serde_json.specs.Read.{read}
+use Rattle.query_block.specs.Shape.{BlockShape}
+use Rattle.query_block.specs.Blocks.{RelationTree, BlockTree, IsRelation, IsBlock, block_tree}
+use Rattle.plan_tree.specs.Plans.{plan_tree}
+use Rattle.plan_tree.specs.Enumerated.{IsPlan}
+use Rattle.plan_tree.proofs.Members.{contained-in, of-any}
+use Rattle.cost_model.specs.declared.stats.RelationStats.{RelationStats}
+use Rattle.cost_model.specs.declared.stats.Stats.{Stats}
+use Rattle.cost_model.specs.Fits.{FitsRelation, FitsBlock}
+use Rattle.cost_model.specs.Costing.{IsCosting, costing_tree}
+use Rattle.bouquet_type.specs.declared.contour.Contour.{Contour}
+use Rattle.bouquet_type.specs.Shapes.{BouquetShape}
+use Rattle.bouquet_type.specs.Trees.{IsContour, IsBouquet, contour_tree, bouquet_tree}
+use Rattle.bouquet_file.specs.Written.{file_value}
+use Rattle.bouquet_file.specs.Opened.{file_of, json_value}
+use Rattle.bouquet_file.proofs.Again.{AreFew, IsContourTree, IsWritable, file_again}
+
+-- a relation has at most 32 indexes
+few-indexes : (relation : RelationTree) → IsRelation relation → length relation.indexes ≤ 32
+few-indexes relation is =
+    let below : length relation.indexes ≤ length relation.columns = length-le_from_distinct_below relation.indexes (length relation.columns) is.different (λ column there.
+    let found = of-any (nat_eq column) relation.indexes there in
+    let less : found.0 < length relation.columns = All-contains (λ other. other < length relation.columns) relation.indexes found.0 is.indexes (contained-in found.0 relation.indexes found.1) in
+    let same : column ≡ found.0 = grind (arith, nat_tests, found.2) in
+    omega (arith, less, same)) in
+    omega (arith, below, is.few)
+
+are-few : (relation : RelationTree) (stats : RelationStats) → IsRelation relation → FitsRelation relation stats → AreFew stats
+are-few relation stats is fits = record {
+  rows = fits.rows;
+  kept = omega (arith, fits.rows, fits.kept);
+  indexes = omega (arith, few-indexes relation is, ap length fits.indexes, length-map stats.columns (λ index. index.column));
+}
+
+all-few : (relations : List RelationTree) (stats : List RelationStats) → All IsRelation relations → AllZip FitsRelation relations stats → All AreFew stats
+all-few [] [] all fits = All-nil AreFew
+all-few [] (one ∷ stats) all fits = absurd fits
+all-few (relation ∷ relations) [] all fits = absurd fits
+all-few (relation ∷ relations) (one ∷ stats) all fits =
+    All-cons AreFew one stats (are-few relation one (All-head IsRelation relation relations all) fits.0) (all-few relations stats (All-tail IsRelation relation relations all) fits.1)
+
+of-contour : (block : BlockTree) (contour : Contour) → IsContour block contour → IsContourTree block (contour_tree contour)
+of-contour block contour is = record {
+  cost = is.cost;
+  some = omega (arith, is.some, length-map contour.plans.items plan_tree);
+  few = omega (arith, is.few, length-map contour.plans.items plan_tree);
+  plans = All-map (IsPlan block) plan_tree contour.plans.items is.plans;
+}
+
+pub writable : (bouquet : BouquetShape) → IsBouquet bouquet → IsWritable (bouquet_tree bouquet)
+writable bouquet is =
+    let tree = bouquet_tree bouquet in
+    let block = tree.costing.block in record {
+      block = is.costing.block;
+      axes = is.costing.axes;
+      low_levels = is.costing.grid.some_levels;
+      high_levels = is.costing.grid.few_levels;
+      points = subst (λ axes. tree.costing.grid.levels ^ axes ≤ max_points) is.costing.axes is.costing.grid.few_points;
+      threshold = is.threshold;
+      relations = AllZip-long FitsRelation block.relations bouquet.stats.relations is.costing.stats.relations;
+      counts = all-few block.relations bouquet.stats.relations is.costing.block.relations is.costing.stats.relations;
+      some = omega (arith, is.some, length-map bouquet.contours contour_tree);
+      few = omega (arith, is.few, length-map bouquet.contours contour_tree);
+      contours = All-map (IsContourTree block) contour_tree bouquet.contours
+          (All-weaker (IsContour block) (λ contour. IsContourTree block (contour_tree contour)) (of-contour block) bouquet.contours is.contours);
+    }
+
+-- bytes that are read as its value are opened as the bouquet
+pub opened : (bouquet : BouquetShape) (query bytes : List ℕ) → IsBouquet bouquet → IsUtf8 bytes → read bytes ≡ Some (file_value (bouquet_tree bouquet) query)
+    → file_of (json_value bytes) query (block_tree bouquet.block) bouquet.stats ≡ Ok (bouquet_tree bouquet)
+opened bouquet query bytes is utf8 reads =
+    rw (is_utf8-from_IsUtf8 bytes utf8, reads) (file_again (bouquet_tree bouquet) query (writable bouquet is))
+
+pub opened-if : {E : Type 0} (bouquet : BouquetShape) (query : List ℕ) (r : Result (Vec ℕ Global) E) → IsBouquet bouquet → IfOk r (λ bytes. IsUtf8 bytes.items)
+    → IfOk r (λ bytes. read bytes.items ≡ Some (file_value (bouquet_tree bouquet) query))
+    → IfOk r (λ bytes. file_of (json_value bytes.items) query (block_tree bouquet.block) bouquet.stats ≡ Ok (bouquet_tree bouquet))
+opened-if bouquet query (Ok bytes) is utf8 reads = opened bouquet query bytes.items is utf8 reads
+opened-if bouquet query (Err why) is utf8 reads = tt
+
+-- parts that fit are those of a bouquet
+pub is-costing : (block : BlockShape) (stats : Stats) (grid : GridShape) (levels : ℕ) → IsBlock (block_tree block) → FitsBlock (block_tree block) stats
+    → grid ≡ record { axes = length block.edges; levels = levels } → min_levels ≤ levels → levels ≤ max_levels → levels ^ length block.edges ≤ max_points
+    → IsCosting (costing_tree (record { block = block; stats = stats; grid = grid }))
+is-costing block stats grid levels is_block fits is low high few =
+    subst (λ one. IsCosting (costing_tree (record { block = block; stats = stats; grid = one }))) (sym is)
+    (record { block = is_block; grid = record { few_axes = is_block.axes; some_levels = low; few_levels = high; few_points = few }; stats = fits; axes = refl })

@@ -1,0 +1,7 @@
+pub mod Paths
+pub mod Steps
+pub mod Values
+pub mod Written
+pub mod Checks
+pub mod Parts
+pub mod Opened

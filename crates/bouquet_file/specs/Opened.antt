@@ -1,0 +1,30 @@
+-- The bouquet of a file, or the first fault.
+use Rattle.std.specs.Prelude.{ℕ, List, length, Option, None, bytes_eq, if◌then◌else◌}
+use Rattle.std.specs.Str.{is_utf8}
+use Rattle.serde_json.specs.Data.{Data}
+use Rattle.serde_json.specs.Read.{read}
+use Rattle.query_block.specs.Blocks.{BlockTree}
+use Rattle.cost_model.specs.declared.stats.Stats.{Stats}
+use Rattle.bouquet_type.specs.Trees.{BouquetTree}
+use Rattle.bouquet_file.specs.declared.fault.OpenFault.TheVariants as fault
+use Rattle.bouquet_file.specs.Steps.{Checked, pure, ◌>>=◌, ◌>>◌, check, each}
+use Rattle.bouquet_file.specs.Checks.{changed_counts, unless_changed, contour_at}
+use Rattle.bouquet_file.specs.Parts.{parts_of}
+
+-- the value for which the bytes of a file stand, where they are JSON
+abbrev pub json_value : List ℕ → Option Data
+json_value bytes = if is_utf8 bytes then read bytes else None
+
+-- the bouquet of a value for this query, whose block and counts these are: its parts fit, first of all; then it is of this
+-- query, its counts are those of the tables, and its contours have costs and plans that a bouquet may have
+abbrev pub file_of : Option Data → (query : List ℕ) → BlockTree → Stats → Checked BouquetTree
+file_of value query block stats = do
+  parts ← parts_of value block
+  check fault.OtherQuery (bytes_eq parts.query query)
+  unless_changed (changed_counts 0 parts.counts stats.relations)
+  found ← each (contour_at block) 1 parts.contours
+  pure (record {
+    costing = record { block = block; stats = stats; grid = record { axes = length block.edges; levels = parts.levels } };
+    threshold = parts.threshold;
+    contours = found;
+  })

@@ -1,0 +1,50 @@
+-- Checks one after another: each gives a value, or the first fault ends them.
+use Rattle.std.specs.Prelude.{◌≡◌, ◌≢◌, ℕ, ◌+◌, ⊤, Bool, true, false, List, [], ◌∷◌, Option, Some, None, Result, Ok, Err}
+use Rattle.serde_json.specs.Data.{Data, Items, no_items, item}
+use Rattle.bouquet_file.specs.declared.fault.OpenFault.{OpenFault}
+use Rattle.bouquet_file.specs.declared.fault.OpenFault.TheVariants as fault
+
+abbrev pub Checked : Type 0 → Type 0
+Checked A = Result A OpenFault
+
+abbrev pub pure : {A : Type 0} → A → Checked A
+pure value = Ok value
+
+infixl 10 ◌>>=◌
+infixl 10 ◌>>◌
+-- the next check has the value of the one before
+abbrev pub ◌>>=◌ : {A B : Type 0} → Checked A → (A → Checked B) → Checked B
+◌>>=◌ (Ok value) next = next value
+◌>>=◌ (Err why) next = Err why
+
+abbrev pub ◌>>◌ : {A B : Type 0} → Checked A → Checked B → Checked B
+◌>>◌ (Ok value) next = next
+◌>>◌ (Err why) next = Err why
+
+-- what has to be there
+abbrev pub need : {A : Type 0} → OpenFault → Option A → Checked A
+need why (Some value) = Ok value
+need why None = Err why
+
+-- what has to be so
+abbrev pub check : OpenFault → Bool → Checked ⊤
+check why true = Ok tt
+check why false = Err why
+
+-- each item with its number read, the first of which has this number
+abbrev pub each : {A : Type 0} → (ℕ → Data → Checked A) → (number : ℕ) → Items → Checked (List A)
+each read number no_items = pure []
+each read number (item value more) = do
+  first ← read number value
+  others ← each read (number + 1) more
+  pure (first ∷ others)
+
+-- the same where nothing is kept of them
+abbrev pub every : (ℕ → Data → Checked ⊤) → (number : ℕ) → Items → Checked ⊤
+every test number no_items = pure tt
+every test number (item value more) = test number value >> every test (number + 1) more
+
+-- a call gives what is due, as it is seen, or the fault that is due; out of memory fits anything
+abbrev pub GivesChecked : {T A : Type 0} → (view : T → A) → Result T OpenFault → Checked A → Type 0
+GivesChecked view (Ok value) due = due ≡ Ok (view value)
+GivesChecked view (Err why) due = why ≢ fault.NoMemory → due ≡ Err why

@@ -1,0 +1,62 @@
+// The bouquet of a file, or the first fault.
+ghost use Rattle.std.specs.Prelude.{◌≡◌, IfOk};
+ghost use Rattle.serde_json.specs.View.{view};
+ghost use Rattle.query_block.specs.Blocks.{block_tree};
+ghost use Rattle.cost_model.specs.Fits.{FitsBlock};
+ghost use Rattle.bouquet_type.specs.Trees.{bouquet_tree};
+ghost use Rattle.bouquet_file.specs.Steps.{GivesChecked, need};
+ghost use Rattle.bouquet_file.specs.Opened.{file_of, json_value};
+
+use crate::contours::contours_of;
+use crate::fault::OpenFault;
+use crate::parts::parts_of;
+use crate::relations::check_counts;
+use bouquet_type::Bouquet;
+use cost_model::Stats;
+use ess_grid::Grid;
+use query_block::Block;
+use serde_json::{Category, Value};
+use std::alloc::Global;
+
+// The value for which bytes stand.
+fn value_of(alloc: Global, bytes: &[u8]) -> Result<Value, OpenFault>
+    ensures { GivesChecked view result (need OpenFault.NotJson (json_value bytes.now)) }
+{
+    match Value::from_slice(alloc, bytes) {
+        Ok(value) => Ok(value),
+        Err(error) => match error.classify() {
+            Category::Memory => Err(OpenFault::NoMemory),
+            _ => Err(OpenFault::NotJson),
+        },
+    }
+}
+
+/// The bouquet that a file says, of the query with this canonical text, whose block and counts these are. It may have any
+/// costs up to 2^114 and any plans of the block. Else the first fault: `NotJson`, `Field` of the version, `Version`, `Field`
+/// of the keys and of the values in their order, `OtherQuery`, `Stale`, and contour by contour `BudgetLimit`, `NotAPlan`.
+/// `NoMemory`: out of memory.
+pub fn from_bytes(
+    alloc: Global,
+    bytes: &[u8],
+    query: &[u8],
+    block: Block,
+    stats: Stats,
+) -> Result<Bouquet, OpenFault>
+    requires stats { FitsBlock (block_tree block) stats }
+    ensures opened { GivesChecked bouquet_tree result
+        (file_of (json_value bytes.now) query.now (block_tree block) stats) }
+    ensures block { IfOk result (λ bouquet. bouquet.block ≡ block) }
+    ensures stats { IfOk result (λ bouquet. bouquet.stats ≡ stats) }
+{
+    let file = value_of(alloc, bytes)?;
+    let parts = parts_of(alloc, &file, &block)?;
+    if parts.query.as_bytes() != query {
+        return Err(OpenFault::OtherQuery);
+    }
+    check_counts(parts.counts.as_slice(), stats.relations.as_slice())?;
+    let contours = contours_of(alloc, &block, parts.contours)?;
+    let Ok(grid) = Grid::new(block.edges().len(), Some(parts.levels)) else {
+        unreachable!()
+    };
+    Ok(Bouquet::new(block, stats, grid, parts.threshold, contours))
+}

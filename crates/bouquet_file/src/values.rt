@@ -1,0 +1,177 @@
+// What stands in a value of a file. Nothing here takes memory.
+ghost use Rattle.std.specs.Prelude.{◌≡◌, ◌≤◌, IfSome, is_some, length, option_map};
+ghost use Rattle.serde_json.specs.Find.{get_member};
+ghost use Rattle.serde_json.specs.View.{view, items_view, members_view};
+ghost use Rattle.bouquet_file.specs.Steps.{need};
+ghost use Rattle.bouquet_file.specs.Values.{unsigned, within, string_of, list_within, is_key, has_only, has_all, object_of, decimal_number};
+
+use crate::fault::{FieldPath, OpenFault};
+use itoa::Buffer;
+use serde_json::{Map, Value};
+
+/// The members of an object.
+pub(crate) type Members = Map<String, Value>;
+
+/// Which object of a file.
+#[derive(Clone, Copy)]
+pub(crate) enum ObjectKind {
+    /// The whole.
+    File,
+    /// What was counted of a relation.
+    Relation,
+    /// A contour.
+    Contour,
+}
+
+/// What has to be there.
+pub(crate) fn need<T: Drop>(value: Option<T>, path: FieldPath) -> Result<T, OpenFault>
+    ensures { result ≡ need (OpenFault.Field path) value }
+{
+    value.ok_or(OpenFault::Field { path })
+}
+
+/// The value of a key.
+pub(crate) fn member<'v>(members: &'v Members, key: &str) -> Option<&'v Value>
+    ensures { option_map (λ v. view v.now) result
+        ≡ get_member key.now (members_view members.now.entries) }
+{
+    members.get(key)
+}
+
+/// The value of a key, where it is an unsigned whole number.
+pub(crate) fn unsigned_at(members: &Members, key: &str) -> Option<u64>
+    ensures { result ≡ unsigned (get_member key.now (members_view members.now.entries)) }
+{
+    member(members, key)?.as_u64()
+}
+
+/// The same from the least to the most.
+pub(crate) fn number_at(members: &Members, key: &str, least: u64, most: u64) -> Option<u64>
+    ensures value { result
+        ≡ within least most (unsigned (get_member key.now (members_view members.now.entries))) }
+    ensures least { IfSome result (λ number. least ≤ number) }
+    ensures most { IfSome result (λ number. number ≤ most) }
+{
+    let number = unsigned_at(members, key)?;
+    if least <= number && number <= most {
+        Some(number)
+    } else {
+        None
+    }
+}
+
+/// The value of a key, where it is a text.
+pub(crate) fn text_at<'v>(members: &'v Members, key: &str) -> Option<&'v str>
+    ensures { option_map (λ text. text.now) result
+        ≡ string_of (get_member key.now (members_view members.now.entries)) }
+{
+    member(members, key)?.as_str()
+}
+
+#[tactic(auto, using(crate::proofs::Lists::counted_items))]
+/// The value of a key, where it is a list of at least, and at most so many items.
+pub(crate) fn list_at<'v>(
+    members: &'v Members,
+    key: &str,
+    least: usize,
+    most: usize,
+) -> Option<&'v [Value]>
+    ensures value { option_map (λ items. items_view items.now) result
+        ≡ list_within least most (get_member key.now (members_view members.now.entries)) }
+    ensures least { IfSome result (λ items. least ≤ length items.now) }
+    ensures most { IfSome result (λ items. length items.now ≤ most) }
+{
+    let items = member(members, key)?.as_array()?.as_slice();
+    if least <= items.len() && items.len() <= most {
+        Some(items)
+    } else {
+        None
+    }
+}
+
+// Whether a text is a key of an object of this kind.
+fn is_key(kind: ObjectKind, text: &str) -> bool
+    ensures { result ≡ is_key kind text.now }
+{
+    match kind {
+        ObjectKind::File => {
+            text == "bouquet"
+                || text == "query"
+                || text == "levels"
+                || text == "threshold"
+                || text == "relations"
+                || text == "contours"
+        }
+        ObjectKind::Relation => text == "rows" || text == "kept" || text == "indexes",
+        ObjectKind::Contour => text == "cost" || text == "plans",
+    }
+}
+
+#[tactic(auto, using(crate::proofs::Lists::keys_seen))]
+/// Whether an object has no other key than those of its kind.
+pub(crate) fn has_only(members: &Members, kind: ObjectKind) -> bool
+    ensures { result ≡ has_only kind (members_view members.now.entries) }
+{
+    for key in members.keys() {
+        if !is_key(kind, key.as_str()) {
+            return false;
+        }
+    }
+    true
+}
+
+// Whether it has this key.
+fn has(members: &Members, key: &str) -> bool
+    ensures { result ≡ is_some (get_member key.now (members_view members.now.entries)) }
+{
+    member(members, key).is_some()
+}
+
+// Whether it has each key of its kind.
+fn has_all(members: &Members, kind: ObjectKind) -> bool
+    ensures { result ≡ has_all kind (members_view members.now.entries) }
+{
+    match kind {
+        ObjectKind::File => {
+            has(members, "bouquet")
+                && has(members, "query")
+                && has(members, "levels")
+                && has(members, "threshold")
+                && has(members, "relations")
+                && has(members, "contours")
+        }
+        ObjectKind::Relation => {
+            has(members, "rows") && has(members, "kept") && has(members, "indexes")
+        }
+        ObjectKind::Contour => has(members, "cost") && has(members, "plans"),
+    }
+}
+
+/// An object with exactly the keys of its kind.
+pub(crate) fn object_of(value: &Value, kind: ObjectKind) -> Option<&Members>
+    ensures { option_map (λ members. members_view members.now.entries) result
+        ≡ object_of kind (view value.now) }
+{
+    let members = value.as_object()?;
+    if has_only(members, kind) && has_all(members, kind) {
+        Some(members)
+    } else {
+        None
+    }
+}
+
+/// The number whose decimal text this is, where it is below 2^128.
+pub(crate) fn decimal_number(text: &str) -> Option<u128>
+    ensures { result ≡ decimal_number text.now }
+{
+    let number = match text.parse::<u128>() {
+        Ok(number) => number,
+        Err(_) => return None,
+    };
+    let mut buffer = Buffer::new();
+    if buffer.format(number) == text {
+        Some(number)
+    } else {
+        None
+    }
+}

@@ -1,0 +1,140 @@
+// Writing a file by way of a new one, which lies beside it and then takes its place. So a write that
+// fails, and a program that ends in the middle of one, leave the old file whole, as far as the
+// system moves a name as a whole. It never writes over a file that isn't the named one.
+ghost use Rattle.std.specs.Prelude.{◌≡◌, ◌⊎◌, IfErr};
+
+use crate::FileFault;
+use crate::regular::check_regular;
+use crate::writer_sink::write_whole;
+use std::fs::{File, OpenFile, OpenOptions, Permissions};
+use std::io::{ErrorKind, Write};
+use std::os::unix::fs::PermissionsExt;
+use std::rt::Files;
+use std::{fs, io};
+
+// What the name of a new file has behind that of the file whose place it is to take. The first with
+// which no file is there is taken.
+const PART_ENDINGS: [&str; 9] = [
+    ".part", ".part2", ".part3", ".part4", ".part5", ".part6", ".part7", ".part8", ".part9",
+];
+
+// The bits of a mode that say who may read, write and run a file.
+const RIGHTS: u32 = 0o777;
+
+// A new file under a name of its own, the place that it is to take, and the rights that it is to
+// have, where a file stands in that place.
+#[derive(Drop)]
+struct Part<R: Files + Alloc> {
+    file: R::File,
+    name: String<R::A>,
+    place: String<R::A>,
+    rights: Option<Permissions>,
+}
+
+// The name of what is to be replaced: where a link stands, of what that leads to.
+fn place_of<R: Files + Alloc>(rt: &R, name: &str) -> io::Result<String<R::A>> {
+    match fs::symlink_metadata(rt, name) {
+        Ok(found) if found.is_symlink() => Ok(fs::canonicalize(rt, name)?.into_string()),
+        _ => Ok(String::from_str(rt.alloc(), name)?),
+    }
+}
+
+// The rights of a regular file, which has to be one that may be written.
+fn rights_of<R: Files>(files: &R, name: &str) -> io::Result<Permissions> {
+    let file = OpenOptions::new().write(true).open(files, name)?;
+    let found = file.metadata()?;
+    check_regular(&found)?;
+    Ok(Permissions::from_mode(found.permissions().mode() & RIGHTS))
+}
+
+// The rights of the file that stands in the place, or none where nothing stands there.
+fn rights_at<R: Files>(files: &R, place: &str) -> io::Result<Option<Permissions>> {
+    match fs::metadata(files, place) {
+        Ok(found) => {
+            check_regular(&found)?;
+            Ok(Some(rights_of(files, place)?))
+        }
+        Err(error) if error.kind() == ErrorKind::NotFound => Ok(None),
+        Err(error) => Err(error),
+    }
+}
+
+// A new file beside the place, and its name.
+fn new_beside<R: Files + Alloc>(rt: &R, place: &str) -> io::Result<(R::File, String<R::A>)> {
+    for ending in PART_ENDINGS {
+        let mut name = String::from_str(rt.alloc(), place)?;
+        name.push_str(ending)?;
+        match File::create_new(rt, name.as_str()) {
+            Ok(file) => return Ok((file, name)),
+            Err(error) if error.kind() == ErrorKind::AlreadyExists => {}
+            Err(error) => return Err(error),
+        }
+    }
+    Err(io::Error::from(ErrorKind::AlreadyExists))
+}
+
+// All that is done before a byte is written. Where it fails, no file is there that wasn't before.
+fn begin_part<R: Files + Alloc>(rt: &R, name: &str) -> io::Result<Part<R>> {
+    let place = place_of(rt, name)?;
+    let rights = rights_at(rt, place.as_str())?;
+    let (file, name) = new_beside(rt, place.as_str())?;
+    Ok(Part {
+        file,
+        name,
+        place,
+        rights,
+    })
+}
+
+// Puts the bytes into a new file, which has its rights before the first of them.
+fn fill<F: OpenFile + Write + Drop>(
+    mut file: F,
+    rights: Option<Permissions>,
+    bytes: &[u8],
+) -> io::Result<()> {
+    if let Some(rights) = rights {
+        file.set_permissions(rights)?;
+    }
+    write_whole(&mut file, bytes)?;
+    file.sync_all()
+}
+
+// Fills the new file and moves it to its place, or removes it.
+fn finish_part<R: Files + Alloc>(rt: &R, part: Part<R>, bytes: &[u8]) -> io::Result<()> {
+    let mut outcome = fill(part.file, part.rights, bytes);
+    if outcome.is_ok() {
+        outcome = fs::rename(rt, part.name.as_str(), part.place.as_str());
+    }
+    if outcome.is_err() {
+        let _ = fs::remove_file(rt, part.name.as_str());
+    }
+    outcome
+}
+
+// What a write returns where the system has an error before a byte is written.
+fn fault_before(error: &io::Error) -> FileFault
+    ensures { (result ≡ FileFault.Failed) ⊎ (result ≡ FileFault.NoMemory) }
+{
+    if error.kind() == ErrorKind::OutOfMemory {
+        return FileFault::NoMemory;
+    }
+    FileFault::Failed
+}
+
+/// Puts the bytes into the place of the regular file of this name, or where nothing stands.
+pub(crate) fn replace_file<R: Files + Alloc>(
+    rt: &R,
+    name: &str,
+    bytes: &[u8],
+) -> Result<(), FileFault>
+    ensures { IfErr result (λ e. (e ≡ FileFault.Failed) ⊎ (e ≡ FileFault.NoMemory)) }
+{
+    let part = match begin_part(rt, name) {
+        Ok(part) => part,
+        Err(error) => return Err(fault_before(&error)),
+    };
+    match finish_part(rt, part, bytes) {
+        Ok(()) => Ok(()),
+        Err(_) => Err(FileFault::Failed),
+    }
+}

@@ -1,0 +1,47 @@
+-- What comes of OPEN.
+use Rattle.std.specs.Prelude.{ℕ, List, Option, Some, None, Result, Ok, Err}
+use Rattle.std.specs.Option.{option_or}
+use Rattle.sql_parse.specs.Trees.{QueryTree}
+use Rattle.sql_parse.specs.Canonical.{canonical_query}
+use Rattle.db_catalog.specs.Database.{DatabaseState}
+use Rattle.sql_bind.specs.declared.fault.BindFault.{BindFault}
+use Rattle.sql_bind.specs.Binding.{bind_fault, block_of}
+use Rattle.cost_model.specs.Counts.{stats_of}
+use Rattle.bouquet_type.specs.Trees.{BouquetTree}
+use Rattle.bouquet_file.specs.declared.fault.OpenFault.{OpenFault}
+use Rattle.bouquet_file.specs.Opened.{file_of, json_value}
+use Rattle.session.specs.Bouquets.{product_refusal}
+use Rattle.session.specs.Compile.{taken_refusal, unless_refused}
+use Rattle.session.specs.Given.{at_file}
+use Rattle.session.specs.Printed.{open_line}
+use Rattle.session.specs.declared.refusal.Refusal.{Refusal}
+use Rattle.session.specs.declared.refusal.Refusal.TheVariants as refusal
+use Rattle.session.specs.Outcome.{Outcome, Prints, Refuses}
+use Rattle.session.specs.World.{World, named_in, with_bouquet}
+
+-- a query that can't be bound, or whose tables have too many combinations of rows
+abbrev pub query_refusal : DatabaseState → QueryTree → Option BindFault → Option Refusal
+query_refusal database query (Some fault) = Some (refusal.NotBound fault)
+query_refusal database query None = product_refusal database (block_of database query)
+
+-- why no file is asked for: the first of these that comes, the name before them
+abbrev pub open_refusal : World → (name : List ℕ) → QueryTree → Option Refusal
+open_refusal world name query =
+    option_or (taken_refusal name (named_in name world.bouquets)) (query_refusal world.database query (bind_fault world.database query))
+
+-- the bouquet that a file says, kept under the name with the text of the query; or the file is refused
+abbrev pub opened_kept : World → (name : List ℕ) → QueryTree → Result BouquetTree OpenFault → Outcome
+opened_kept world name query (Ok bouquet) =
+    Prints (open_line bouquet) 0 (with_bouquet world (record { name = name; query = canonical_query query; bouquet = bouquet }))
+opened_kept world name query (Err fault) = Refuses (refusal.NotOpened fault)
+
+-- of these bytes, for the query over the tables as they are
+abbrev pub open_bytes : World → (name : List ℕ) → QueryTree → (bytes : List ℕ) → Outcome
+open_bytes world name query bytes =
+    let block = block_of world.database query in
+    opened_kept world name query (file_of (json_value bytes) (canonical_query query) block (stats_of world.database.tables block))
+
+-- with the file that the folder gives under the name of the file
+abbrev pub open_outcome : World → (name file_name : List ℕ) → QueryTree → (file : Option (List ℕ)) → Outcome
+open_outcome world name file_name query file =
+    unless_refused (open_refusal world name query) (at_file file_name (open_bytes world name query) file)

@@ -1,0 +1,50 @@
+// A bouquet kept under a new name: what COMPILE and OPEN do at their end.
+ghost use Rattle.std.specs.Prelude.{◌≡◌, OnErr, IsErrAnd, None};
+ghost use Rattle.std.specs.Str.{IsUtf8};
+ghost use Rattle.query_block.specs.Blocks.{block_tree};
+ghost use Rattle.db_catalog.specs.Fits.{Fits};
+ghost use Rattle.bouquet_type.specs.Trees.{bouquet_tree};
+ghost use Rattle.session.specs.Counted.{HasCountsOf};
+ghost use Rattle.session.specs.Outcome.{Prints};
+ghost use Rattle.session.specs.Printed.{size_line};
+ghost use Rattle.session.specs.Returns.{ReturnsFree};
+ghost use Rattle.session.specs.States.{world_of};
+ghost use Rattle.session.specs.Stop.{IsFault};
+ghost use Rattle.session.specs.World.{NamedBouquet, named_in, with_bouquet};
+
+use crate::lines;
+use crate::named_bouquets::KeptBouquet;
+use crate::session::Session;
+use crate::stop::Stop;
+use bouquet_type::Bouquet;
+use sql_parse::Name;
+use std::alloc::Global;
+
+impl Session {
+    /// Keeps a bouquet under a name that none has, with the text of its query, and returns its size behind a label.
+    pub(crate) fn keep(
+        &mut self,
+        alloc: Global,
+        label: &str,
+        name: &Name,
+        query: Vec<u8>,
+        bouquet: Bouquet,
+    ) -> Result<Vec<u8>, Stop>
+        requires free { named_in name.now (world_of self.old).bouquets ≡ None }
+        requires fits { Fits self.old.database (block_tree bouquet.block) }
+        requires counts { HasCountsOf self.old.database.tables (bouquet_tree bouquet) }
+        requires text { IsUtf8 query.items }
+        ensures kept { let tree = bouquet_tree bouquet in
+            let named : NamedBouquet =
+            record { name = name.now; query = query.items; bouquet = tree } in
+            let next = with_bouquet (world_of self.old) named in
+            ReturnsFree (Prints (size_line label.now tree) 0 next) result (world_of self.new) }
+        ensures unchanged { OnErr result (self.new ≡ self.old) }
+        ensures no_fault { IsErrAnd result IsFault → ⊥ }
+    {
+        let text = lines::size_line(alloc, label, &bouquet)?;
+        let name = Vec::from_slice(alloc, name.bytes())?;
+        self.bouquets.add(name, KeptBouquet { query, bouquet })?;
+        Ok(text)
+    }
+}
