@@ -9,9 +9,9 @@ use Rattle.cost_model.specs.Costs.{cost_of}
 use Rattle.cost_model.proofs.Bounds.{cost-below}
 use Rattle.plan_space.specs.Pricing.{Pricing}
 use Rattle.plan_space.specs.Prices.{block_at, own_at}
-use Rattle.plan_space.specs.Roots.{root_of, Stands}
+use Rattle.plan_tree.specs.Roots.{root_of, Stands}
 use Rattle.plan_space.specs.Table.{sum_of}
-use Rattle.plan_space.proofs.Exchange.{stands, covers-below}
+use Rattle.plan_tree.proofs.Outermost.{stands, covers-below}
 use Rattle.plan_space.proofs.Filled.{power-to}
 use Rattle.plan_space.proofs.Sums.{costs-are-sums}
 use Rattle.anorexic.specs.declared.node.Node.{Node}

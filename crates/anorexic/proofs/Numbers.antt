@@ -6,9 +6,9 @@ use Rattle.std.proofs.lemmas.Bool.{cases_lt}
 use Rattle.query_block.specs.Blocks.{BlockTree}
 use Rattle.plan_tree.specs.Plans.{PlanTree, Scan, IndexScan, Nest, Hash, Merge, IndexLoop, covers_of}
 use Rattle.plan_tree.specs.Enumerated.{IsSubPlan}
-use Rattle.plan_space.specs.declared.roots.Root.{Root}
-use Rattle.plan_space.specs.declared.roots.Root.TheVariants as root
-use Rattle.plan_space.specs.Roots.{root_of}
+use Rattle.plan_tree.specs.declared.roots.Root.{Root}
+use Rattle.plan_tree.specs.declared.roots.Root.TheVariants as root
+use Rattle.plan_tree.specs.Roots.{root_of}
 use Rattle.anorexic.specs.declared.node.Node.{Node}
 use Rattle.anorexic.specs.Nodes.{node_at, AddsNode, IsRootAt, IsNumbered, KeepsNumbers, AreBefore, IsNode, NumbersPlan}
 

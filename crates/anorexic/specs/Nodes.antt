@@ -5,11 +5,11 @@ use Rattle.plan_tree.specs.Plans.{PlanTree, Scan, IndexScan, Nest, Hash, Merge, 
 use Rattle.plan_tree.specs.Enumerated.{IsSubPlan}
 use Rattle.cost_model.specs.Costing.{costing_tree}
 use Rattle.cost_model.specs.Costs.{cost_of}
-use Rattle.plan_space.specs.declared.roots.Root.{Root}
-use Rattle.plan_space.specs.declared.roots.Root.TheVariants as root
+use Rattle.plan_tree.specs.declared.roots.Root.{Root}
+use Rattle.plan_tree.specs.declared.roots.Root.TheVariants as root
 use Rattle.plan_space.specs.Pricing.{Pricing}
 use Rattle.plan_space.specs.Prices.{block_at}
-use Rattle.plan_space.specs.Roots.{root_of}
+use Rattle.plan_tree.specs.Roots.{root_of}
 use Rattle.anorexic.specs.declared.node.Node.{Node}
 
 -- the node of this number, from 0

@@ -1,5 +1,5 @@
 // The nodes of the candidates' plans. Equal parts of plans are one node.
-use plan_space::Root;
+use plan_tree::Root;
 
 /// A node over the nodes of its sides, which are told by their numbers; a side that isn't there is 0.
 #[derive(Clone, Copy, Debug, PartialEq, Eq)]

@@ -8,7 +8,8 @@ ghost use Rattle.plan_space.specs.Prices.{block_at, own_at};
 ghost use Rattle.anorexic.specs.Nodes.{node_at, side_costs_of, IsNumbered, AreNodes, AreNodeCosts, AreSideCostsFew};
 
 use crate::node::Node;
-use plan_space::{Prices, Root};
+use plan_space::Prices;
+use plan_tree::Root;
 
 // What the sides of a node cost.
 fn side_costs(node: &Node, costs: &[u128]) -> u128

@@ -5,8 +5,7 @@ ghost use Rattle.plan_tree.specs.Plans.{plan_tree, FitsSet};
 ghost use Rattle.anorexic.specs.Nodes.{node_at, AddsNode, NumbersPlan};
 
 use crate::node::Node;
-use plan_space::Root;
-use plan_tree::Plan;
+use plan_tree::{Plan, Root};
 use std::alloc::{AllocError, Global};
 
 const BUCKETS: usize = 256;

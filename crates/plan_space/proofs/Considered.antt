@@ -7,14 +7,14 @@ use Rattle.plan_tree.specs.Enumerated.{IsIndexed}
 use Rattle.std.specs.Cmp.{upto, tied_itself}
 use Rattle.std.specs.Ordering.{is_gt}
 use Rattle.std.proofs.lemmas.Cmp.{nat_list_cmp_total}
-use Rattle.plan_space.specs.declared.roots.Root.{Root}
-use Rattle.plan_space.specs.declared.roots.Root.TheVariants as root
+use Rattle.plan_tree.specs.declared.roots.Root.{Root}
+use Rattle.plan_tree.specs.declared.roots.Root.TheVariants as root
 use Rattle.plan_space.specs.declared.entry.Entry.{Entry}
-use Rattle.plan_space.specs.Roots.{Stands}
+use Rattle.plan_tree.specs.Roots.{Stands}
 use Rattle.plan_space.specs.Table.{entry_at, side_costs, offered, rank, NotLater, IsOffered}
 use Rattle.plan_space.specs.Pricing.{Pricing}
 use Rattle.plan_space.specs.Prices.{own_at, block_at}
-use Rattle.plan_space.proofs.Bits.{same-relation}
+use Rattle.plan_tree.proofs.Bits.{same-relation}
 use Rattle.plan_space.specs.Steps.{Group, Considers, IsByEdge, IsBeforeEdge, IsByLeft, IsBeforeLeft, IsLookUpBy, IsScanBy, ReadsRelation}
 
 pub not-later-then : (a b c : Entry) → NotLater a b → NotLater b c → NotLater a c

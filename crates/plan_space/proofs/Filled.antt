@@ -13,15 +13,15 @@ use Rattle.cost_model.specs.Costs.{cost_of}
 use Rattle.cost_model.specs.Best.{IsCheapest, IsBest}
 use Rattle.cost_model.specs.Optimal.{optimal_cost}
 use Rattle.cost_model.proofs.Least.{optimal-cheapest}
-use Rattle.plan_space.specs.declared.roots.Root.{Root}
-use Rattle.plan_space.specs.declared.roots.Root.TheVariants as root
+use Rattle.plan_tree.specs.declared.roots.Root.{Root}
+use Rattle.plan_tree.specs.declared.roots.Root.TheVariants as root
 use Rattle.plan_space.specs.declared.entry.Entry.{Entry}
-use Rattle.plan_space.specs.Roots.{Stands, IsSplit}
+use Rattle.plan_tree.specs.Roots.{Stands, IsSplit}
 use Rattle.plan_space.specs.Table.{OwnCost, sum_of, entry_at, side_costs, offered, NotLater, IsLeast, AreLeast, AreStanding, Follows}
 use Rattle.plan_space.specs.Pricing.{Pricing}
 use Rattle.plan_space.specs.Prices.{own_at, block_at}
 use Rattle.plan_space.specs.Steps.{Considers, ReadsRelation, IsBeforeLeft}
-use Rattle.plan_space.proofs.Bits.{whole-of}
+use Rattle.plan_tree.proofs.Bits.{whole-of}
 use Rattle.plan_space.proofs.Exchange.{best}
 use Rattle.plan_space.proofs.Sums.{costs-are-sums}
 use Rattle.plan_space.proofs.Considered.{not-later-then}

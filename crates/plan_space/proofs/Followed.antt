@@ -6,10 +6,10 @@ use Rattle.cost_model.specs.Costing.{costing_tree, IsCosting}
 use Rattle.cost_model.specs.Optimal.{optimal_cost}
 use Rattle.cost_model.proofs.Bounds.{cost-below}
 use Rattle.cost_model.proofs.Least.{optimal-cheapest}
-use Rattle.plan_space.specs.declared.roots.Root.{Root}
-use Rattle.plan_space.specs.declared.roots.Root.TheVariants as root
+use Rattle.plan_tree.specs.declared.roots.Root.{Root}
+use Rattle.plan_tree.specs.declared.roots.Root.TheVariants as root
 use Rattle.plan_space.specs.declared.entry.Entry.{Entry}
-use Rattle.plan_space.specs.Roots.{Stands, IsSplit}
+use Rattle.plan_tree.specs.Roots.{Stands, IsSplit}
 use Rattle.plan_space.specs.Table.{OwnCost, entry_at, AreLeast, Follows}
 use Rattle.plan_space.specs.Pricing.{Pricing}
 use Rattle.plan_space.specs.Prices.{own_at, block_at}

@@ -16,14 +16,14 @@ use Rattle.plan_tree.specs.Work.{nest_work, hash_work, merge_work, index_loop_wo
 use Rattle.cost_model.specs.Costing.{CostingTree}
 use Rattle.cost_model.specs.Cards.{scaled, kept_product, scaled_by_edges, card_of}
 use Rattle.cost_model.specs.Costs.{relation_stats, index_stats, scan_cost, index_scan_cost}
-use Rattle.plan_space.specs.declared.roots.Root.{Root}
-use Rattle.plan_space.specs.declared.roots.Root.TheVariants as root
+use Rattle.plan_tree.specs.declared.roots.Root.{Root}
+use Rattle.plan_tree.specs.declared.roots.Root.TheVariants as root
 use Rattle.plan_space.specs.declared.entry.Entry.{Entry}
-use Rattle.plan_space.specs.Roots.{Stands, IsSplit, IsCrossed}
+use Rattle.plan_tree.specs.Roots.{Stands, IsSplit, IsCrossed}
 use Rattle.plan_space.specs.Table.{OwnCost, entry_at, side_costs, offered, NotLater, IsLeast, AreLeast}
 use Rattle.plan_space.specs.Prices.{set_card, own_cost}
 use Rattle.plan_space.specs.Alike.{IsAlike}
-use Rattle.plan_space.proofs.Bits.{whole-of}
+use Rattle.plan_tree.proofs.Bits.{whole-of}
 use Rattle.plan_space.proofs.Exchange.{costs-no-more}
 
 -- ---- sides lie in their set, and an edge between them is inside it

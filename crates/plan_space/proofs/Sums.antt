@@ -9,7 +9,7 @@ use Rattle.cost_model.specs.Costs.{relation_stats, index_stats, out_card, scan_c
 use Rattle.cost_model.proofs.Cards.{card-of-set}
 use Rattle.plan_space.specs.Table.{sum_of}
 use Rattle.plan_space.specs.Prices.{set_card, own_cost}
-use Rattle.plan_space.proofs.Bits.{leaf-is-bit, apart-sets, sum-of-sides}
+use Rattle.plan_tree.proofs.Bits.{leaf-is-bit, apart-sets, sum-of-sides}
 
 out-card : (costing : CostingTree) (point : List ℕ) (p : PlanTree) → out_card costing p point ≡ set_card costing point (covers_of p)
 out-card costing point p = card-of-set costing (has_leaf p) (set_of (covers_of p)) point (leaf-is-bit p)

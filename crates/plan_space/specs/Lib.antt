@@ -1,4 +1,3 @@
-pub mod Roots
 pub mod Table
 pub mod Pricing
 pub mod Prices

@@ -8,7 +8,7 @@ use Rattle.cost_model.specs.Costing.{CostingTree, costing_tree}
 use Rattle.cost_model.specs.Cards.{card_of}
 use Rattle.plan_tree.specs.Sets.{set_of}
 use Rattle.cost_model.specs.Costs.{relation_stats, index_stats, scan_cost, index_scan_cost, candidate_card}
-use Rattle.plan_space.specs.declared.roots.Root.TheVariants as root
+use Rattle.plan_tree.specs.declared.roots.Root.TheVariants as root
 use Rattle.plan_space.specs.Table.{OwnCost}
 use Rattle.plan_space.specs.Pricing.{Pricing}
 

@@ -5,10 +5,10 @@ use Rattle.std.specs.Ordering.{nat_cmp, is_gt}
 use Rattle.std.specs.Cmp.Lexicographic.{slice_cmp}
 use Rattle.query_block.specs.Blocks.{BlockTree}
 use Rattle.plan_tree.specs.Plans.{PlanTree, Scan, IndexScan, Nest, Hash, Merge, IndexLoop, covers_of}
-use Rattle.plan_space.specs.declared.roots.Root.{Root}
-use Rattle.plan_space.specs.declared.roots.Root.TheVariants as root
+use Rattle.plan_tree.specs.declared.roots.Root.{Root}
+use Rattle.plan_tree.specs.declared.roots.Root.TheVariants as root
 use Rattle.plan_space.specs.declared.entry.Entry.{Entry}
-use Rattle.plan_space.specs.Roots.{root_numbers, Stands}
+use Rattle.plan_tree.specs.Roots.{root_numbers, Stands}
 
 abbrev pub OwnCost : Type 0
 OwnCost = Root → (set : ℕ) → ℕ

@@ -7,7 +7,7 @@ ghost use Rattle.plan_space.specs.Prices.{block_at};
 ghost use Rattle.plan_space.specs.Alike.{AreInside, AreInsideSets, IsAlikePlace};
 
 use crate::prices::Prices;
-use crate::sets::has;
+use plan_tree::is_in_set;
 use query_block::{Block, Edge};
 use sql_values::MAX_AXES;
 
@@ -17,7 +17,7 @@ fn is_inside(set: u8, edge: &Edge) -> bool
     requires right { edge.now.right < 8 }
     ensures { result ≡ is_inside (set_of set) edge.now }
 {
-    has(set, edge.left) && has(set, edge.right)
+    is_in_set(set, edge.left) && is_in_set(set, edge.right)
 }
 
 // For each edge, whether it is inside a set.

@@ -5,8 +5,8 @@ ghost use Rattle.plan_tree.specs.Work.{bits};
 ghost use Rattle.plan_tree.specs.Enumerated.{column_on, edge_at};
 ghost use Rattle.cost_model.specs.Costing.{costing_tree, IsCosting};
 ghost use Rattle.cost_model.specs.Costs.{index_stats, candidate_card};
-ghost use Rattle.plan_space.specs.declared.roots.Root.TheVariants.{Scan, IndexScan, Nest, Hash, Merge, IndexLoop};
-ghost use Rattle.plan_space.specs.Roots.{IsSplit};
+ghost use Rattle.plan_tree.specs.declared.roots.Root.TheVariants.{Scan, IndexScan, Nest, Hash, Merge, IndexLoop};
+ghost use Rattle.plan_tree.specs.Roots.{IsSplit};
 ghost use Rattle.plan_space.specs.Prices.{set_card, own_at};
 
 use crate::arithmetic::{hash_cost, index_loop_cost, merge_cost, nest_cost};

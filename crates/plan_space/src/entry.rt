@@ -2,10 +2,10 @@
 ghost use Rattle.std.specs.Prelude.{◌≡◌, ◌⊎◌};
 ghost use Rattle.std.specs.Ordering.{nat_cmp};
 ghost use Rattle.std.specs.Cmp.Lexicographic.{slice_cmp};
-ghost use Rattle.plan_space.specs.Roots.{root_numbers};
+ghost use Rattle.plan_tree.specs.Roots.{root_numbers};
 ghost use Rattle.plan_space.specs.Table.{NotLater};
 
-use crate::roots::Root;
+use plan_tree::Root;
 use std::cmp::Ordering;
 
 /// The cost of a plan and its outermost node. The plans of the sides stand in the entries of their sets.

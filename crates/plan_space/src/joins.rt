@@ -2,10 +2,8 @@
 // nested loop and the joins by each edge that crosses it.
 ghost use Rattle.std.specs.Prelude.{◌≡◌, ◌↔◌, ◌⊎◌, ◌-◌, ◌^◌, ◌<◌, ◌≤◌, IsTrue, bit_and, length};
 ghost use Rattle.query_block.specs.Blocks.{block_tree, relation_at};
-ghost use Rattle.plan_tree.specs.Enumerated.{column_on, edge_at, IsIndexed};
-ghost use Rattle.plan_space.specs.declared.roots.Root.TheVariants.{Nest, Hash, Merge};
-ghost use Rattle.plan_tree.specs.Sets.{is_between, set_of};
-ghost use Rattle.plan_space.specs.Roots.{IsCrossed, IsSplit};
+ghost use Rattle.plan_tree.specs.declared.roots.Root.TheVariants.{Nest, Hash, Merge};
+ghost use Rattle.plan_tree.specs.Roots.{IsCrossed, IsSplit};
 ghost use Rattle.plan_space.specs.Table.{IsOffered};
 ghost use Rattle.plan_space.specs.Prices.{own_at, block_at};
 ghost use Rattle.plan_space.specs.Steps.{Considers, IsFilledBelow, IsByEdge, IsBeforeEdge, IsByLeft, IsBeforeLeft, IsLookUpBy};
@@ -13,50 +11,8 @@ ghost use Rattle.plan_space.specs.Steps.{Considers, IsFilledBelow, IsByEdge, IsB
 use crate::costs;
 use crate::entry::Entry;
 use crate::prices::Prices;
-use crate::roots::Root;
-use crate::sets::has;
 use crate::steps::{both_sides, consider, least_sides, left_side};
-use query_block::{Block, Edge};
-
-// Whether an edge has one of its relations on each side.
-fn crosses(edge: &Edge, left: u8, right: u8) -> bool
-    requires left { edge.now.left < 8 }
-    requires right { edge.now.right < 8 }
-    ensures { result ≡ is_between (set_of left) (set_of right) edge.now }
-{
-    has(left, edge.left) && has(right, edge.right) || has(left, edge.right) && has(right, edge.left)
-}
-
-// Whether an edge of the block crosses two sides.
-fn is_crossed(block: &Block, edge: u8, left: u8, right: u8) -> bool
-    requires { edge < length block.now.edges }
-    ensures { IsTrue result ↔ IsCrossed block.now.edges edge left right }
-{
-    crosses(&block.edges()[edge as usize], left, right)
-}
-
-/// The column of one of its relations that an edge of the block compares.
-pub(crate) fn column_on(block: &Block, edge: u8, relation: u8) -> u8
-    requires { edge < length block.now.edges }
-    ensures { result ≡ column_on (edge_at block.now.edges edge) relation }
-{
-    let edge = block.edges()[edge as usize];
-    if relation == edge.left {
-        edge.left_column
-    } else {
-        edge.right_column
-    }
-}
-
-// Whether a column of a relation is indexed.
-fn is_indexed(block: &Block, relation: u8, column: u8) -> bool
-    requires { relation < length block.now.relations }
-    ensures { IsTrue result
-        ↔ IsIndexed (relation_at (block_tree block.now).relations relation) column }
-{
-    let indexes = block.relations()[relation as usize].indexes.as_slice();
-    indexes.contains(&column)
-}
+use plan_tree::{Root, column_of_edge, is_crossed, is_indexed};
 
 // A nested loop of the two sides of a set.
 fn by_nest(prices: &Prices<'_>, table: &[Entry; 64], set: u8, left: u8, start: Entry) -> Entry
@@ -111,7 +67,7 @@ fn by_relation(
     ensures { Considers prices.now table.now set (IsLookUpBy edge left) start result }
 {
     let block = prices.block();
-    let column = column_on(block, edge, relation);
+    let column = column_of_edge(block, edge, relation);
     if !is_indexed(block, relation, column) {
         return start;
     }

@@ -2,7 +2,7 @@
 ghost use Rattle.std.specs.Prelude.{◌≡◌, ◌↔◌, ◌^◌, ◌<◌, ◌≤◌, IsTrue, length, take};
 ghost use Rattle.query_block.specs.Blocks.{block_tree, relation_at};
 ghost use Rattle.plan_tree.specs.Enumerated.{IsIndexed, IsScannable};
-ghost use Rattle.plan_space.specs.declared.roots.Root.TheVariants.{IndexScan};
+ghost use Rattle.plan_tree.specs.declared.roots.Root.TheVariants.{IndexScan};
 ghost use Rattle.plan_space.specs.Table.{IsOffered};
 ghost use Rattle.plan_space.specs.Prices.{own_at, block_at};
 ghost use Rattle.plan_space.specs.Steps.{Considers, IsFilledBelow, ReadsRelation, IsScanBy};
@@ -10,8 +10,8 @@ ghost use Rattle.plan_space.specs.Steps.{Considers, IsFilledBelow, ReadsRelation
 use crate::costs;
 use crate::entry::Entry;
 use crate::prices::Prices;
-use crate::roots::Root;
 use crate::steps::consider;
+use plan_tree::Root;
 
 // Whether some conjunct of a relation's filter is usable on an indexed column: its matches are counted then.
 fn is_scannable(prices: &Prices<'_>, relation: u8, column: u8) -> bool

@@ -14,7 +14,6 @@ mod joins;
 mod leaves;
 mod own;
 mod prices;
-mod roots;
 mod search;
 mod sets;
 mod steps;
@@ -22,5 +21,4 @@ mod table;
 
 pub use all_points::{BestPlans, best_at_all_points};
 pub use prices::Prices;
-pub use roots::Root;
 pub use search::best;

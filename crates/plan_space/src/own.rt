@@ -1,12 +1,11 @@
 // What any node costs by itself, whichever kind it is of.
 ghost use Rattle.std.specs.Prelude.{◌≡◌, ◌^◌, ◌<◌, ◌≤◌};
-ghost use Rattle.plan_space.specs.Roots.{Stands};
+ghost use Rattle.plan_tree.specs.Roots.{Stands};
 ghost use Rattle.plan_space.specs.Prices.{own_at, block_at};
 
 use crate::costs;
-use crate::joins::column_on;
 use crate::prices::Prices;
-use crate::roots::Root;
+use plan_tree::{Root, column_of_edge};
 
 impl Prices<'_> {
     /// What a node costs by itself over a set of relations, bit r for relation r: without what the plans of its sides
@@ -30,7 +29,7 @@ impl Prices<'_> {
                 costs::merge(self, edge, left, set, candidates)
             }
             Root::IndexLoop(edge, left, relation) => {
-                let column = column_on(self.block(), edge, relation);
+                let column = column_of_edge(self.block(), edge, relation);
                 costs::index_loop(self, edge, left, relation, column, set)
             }
         }

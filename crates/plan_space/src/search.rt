@@ -11,12 +11,11 @@ ghost use Rattle.plan_space.specs.Table.{Follows, AreStanding};
 use crate::alike::edges_inside_sets;
 use crate::entry::Entry;
 use crate::prices::Prices;
-use crate::roots::Root;
 use crate::sets::set_of_all;
 use crate::table::filled;
 use cost_model::Costing;
 use ess_grid::Point;
-use plan_tree::Plan;
+use plan_tree::{Plan, Root};
 use query_block::Block;
 use std::alloc::{AllocError, Global};
 

@@ -1,14 +1,14 @@
 // One node is considered for the entry of a set; what the plans of its sides cost.
 ghost use Rattle.std.specs.Prelude.{◌≡◌, ◌+◌, ◌-◌, ◌*◌, ◌^◌, ◌<◌, ◌≤◌};
-ghost use Rattle.plan_space.specs.declared.roots.Root.{Root};
+ghost use Rattle.plan_tree.specs.declared.roots.Root.{Root};
 ghost use Rattle.plan_space.specs.Table.{entry_at, side_costs, IsOffered};
 ghost use Rattle.plan_space.specs.Prices.{own_at, block_at};
-ghost use Rattle.plan_space.specs.Roots.{IsSplit, Stands};
+ghost use Rattle.plan_tree.specs.Roots.{IsSplit, Stands};
 ghost use Rattle.plan_space.specs.Steps.{Considers, IsFilledBelow, IsByLeft};
 
 use crate::entry::{Entry, keep};
 use crate::prices::Prices;
-use crate::roots::Root;
+use plan_tree::Root;
 
 /// Of what was found and a node at this cost, what is kept. Prices, table and set say what the cost is of.
 pub(crate) fn consider(

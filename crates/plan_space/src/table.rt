@@ -2,7 +2,7 @@
 // table is filled upwards. An entry that was found at an earlier point, where each edge inside the set has the same level, is
 // taken from there.
 ghost use Rattle.std.specs.Prelude.{◌≡◌, ◌+◌, ◌^◌, ◌<◌, ◌≤◌, length};
-ghost use Rattle.plan_space.specs.Roots.{IsSplit};
+ghost use Rattle.plan_tree.specs.Roots.{IsSplit};
 ghost use Rattle.plan_space.specs.Table.{IsOffered, IsLeast, AreLeast};
 ghost use Rattle.plan_space.specs.Prices.{own_at, block_at};
 ghost use Rattle.plan_space.specs.Steps.{IsFilledBelow};
@@ -14,9 +14,8 @@ use crate::entry::Entry;
 use crate::joins::joins;
 use crate::leaves::readings;
 use crate::prices::Prices;
-use crate::roots::Root;
-use crate::sets::set_of_one;
 use crate::steps::{both_sides, entry_at};
+use plan_tree::{Root, set_of_one};
 use sql_values::MAX_AXES;
 
 // A nested loop over one split of a set: something to begin with.

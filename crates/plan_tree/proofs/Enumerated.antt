@@ -1,269 +1,234 @@
 -- The list of all plans of a block has each plan, and nothing else.
-use Rattle.std.proofs.Common.{◌≡◌, ◌↔◌, inl, inr, ℕ, zero, suc, ◌+◌, ◌<◌, ◌≤◌, max, List, [], ◌∷◌, ◌++◌, length, map, filter, nat_eq, refl, subst, arith}
-use Rattle.std.specs.Prelude.{Bool, true, false, Contains}
-use Rattle.std.specs.List.{flat_map, list_all, list_any, range_with_len}
-use Rattle.std.proofs.lemmas.Bool.{cases_Bool}
-use Rattle.std.proofs.lemmas.Bool.Decides.{nat_tests}
-use Rattle.query_block.specs.Blocks.{BlockTree, relation_at}
-use Rattle.plan_tree.specs.Plans.{PlanTree, Scan, IndexScan, Nest, Hash, Merge, IndexLoop, leaves_of, has_leaf}
-use Rattle.plan_tree.specs.Enumerated.{edge_at, has_usable, AreApart, Crosses, IsLookUp, IsSubPlan, IsPlan}
-use Rattle.plan_tree.specs.Sets.{is_between}
-use Rattle.plan_tree.specs.AllPlans.{readings, crossing, joins, has_index, look_ups, sub_plans, plans_of}
-use Rattle.plan_tree.proofs.Members.{IsIn, in-contained, contained-in, in-left, in-right, of-either, in-map, of-map, in-filter, of-filter, in-flat, of-flat, in-range, of-range, any-in, of-any, all-in, of-all}
-use Rattle.plan_tree.proofs.LeafSets.{apart-sets, alone, size_of, size-few, leaf-size, both-sizes}
+use Rattle.std.proofs.Common.{◌≡◌, ◌↔◌, inl, inr, ℕ, zero, suc, ◌-◌, ◌^◌, ◌<◌, List, [], ◌∷◌, ◌++◌, length, map, bit_and, bit_or, refl, sym, ap, ap₂, subst, ◌∙◌, arith}
+use Rattle.std.specs.Prelude.{Contains, slice_index_or}
+use Rattle.std.proofs.Math.Seq.{get_or-append_seam}
+use Rattle.std.proofs.lemmas.Bool.{cases_lt}
+use Rattle.std.proofs.lemmas.List.{get_or_append_left, length-append}
+use Rattle.std.proofs.lemmas.Nat.{pow_pos}
+use Rattle.query_block.specs.Blocks.{BlockTree}
+use Rattle.plan_tree.specs.declared.roots.Root.{Root}
+use Rattle.plan_tree.specs.declared.roots.Root.TheVariants as root
+use Rattle.plan_tree.specs.Plans.{PlanTree, Scan, IndexScan, Nest, Hash, Merge, IndexLoop, covers_of}
+use Rattle.plan_tree.specs.Enumerated.{edge_at, AreApart, Crosses, IsLookUp, IsSubPlan, IsPlan}
+use Rattle.plan_tree.specs.Sets.{set_of, is_between}
+use Rattle.plan_tree.specs.Roots.{root_of, IsSplit, IsCrossed, Stands}
+use Rattle.plan_tree.specs.AllPlans.{roots_of, pairs_by, trees_of, plans_at, plans_over, plans_below, plans_of}
+use Rattle.plan_tree.proofs.Members.{IsIn, in-contained, contained-in, in-map, of-map, in-flat, of-flat}
+use Rattle.plan_tree.proofs.Bits.{crosses-sets, covers-some, apart-sets, sets-apart, apart-relation, relation-apart, sum-of-sides, split-of, whole-of, covers-all, all-covered}
+use Rattle.plan_tree.proofs.Outermost.{split, stands, covers-below}
+use Rattle.plan_tree.proofs.RootLists.{of-roots, in-roots}
 
--- ---- an indexed column is among the indexes
+-- ---- the plans of one set are found in the lists of all smaller ones
 
-indexed-in : (indexes : List ℕ) (column : ℕ) → list_any (λ other. nat_eq other column) indexes ≡ true → IsIn column indexes
-indexed-in indexes column indexed =
-    let found = of-any (λ other. nat_eq other column) indexes indexed in
-    let same : found.0 ≡ column = grind (arith, nat_tests, found.2) in
-    subst (λ one. IsIn one indexes) same found.1
+abbrev pub plans_for : BlockTree → (set : ℕ) → List PlanTree
+plans_for block set = plans_over block (plans_below block set) set
 
-in-indexed : (indexes : List ℕ) (column : ℕ) → IsIn column indexes → list_any (λ other. nat_eq other column) indexes ≡ true
-in-indexed indexes column is = any-in (λ other. nat_eq other column) column indexes is (grind (arith, nat_tests))
+length-below : (block : BlockTree) (end : ℕ) → length (plans_below block end) ≡ end
+unfolding plans_below
+length-below block zero = refl
+length-below block (suc last) = omega (arith, length-append (plans_below block last) (plans_for block last ∷ []), length-below block last)
 
--- ---- what is listed is a plan
-
-of-readings : (block : BlockTree) (relation : ℕ) (p : PlanTree) → relation < length block.relations → IsIn p (readings block relation) → IsSubPlan block p
-of-readings block relation p below (inl same) = subst (IsSubPlan block) same below
-of-readings block relation p below (inr more) =
-    let tree = relation_at block.relations relation in
-    let found = of-map (IndexScan relation) p _ more in
-    let column = found.0 in
-    let kept = of-filter (has_usable tree) column tree.indexes found.1 in
-    let there : IsSubPlan block (IndexScan relation column) =
-    record { exists = below; indexed = in-indexed tree.indexes column kept.0; usable = kept.1 } in
-    subst (IsSubPlan block) found.2 there
-
-of-crossing : (block : BlockTree) (left right : PlanTree) (edge : ℕ) → IsIn edge (crossing block left right) → Crosses block.edges edge left right
-of-crossing block left right edge is =
-    let found = of-filter (λ one. is_between (has_leaf left) (has_leaf right) (edge_at block.edges one)) edge (range_with_len 0 (length block.edges)) is in
-    let range = of-range edge 0 (length block.edges) found.0 in
-    (omega (arith, range.1), found.1)
-
-in-crossing : (block : BlockTree) (left right : PlanTree) (edge : ℕ) → Crosses block.edges edge left right → IsIn edge (crossing block left right)
-in-crossing block left right edge crossed =
-    in-filter (λ one. is_between (has_leaf left) (has_leaf right) (edge_at block.edges one)) edge (range_with_len 0 (length block.edges))
-    (in-range edge 0 (length block.edges) (omega arith) (omega (arith, crossed.0))) crossed.1
-
-abbrev by_edge : (left right : PlanTree) → ℕ → List PlanTree
-by_edge left right edge = Hash edge left right ∷ Merge edge left right ∷ []
-
-of-edge : (block : BlockTree) (left right p : PlanTree) (edge : ℕ) → IsSubPlan block left → IsSubPlan block right → AreApart left right → Crosses block.edges edge left right
-    → IsIn p (by_edge left right edge) → IsSubPlan block p
-of-edge block left right p edge plan plan' apart crossed (inl same) =
-    let hash : IsSubPlan block (Hash edge left right) = (plan, plan', apart, crossed) in
-    subst (IsSubPlan block) same hash
-of-edge block left right p edge plan plan' apart crossed (inr (inl same)) =
-    let merge : IsSubPlan block (Merge edge left right) = (plan, plan', apart, crossed) in
-    subst (IsSubPlan block) same merge
-of-edge block left right p edge plan plan' apart crossed (inr (inr none)) = absurd none
-
-abbrev nodes : BlockTree → (left right : PlanTree) → List PlanTree
-nodes block left right = Nest left right ∷ flat_map (by_edge left right) (crossing block left right)
-
-of-nodes : (block : BlockTree) (left right p : PlanTree) → IsSubPlan block left → IsSubPlan block right → AreApart left right → IsIn p (nodes block left right) → IsSubPlan block p
-of-nodes block left right p plan plan' apart (inl same) =
-    let nest : IsSubPlan block (Nest left right) = (plan, plan', apart) in
-    subst (IsSubPlan block) same nest
-of-nodes block left right p plan plan' apart (inr more) =
-    let found = of-flat (by_edge left right) p (crossing block left right) more in
-    of-edge block left right p found.0 plan plan' apart (of-crossing block left right found.0 found.1) found.2
-
-of-joins : (block : BlockTree) (left right p : PlanTree) → IsSubPlan block left → IsSubPlan block right → IsIn p (joins block left right) → IsSubPlan block p
-of-joins block left right p plan plan' is =
-    elim (cases_Bool (list_any (has_leaf right) (leaves_of left))) [
-      | inl shared ↦ absurd (rw shared at is)
-      | inr apart ↦ of-nodes block left right p plan plan' apart (rw apart at is)
+pub looked-up : (block : BlockTree) (end set : ℕ) → set < end → plans_at (plans_below block end) set ≡ plans_for block set
+unfolding plans_below
+looked-up block zero set below = absurd (omega (arith, below))
+looked-up block (suc last) set below =
+    let smaller = plans_below block last in
+    elim (cases_lt set last) [
+      | inl less ↦
+          let within : set < length smaller = omega (arith, less, length-below block last) in
+          get_or_append_left smaller (plans_for block last ∷ []) [] set within ∙ looked-up block last set less
+      | inr past ↦
+          let same : set ≡ last = omega (arith, below, past) in
+          let end : set ≡ length smaller = omega (arith, same, length-below block last) in
+          ap (λ i. slice_index_or (smaller ++ plans_for block last ∷ []) i []) end ∙ get_or-append_seam smaller (plans_for block last) [] []
+          ∙ ap (plans_for block) (sym same)
     ]
 
-of-loops : (block : BlockTree) (left p : PlanTree) (relation : ℕ) → IsSubPlan block left → relation < length block.relations → has_leaf left relation ≡ false
-    → IsIn p (map (λ edge. IndexLoop edge left relation) (filter (has_index block relation) (crossing block left (Scan relation)))) → IsSubPlan block p
-of-loops block left p relation plan below apart is =
-    let found = of-map (λ edge. IndexLoop edge left relation) p (filter (has_index block relation) (crossing block left (Scan relation))) is in
-    let kept = of-filter (has_index block relation) found.0 (crossing block left (Scan relation)) found.1 in
-    let there : IsSubPlan block (IndexLoop found.0 left relation) = (
-      plan,
-      record { exists = below; apart = apart; crosses = of-crossing block left (Scan relation) found.0 kept.0; indexed = kept.1 },
-    ) in
-    subst (IsSubPlan block) found.2 there
+-- ---- pairs of a left and a right plan
 
-of-look_ups : (block : BlockTree) (left p : PlanTree) (relation : ℕ) → IsSubPlan block left → relation < length block.relations → IsIn p (look_ups block left relation) → IsSubPlan block p
-of-look_ups block left p relation plan below is =
-    elim (cases_Bool (has_leaf left relation)) [
-      | inl there ↦ absurd (rw there at is)
-      | inr apart ↦ of-loops block left p relation plan below apart (rw apart at is)
-    ]
+pub of-pairs : (join : PlanTree → PlanTree → PlanTree) (lefts rights : List PlanTree) (p : PlanTree) → IsIn p (pairs_by join lefts rights)
+    → (l : PlanTree) × (r : PlanTree) × IsIn l lefts × IsIn r rights × (join l r ≡ p)
+of-pairs join lefts rights p is =
+    let outer = of-flat (λ l. map (join l) rights) p lefts is in
+    let inner = of-map (join outer.0) p rights outer.2 in
+    (outer.0, inner.0, outer.1, inner.1, inner.2)
 
-abbrev all_relations : BlockTree → List ℕ
-all_relations block = range_with_len 0 (length block.relations)
+in-pairs : (join : PlanTree → PlanTree → PlanTree) (l r : PlanTree) (lefts rights : List PlanTree) → IsIn l lefts → IsIn r rights
+    → IsIn (join l r) (pairs_by join lefts rights)
+in-pairs join l r lefts rights left right = in-flat (λ one. map (join one) rights) l (join l r) lefts left (in-map (join l) r rights right)
 
-below-all : (block : BlockTree) (relation : ℕ) → IsIn relation (all_relations block) → relation < length block.relations
-below-all block relation is =
-    let range = of-range relation 0 (length block.relations) is in
-    omega (arith, range.1)
+-- ---- what is listed is a plan of its set
 
-all-below : (block : BlockTree) (relation : ℕ) → relation < length block.relations → IsIn relation (all_relations block)
-all-below block relation below = in-range relation 0 (length block.relations) (omega arith) (omega (arith, below))
+abbrev pub AreOf : BlockTree → (set : ℕ) → List PlanTree → Type 0
+AreOf block set plans = (p : PlanTree) → IsIn p plans → IsSubPlan block p × (covers_of p ≡ set)
 
--- what is joined to one plan
-abbrev joined : BlockTree → List PlanTree → PlanTree → List PlanTree
-joined block sides left = flat_map (joins block left) sides ++ flat_map (look_ups block left) (all_relations block)
+-- a plan of the set with this outermost node
+pub record IsTreeOf (block : BlockTree) (set : ℕ) (node : Root) (p : PlanTree) : Type 0 where
+  pub plan : IsSubPlan block p
+  pub covers : covers_of p ≡ set
+  pub outermost : root_of p ≡ node
 
-listed : (block : BlockTree) (depth : ℕ) (p : PlanTree) → IsIn p (sub_plans block depth) → IsSubPlan block p
-unfolding sub_plans
-listed block zero p is = absurd is
-listed block (suc depth) p is =
-    let sides = sub_plans block depth in
-    elim (of-either p (flat_map (readings block) (all_relations block)) (flat_map (joined block sides) sides) is) [
-      | inl leaf ↦
-          let found = of-flat (readings block) p (all_relations block) leaf in
-          of-readings block found.0 p (below-all block found.0 found.1) found.2
-      | inr join ↦
-          let found = of-flat (joined block sides) p sides join in
-          let left = listed block depth found.0 found.1 in
-          elim (of-either p (flat_map (joins block found.0) sides) (flat_map (look_ups block found.0) (all_relations block)) found.2) [
-            | inl both ↦
-                let other = of-flat (joins block found.0) p sides both in
-                of-joins block found.0 other.0 p left (listed block depth other.0 other.1) other.2
-            | inr loop ↦
-                let other = of-flat (look_ups block found.0) p (all_relations block) loop in
-                of-look_ups block found.0 p other.0 left (below-all block other.0 other.1) other.2
-          ]
-    ]
+record AreSides (block : BlockTree) (set left : ℕ) (l r : PlanTree) : Type 0 where
+  one : IsSubPlan block l
+  other : IsSubPlan block r
+  is_left : covers_of l ≡ left
+  is_right : covers_of r ≡ set - left
+  apart : AreApart l r
+  whole : bit_or (covers_of l) (covers_of r) ≡ set
 
--- ---- a plan is listed where it isn't too deep
+abbrev pub SidesAreOf : BlockTree → (set : ℕ) → (plans : ℕ → List PlanTree) → Type 0
+SidesAreOf block set plans = (side : ℕ) → side < set → AreOf block side (plans side)
 
-abbrev depth_of : PlanTree → ℕ
-depth_of (Scan relation) = 1
-depth_of (IndexScan relation column) = 1
-depth_of (Nest left right) = 1 + max (depth_of left) (depth_of right)
-depth_of (Hash edge left right) = 1 + max (depth_of left) (depth_of right)
-depth_of (Merge edge left right) = 1 + max (depth_of left) (depth_of right)
-depth_of (IndexLoop edge left relation) = 1 + depth_of left
+pub right-less : (left set : ℕ) → IsSplit left set → set - left < set
+right-less left set split = omega (arith, split.some, split.less)
 
-deep : (p : PlanTree) → 1 ≤ depth_of p
-deep (Scan relation) = omega arith
-deep (IndexScan relation column) = omega arith
-deep (Nest left right) = omega arith
-deep (Hash edge left right) = omega arith
-deep (Merge edge left right) = omega arith
-deep (IndexLoop edge left relation) = omega arith
+module _ (block : BlockTree) (plans : ℕ → List PlanTree) (set : ℕ) (sides : SidesAreOf block set plans) where
+  sides-of : (left : ℕ) (l r : PlanTree) → IsSplit left set
+      → IsIn l (plans left) → IsIn r (plans (set - left)) → AreSides block set left l r
+  sides-of left l r split in_left in_right =
+      let (one, is_left) = sides left split.less l in_left in
+      let (other, is_right) = sides (set - left) (right-less left set split) r in_right in
+      record {
+        one = one;
+        other = other;
+        is_left = is_left;
+        is_right = is_right;
+        apart = sets-apart l r (ap₂ bit_and is_left is_right ∙ split.apart);
+        whole = ap₂ bit_or is_left is_right ∙ whole-of left set (set - left) split refl;
+      }
 
-in-joins : (block : BlockTree) (left right p : PlanTree) → AreApart left right → IsIn p (nodes block left right) → IsIn p (joins block left right)
-in-joins block left right p apart is = rw apart is
+  crosses-of : (edge left : ℕ) (l r : PlanTree) → covers_of l ≡ left → covers_of r ≡ set - left
+      → IsCrossed block.edges edge left (set - left) → Crosses block.edges edge l r
+  crosses-of edge left l r is_left is_right crossed = (
+    crossed.exists,
+    crosses-sets (edge_at block.edges edge) l r
+        ∙ ap₂ (λ one other. is_between (set_of one) (set_of other) (edge_at block.edges edge)) is_left is_right ∙ crossed.crosses,
+  )
 
-in-leaves : (block : BlockTree) (depth relation : ℕ) (p : PlanTree) → relation < length block.relations → IsIn p (readings block relation) → IsIn p (sub_plans block (suc depth))
-unfolding sub_plans
-in-leaves block depth relation p below is =
-    let sides = sub_plans block depth in
-    in-left p (flat_map (readings block) (all_relations block)) (flat_map (joined block sides) sides)
-    (in-flat (readings block) relation p (all_relations block) (all-below block relation below) is)
+  of-tree : (node : Root) → Stands block node set → (p : PlanTree) → IsIn p (trees_of plans set node) → IsTreeOf block set node p
+  of-tree (root.Scan relation) (below, alone) p (inl same) =
+      subst (IsTreeOf block set (root.Scan relation)) same (record { plan = below; covers = sym alone; outermost = refl })
+  of-tree (root.Scan relation) stands p (inr none) = absurd none
+  of-tree (root.IndexScan relation column) (is, alone) p (inl same) =
+      subst (IsTreeOf block set (root.IndexScan relation column)) same (record { plan = is; covers = sym alone; outermost = refl })
+  of-tree (root.IndexScan relation column) stands p (inr none) = absurd none
+  of-tree (root.Nest left) split p is =
+      let (l, r, in_left, in_right, same) = of-pairs Nest (plans left) (plans (set - left)) p is in
+      let s = sides-of left l r split in_left in_right in
+      subst (IsTreeOf block set (root.Nest left)) same
+      (record { plan = (s.one, s.other, s.apart); covers = s.whole; outermost = ap (λ one. root.Nest one) s.is_left })
+  of-tree (root.Hash edge left) (split, crossed) p is =
+      let (l, r, in_left, in_right, same) = of-pairs (Hash edge) (plans left) (plans (set - left)) p is in
+      let s = sides-of left l r split in_left in_right in
+      subst (IsTreeOf block set (root.Hash edge left)) same (record {
+        plan = (s.one, s.other, s.apart, crosses-of edge left l r s.is_left s.is_right crossed);
+        covers = s.whole;
+        outermost = ap (λ one. root.Hash edge one) s.is_left;
+      })
+  of-tree (root.Merge edge left) (split, crossed) p is =
+      let (l, r, in_left, in_right, same) = of-pairs (Merge edge) (plans left) (plans (set - left)) p is in
+      let s = sides-of left l r split in_left in_right in
+      subst (IsTreeOf block set (root.Merge edge left)) same (record {
+        plan = (s.one, s.other, s.apart, crosses-of edge left l r s.is_left s.is_right crossed);
+        covers = s.whole;
+        outermost = ap (λ one. root.Merge edge one) s.is_left;
+      })
+  of-tree (root.IndexLoop edge left relation) (split, crossed, look) p is =
+      let (l, in_left, same) = of-map (λ one. IndexLoop edge one relation) p (plans left) is in
+      let (one, is_left) = sides left split.less l in_left in
+      let is_right : 2 ^ relation ≡ set - left = sym look.one in
+      let looks : IsLookUp block edge l relation = record {
+        exists = look.exists;
+        apart = relation-apart l relation (ap₂ bit_and is_left is_right ∙ split.apart);
+        crosses = crosses-of edge left l (Scan relation) is_left is_right crossed;
+        indexed = look.indexed;
+      } in
+      subst (IsTreeOf block set (root.IndexLoop edge left relation)) same (record {
+        plan = (one, looks);
+        covers = ap₂ bit_or is_left is_right ∙ whole-of left set (set - left) split refl;
+        outermost = ap (λ side. root.IndexLoop edge side relation) is_left;
+      })
 
-in-both : (block : BlockTree) (depth : ℕ) (left right p : PlanTree) → IsIn left (sub_plans block depth) → IsIn right (sub_plans block depth) → AreApart left right
-    → IsIn p (nodes block left right) → IsIn p (sub_plans block (suc depth))
-unfolding sub_plans
-in-both block depth left right p one other apart is =
-    let sides = sub_plans block depth in
-    in-right p (flat_map (readings block) (all_relations block)) (flat_map (joined block sides) sides)
-    (in-flat (joined block sides) left p sides one
-    (in-left p (flat_map (joins block left) sides) (flat_map (look_ups block left) (all_relations block))
-    (in-flat (joins block left) right p sides other (in-joins block left right p apart is))))
+  pub of-over : (node : Root) (p : PlanTree) → IsIn node (roots_of block set) → IsIn p (trees_of plans set node) → IsTreeOf block set node p
+  of-over node p listed is = of-tree node (of-roots block set node listed) p is
 
-in-look_ups : (block : BlockTree) (left : PlanTree) (edge relation : ℕ) → IsLookUp block edge left relation → IsIn (IndexLoop edge left relation) (look_ups block left relation)
-in-look_ups block left edge relation is =
-    rw is.apart
-    (in-map (λ one. IndexLoop one left relation) edge (filter (has_index block relation) (crossing block left (Scan relation)))
-    (in-filter (has_index block relation) edge (crossing block left (Scan relation)) (in-crossing block left (Scan relation) edge is.crosses) is.indexed))
+of-set-below : (block : BlockTree) (end set : ℕ) → set < end → AreOf block set (plans_for block set)
+of-set-below block zero set below p is = absurd (omega (arith, below))
+of-set-below block (suc end) set below p is =
+    let plans = plans_at (plans_below block set) in
+    let found = of-flat (trees_of plans set) p (roots_of block set) is in
+    let smaller : SidesAreOf block set plans = λ side less q there.
+    of-set-below block end side (omega (arith, less, below)) q (subst (IsIn q) (looked-up block set side less) there) in
+    let tree = of-over block plans set smaller found.0 p found.1 found.2 in
+    (tree.plan, tree.covers)
 
-in-loop : (block : BlockTree) (depth : ℕ) (left : PlanTree) (edge relation : ℕ) → IsIn left (sub_plans block depth) → IsLookUp block edge left relation
-    → IsIn (IndexLoop edge left relation) (sub_plans block (suc depth))
-unfolding sub_plans
-in-loop block depth left edge relation one is =
-    let p = IndexLoop edge left relation in
-    let sides = sub_plans block depth in
-    in-right p (flat_map (readings block) (all_relations block)) (flat_map (joined block sides) sides)
-    (in-flat (joined block sides) left p sides one
-    (in-right p (flat_map (joins block left) sides) (flat_map (look_ups block left) (all_relations block))
-    (in-flat (look_ups block left) relation p (all_relations block) (all-below block relation is.exists) (in-look_ups block left edge relation is))))
+of-set : (block : BlockTree) (set : ℕ) → AreOf block set (plans_for block set)
+of-set block set = of-set-below block (suc set) set (omega arith)
 
-complete : (block : BlockTree) (depth : ℕ) (p : PlanTree) → IsSubPlan block p → depth_of p ≤ depth → IsIn p (sub_plans block depth)
-complete block zero p plan low = absurd (omega (arith, low, deep p))
-complete block (suc depth) (Scan relation) plan low = in-leaves block depth relation (Scan relation) plan (inl refl)
-complete block (suc depth) (IndexScan relation column) plan low =
-    let tree = relation_at block.relations relation in
-    let test : ℕ → Bool = has_usable tree in
-    in-leaves block depth relation (IndexScan relation column) plan.exists
-    (inr (in-map (IndexScan relation) column (filter test tree.indexes) (in-filter test column tree.indexes (indexed-in tree.indexes column plan.indexed) plan.usable)))
-complete block (suc depth) (Nest left right) plan low =
-    in-both block depth left right (Nest left right) (complete block depth left plan.0 (omega (arith, low))) (complete block depth right plan.1 (omega (arith, low))) plan.2 (inl refl)
-complete block (suc depth) (Hash edge left right) plan low =
-    let p = Hash edge left right in
-    in-both block depth left right p (complete block depth left plan.0 (omega (arith, low))) (complete block depth right plan.1 (omega (arith, low))) plan.2
-    (inr (in-flat (by_edge left right) edge p (crossing block left right) (in-crossing block left right edge plan.3) (inl refl)))
-complete block (suc depth) (Merge edge left right) plan low =
-    let p = Merge edge left right in
-    in-both block depth left right p (complete block depth left plan.0 (omega (arith, low))) (complete block depth right plan.1 (omega (arith, low))) plan.2
-    (inr (in-flat (by_edge left right) edge p (crossing block left right) (in-crossing block left right edge plan.3) (inr (inl refl))))
-complete block (suc depth) (IndexLoop edge left relation) plan low =
-    in-loop block depth left edge relation (complete block depth left plan.0 (omega (arith, low))) plan.1
+pub sides-of-set : (block : BlockTree) (set : ℕ) → SidesAreOf block set (plans_at (plans_below block set))
+sides-of-set block set side less p is = of-set block side p (subst (IsIn p) (looked-up block set side less) is)
 
--- a plan is no deeper than it has relations
-shallow : (block : BlockTree) (p : PlanTree) → IsSubPlan block p → depth_of p ≤ size_of (has_leaf p) 0 (length block.relations)
-shallow block (Scan relation) plan = leaf-size (length block.relations) relation plan
-shallow block (IndexScan relation column) plan = leaf-size (length block.relations) relation plan.exists
-shallow block (Nest left right) plan =
-    omega (
-      arith,
-      shallow block left plan.0,
-      shallow block right plan.1,
-      deep left,
-      deep right,
-      both-sizes (length block.relations) (leaves_of left) (leaves_of right) (apart-sets left right plan.2),
-    )
-shallow block (Hash edge left right) plan =
-    omega (
-      arith,
-      shallow block left plan.0,
-      shallow block right plan.1,
-      deep left,
-      deep right,
-      both-sizes (length block.relations) (leaves_of left) (leaves_of right) (apart-sets left right plan.2),
-    )
-shallow block (Merge edge left right) plan =
-    omega (
-      arith,
-      shallow block left plan.0,
-      shallow block right plan.1,
-      deep left,
-      deep right,
-      both-sizes (length block.relations) (leaves_of left) (leaves_of right) (apart-sets left right plan.2),
-    )
-shallow block (IndexLoop edge left relation) plan =
-    omega (
-      arith,
-      shallow block left plan.0,
-      leaf-size (length block.relations) relation plan.1.exists,
-      both-sizes (length block.relations) (leaves_of left) (relation ∷ []) (alone left relation plan.1.apart),
-    )
+-- ---- each plan is listed among those of its set
+
+abbrev sides_in : BlockTree → (set side : ℕ) → List PlanTree
+sides_in block set side = plans_at (plans_below block set) side
+
+side-in : (block : BlockTree) (set : ℕ) (p : PlanTree) → covers_of p < set
+    → IsIn p (plans_for block (covers_of p)) → IsIn p (sides_in block set (covers_of p))
+side-in block set p less is = subst (IsIn p) (sym (looked-up block set (covers_of p) less)) is
+
+both-in : (block : BlockTree) (join : PlanTree → PlanTree → PlanTree) (l r : PlanTree) → AreApart l r
+    → IsIn l (plans_for block (covers_of l)) → IsIn r (plans_for block (covers_of r))
+    → (set : ℕ) → set ≡ bit_or (covers_of l) (covers_of r)
+    → IsIn (join l r) (pairs_by join (sides_in block set (covers_of l)) (sides_in block set (set - covers_of l)))
+both-in block join l r apart left right set is =
+    let parts = subst (IsSplit (covers_of l)) (sym is) (split l r apart) in
+    let rest : set - covers_of l ≡ covers_of r =
+    ap (λ n. n - covers_of l) is ∙ sum-of-sides (covers_of l) (covers_of r) (apart-sets l r apart) in
+    let less : covers_of r < set = omega (arith, rest, right-less (covers_of l) set parts) in
+    in-pairs join l r (sides_in block set (covers_of l)) (sides_in block set (set - covers_of l))
+    (side-in block set l parts.less left) (subst (λ side. IsIn r (sides_in block set side)) (sym rest) (side-in block set r less right))
+
+in-tree : (block : BlockTree) (p : PlanTree) → IsSubPlan block p
+    → IsIn p (trees_of (sides_in block (covers_of p)) (covers_of p) (root_of p))
+    → IsIn p (plans_for block (covers_of p))
+in-tree block p plan is =
+    in-flat (trees_of (sides_in block (covers_of p)) (covers_of p)) (root_of p) p (roots_of block (covers_of p))
+    (in-roots block (covers_of p) (root_of p) (stands block p plan)) is
+
+in-set : (block : BlockTree) (p : PlanTree) → IsSubPlan block p → IsIn p (plans_for block (covers_of p))
+in-set block (Scan relation) plan = in-tree block (Scan relation) plan (inl refl)
+in-set block (IndexScan relation column) plan = in-tree block (IndexScan relation column) plan (inl refl)
+in-set block (Nest l r) (left, right, apart) =
+    in-tree block (Nest l r) (left, right, apart) (both-in block Nest l r apart (in-set block l left) (in-set block r right) _ refl)
+in-set block (Hash edge l r) (left, right, apart, crosses) =
+    in-tree block (Hash edge l r) (left, right, apart, crosses)
+    (both-in block (Hash edge) l r apart (in-set block l left) (in-set block r right) _ refl)
+in-set block (Merge edge l r) (left, right, apart, crosses) =
+    in-tree block (Merge edge l r) (left, right, apart, crosses)
+    (both-in block (Merge edge) l r apart (in-set block l left) (in-set block r right) _ refl)
+in-set block (IndexLoop edge l relation) (left, look) =
+    let set = covers_of (IndexLoop edge l relation) in
+    let parts = split-of (covers_of l) (2 ^ relation) (covers-some l) (covers-some (Scan relation)) (apart-relation l relation look.apart) in
+    in-tree block (IndexLoop edge l relation) (left, look)
+    (in-map (λ one. IndexLoop edge one relation) l (sides_in block set (covers_of l)) (side-in block set l parts.less (in-set block l left)))
 
 -- ---- all plans of a block
 
+pub last-list : (block : BlockTree) → plans_of block ≡ plans_for block (2 ^ length block.relations - 1)
+last-list block =
+    let count = length block.relations in
+    looked-up block (2 ^ count) (2 ^ count - 1) (omega (arith, pow_pos count))
+
 pub in-plans : (block : BlockTree) (p : PlanTree) → IsPlan block p → IsIn p (plans_of block)
 in-plans block p plan =
-    in-filter (λ one. list_all (has_leaf one) (all_relations block)) p (sub_plans block (length block.relations))
-    (complete block (length block.relations) p plan.nodes
-    (omega (arith, shallow block p plan.nodes, size-few (has_leaf p) 0 (length block.relations))))
-    (all-in (has_leaf p) (all_relations block) (λ relation is. plan.whole relation (below-all block relation is)))
+    let all = covers-all p (length block.relations) (covers-below block p plan.nodes) plan.whole in
+    subst (IsIn p) (ap (plans_for block) all ∙ sym (last-list block)) (in-set block p plan.nodes)
 
 pub of-plans : (block : BlockTree) (p : PlanTree) → IsIn p (plans_of block) → IsPlan block p
 of-plans block p is =
-    let kept = of-filter (λ one. list_all (has_leaf one) (all_relations block)) p (sub_plans block (length block.relations)) is in
-    record {
-      nodes = listed block (length block.relations) p kept.0;
-      whole = λ relation below. of-all (has_leaf p) relation (all_relations block) kept.1 (all-below block relation below);
-    }
+    let found = of-set block (2 ^ length block.relations - 1) p (subst (IsIn p) (last-list block) is) in
+    record { nodes = found.0; whole = all-covered p (length block.relations) found.1 }
 
 pub plans-listed : (block : BlockTree) (p : PlanTree) → Contains (plans_of block) p ↔ IsPlan block p
 plans-listed block p = (

@@ -1,7 +1,7 @@
 -- What is among the items of a list that is put together.
 use Rattle.std.proofs.Common.{◌≡◌, ◌⊎◌, inl, inr, ℕ, zero, suc, ◌+◌, ◌<◌, ◌≤◌, List, [], ◌∷◌, ◌++◌, map, filter, refl, ap, sym, subst, ◌∙◌, arith}
 use Rattle.std.specs.Prelude.{Bool, true, Contains}
-use Rattle.std.specs.List.{flat_map, list_all, list_any, range_with_len}
+use Rattle.std.specs.List.{flat_map, list_any, range_with_len}
 use Rattle.std.proofs.lemmas.Bool.{cases_Bool, cases_order}
 
 abbrev pub IsIn : {X : Type 0} → X → List X → Type 0
@@ -94,11 +94,6 @@ of-range i a (suc n) (inr more) =
     let rest = of-range i (a + 1) n more in
     (omega (arith, rest.0), omega (arith, rest.1))
 
-pub any-in : {X : Type 0} (test : X → Bool) (x : X) (xs : List X) → IsIn x xs → test x ≡ true → list_any test xs ≡ true
-any-in test x [] is passes = absurd is
-any-in test x (z ∷ zs) (inl same) passes = grind (arith, ap test same ∙ passes)
-any-in test x (z ∷ zs) (inr more) passes = grind (arith, any-in test x zs more passes)
-
 pub of-any : {X : Type 0} (test : X → Bool) (xs : List X) → list_any test xs ≡ true → (x : X) × IsIn x xs × (test x ≡ true)
 of-any test [] some = absurd (grind (arith, some))
 of-any test (z ∷ zs) some =
@@ -106,15 +101,3 @@ of-any test (z ∷ zs) some =
       | inl here ↦ (z, inl refl, here)
       | inr out ↦ let found = of-any test zs (grind (arith, some, out)) in (found.0, inr found.1, found.2)
     ]
-
-pub all-in : {X : Type 0} (test : X → Bool) (xs : List X) → ((x : X) → IsIn x xs → test x ≡ true) → list_all test xs ≡ true
-all-in test [] each = refl
-all-in test (z ∷ zs) each =
-    let here : test z ≡ true = each z (inl refl) in
-    let rest : list_all test zs ≡ true = all-in test zs (λ x is. each x (inr is)) in
-    grind (arith, here, rest)
-
-pub of-all : {X : Type 0} (test : X → Bool) (x : X) (xs : List X) → list_all test xs ≡ true → IsIn x xs → test x ≡ true
-of-all test x [] all is = absurd is
-of-all test x (z ∷ zs) all (inl same) = ap test (sym same) ∙ grind (arith, all)
-of-all test x (z ∷ zs) all (inr more) = of-all test x zs (grind (arith, all)) more

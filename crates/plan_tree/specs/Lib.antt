@@ -2,6 +2,7 @@ pub mod Plans
 pub mod Sets
 pub mod Usable
 pub mod Enumerated
+pub mod Roots
 pub mod AllPlans
 pub mod Order
 pub mod Sides
@@ -10,3 +11,4 @@ pub mod Reading
 pub mod Reader
 pub mod Work
 pub mod Left
+pub mod Listing

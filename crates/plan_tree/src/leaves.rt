@@ -5,6 +5,7 @@ ghost use Rattle.std.specs.List.{list_any};
 ghost use Rattle.plan_tree.specs.Plans.{plan_tree, leaves_of, has_leaf, covers_of, FitsSet, BitsAreLeaves};
 
 use crate::plan::Plan;
+use crate::set_numbers::set_of_one;
 
 /// Whether a plan joins a relation.
 #[cycle(has_leaf)]
@@ -46,14 +47,6 @@ pub(crate) fn leaf_count(p: &Plan) -> u8
         }
         Plan::IndexLoop(_, left, _) => leaf_count(left).saturating_add(1),
     }
-}
-
-// The set of one relation.
-fn set_of_one(relation: u8) -> u8
-    requires { relation < 8 }
-    ensures { result ≡ 2 ^ relation }
-{
-    1 << relation
 }
 
 /// The relations that a plan joins, as a set: bit r for relation r. It takes no memory.

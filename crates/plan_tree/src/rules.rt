@@ -1,11 +1,10 @@
 // Which trees are plans of a block. A tree may be of any size and name any numbers, so each number is tested before it
 // leads anywhere.
-ghost use Rattle.std.specs.Prelude.{ℕ, ◌≡◌, ◌↔◌, ◌<◌, ◌≤◌, Contains, IsTrue, length};
-ghost use Rattle.query_block.specs.Blocks.{block_tree, relation_at, BlockTree};
-ghost use Rattle.plan_tree.specs.Plans.{plan_tree, has_leaf, PlanTree, Scan};
+ghost use Rattle.std.specs.Prelude.{ℕ, ◌≡◌, ◌↔◌, ◌<◌, ◌≤◌, IsTrue, length};
+ghost use Rattle.query_block.specs.Blocks.{block_tree, relation_at};
+ghost use Rattle.plan_tree.specs.Plans.{plan_tree, has_leaf, Scan};
 ghost use Rattle.plan_tree.specs.Enumerated.{column_on, edge_at, AreApart, Crosses, IsIndexed, HasUsable, IsLookUp, IsScannable, IsSubPlan, IsPlan};
 ghost use Rattle.plan_tree.specs.Sets.{is_between};
-ghost use Rattle.plan_tree.specs.AllPlans.{plans_of};
 
 use crate::leaves::{has_leaf, share_leaf};
 use crate::plan::Plan;
@@ -19,8 +18,8 @@ fn is_relation(block: &Block, relation: u8) -> bool
     (relation as usize) < block.relations().len()
 }
 
-// Whether a column of a relation is indexed.
-fn is_indexed(block: &Block, relation: u8, column: u8) -> bool
+/// Whether a column of a relation of the block is indexed.
+pub fn is_indexed(block: &Block, relation: u8, column: u8) -> bool
     requires { relation < length block.now.relations }
     ensures { IsTrue result
         ↔ IsIndexed (relation_at (block_tree block.now).relations relation) column }
@@ -29,8 +28,8 @@ fn is_indexed(block: &Block, relation: u8, column: u8) -> bool
     indexes.contains(&column)
 }
 
-// Whether some conjunct of a relation's filter is usable on an indexed column.
-fn has_usable_on(block: &Block, relation: u8, column: u8) -> bool
+/// Whether some conjunct of a relation's filter is usable on an indexed column.
+pub(crate) fn has_usable_on(block: &Block, relation: u8, column: u8) -> bool
     requires relation { relation < length block.now.relations }
     requires column { IsIndexed (relation_at (block_tree block.now).relations relation) column }
     ensures { IsTrue result
@@ -161,9 +160,3 @@ pub fn is_plan(block: &Block, p: &Plan) -> bool
 {
     is_sub_plan(block, p) && joins_all(p, block.relations().len())
 }
-
-/// The law of all plans: the list `plans_of` has every plan of a block, and nothing else.
-pub fn all_plans_are_listed()
-    ensures { (block : BlockTree) (p : PlanTree) →
-        Contains (plans_of block) p ↔ IsPlan block p }
-{}

@@ -1,5 +1,5 @@
 use Rattle.std.proofs.Common.{◌≡◌, ◌⊎◌}
-use Rattle.plan_space.specs.declared.roots.Root.TheVariants as root
+use Rattle.plan_tree.specs.declared.roots.Root.TheVariants as root
 use Rattle.plan_space.specs.Steps.{IsByEdge, IsLookUpBy}
 use Rattle.plan_space.proofs.Considered.{and-then, of-edge}
 use Rattle.plan_space.proofs.joins.by_edge.Goals as goal

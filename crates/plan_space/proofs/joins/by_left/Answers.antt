@@ -1,5 +1,5 @@
 use Rattle.std.proofs.Common.{◌≡◌, length}
-use Rattle.plan_space.specs.declared.roots.Root.TheVariants as root
+use Rattle.plan_tree.specs.declared.roots.Root.TheVariants as root
 use Rattle.plan_space.specs.Steps.{IsByLeft, IsBeforeEdge}
 use Rattle.plan_space.proofs.Considered.{and-then, of-left}
 use Rattle.plan_space.proofs.joins.by_left.Goals as goal

@@ -1,6 +1,6 @@
 use Rattle.std.proofs.Common.{arith}
 use Rattle.plan_space.specs.Steps.{IsLookUpBy}
-use Rattle.plan_space.proofs.Bits.{lowest-alone}
+use Rattle.plan_tree.proofs.Bits.{lowest-alone}
 use Rattle.plan_space.proofs.Considered.{nothing, no-look-up}
 use Rattle.plan_space.proofs.joins.by_look_up.Goals as goal
 

@@ -1,8 +1,8 @@
 use Rattle.std.proofs.Common.{◌≡◌, IsTrue, sym, subst}
 use Rattle.query_block.specs.Blocks.{block_tree, relation_at}
 use Rattle.plan_tree.specs.Enumerated.{column_on, edge_at, IsIndexed}
-use Rattle.plan_space.specs.declared.roots.Root.TheVariants as root
-use Rattle.plan_space.specs.Roots.{Stands}
+use Rattle.plan_tree.specs.declared.roots.Root.TheVariants as root
+use Rattle.plan_tree.specs.Roots.{Stands}
 use Rattle.plan_space.specs.Prices.{block_at}
 use Rattle.plan_space.specs.Steps.{IsLookUpBy}
 use Rattle.plan_space.proofs.Considered.{nothing, narrow, looked-up}
@@ -17,7 +17,7 @@ returns-then-not-is_indexed c =
     let is = looked-up at c.args.table.now c.args.set edge c.args.left relation c.requires.relation node group stands in
     let found = (subst (λ one. Stands (block_at at) one c.args.set) is stands).2.indexed in
     let lent = subst (λ b. IsIndexed (relation_at (block_tree b).relations relation) (column_on (edge_at b.edges edge) relation)) (sym c.block-block.ensures.block) found in
-    let indexed = subst (IsIndexed (relation_at (block_tree c.block-block.result.now).relations relation)) (sym c.column_on-column.ensures) lent in
+    let indexed = subst (IsIndexed (relation_at (block_tree c.block-block.result.now).relations relation)) (sym c.column_of_edge-column.ensures) lent in
     let on : IsTrue c.is_indexed.result = c.is_indexed.ensures.1 indexed in
     cc)
 

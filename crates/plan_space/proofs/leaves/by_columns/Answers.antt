@@ -1,6 +1,6 @@
 use Rattle.std.proofs.Common.{◌≡◌, ◌+◌, take, get_or, arith}
 use Rattle.std.proofs.lemmas.List.{take_more}
-use Rattle.plan_space.specs.declared.roots.Root.TheVariants as root
+use Rattle.plan_tree.specs.declared.roots.Root.TheVariants as root
 use Rattle.plan_space.specs.Steps.{IsScanBy}
 use Rattle.plan_space.proofs.Considered.{and-then, next-column}
 use Rattle.plan_space.proofs.leaves.by_columns.Goals as goal

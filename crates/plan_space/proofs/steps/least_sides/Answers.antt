@@ -1,5 +1,5 @@
 use Rattle.std.proofs.Common.{arith}
-use Rattle.plan_space.proofs.Bits.{lowest-alone}
+use Rattle.plan_tree.proofs.Bits.{lowest-alone}
 use Rattle.plan_space.proofs.Considered.{both-least}
 use Rattle.plan_space.proofs.steps.least_sides.Goals as goal
 

@@ -1,5 +1,5 @@
 use Rattle.std.proofs.Common.{◌^◌, ◌<◌, sym, subst, ◌∙◌, arith}
-use Rattle.plan_space.specs.Roots.{IsSplit}
+use Rattle.plan_tree.specs.Roots.{IsSplit}
 use Rattle.plan_space.specs.Steps.{Considers, ReadsRelation}
 use Rattle.plan_space.proofs.Filled.{highest-split, least-alone, least-split}
 use Rattle.plan_space.proofs.table.entry_of.Goals as goal

@@ -4,7 +4,7 @@ use Rattle.std.proofs.lemmas.Result.{IfOk-weaker}
 use Rattle.plan_tree.specs.declared.plan.Plan.{the_lemmas}
 use Rattle.plan_tree.specs.declared.plan.Plan.TheVariants as plan
 use Rattle.plan_tree.specs.Plans.{plan_tree, Scan, IndexScan, Nest, Hash, Merge, IndexLoop}
-use Rattle.plan_space.specs.declared.roots.Root.TheVariants as root
+use Rattle.plan_tree.specs.declared.roots.Root.TheVariants as root
 use Rattle.anorexic.specs.Nodes.{NumbersPlan, AddsNode, node_at}
 use Rattle.anorexic.proofs.Numbers.{leaf-numbers, join-numbers, loop-numbers}
 use Rattle.anorexic.proofs.nodes.Nodes.+number.Goals as goal

@@ -5,8 +5,8 @@ use Rattle.query_block.specs.Blocks.{BlockTree, relation_at}
 use Rattle.plan_tree.specs.Plans.{PlanTree, Scan, IndexScan, Nest, Hash, Merge, IndexLoop, covers_of}
 use Rattle.plan_tree.specs.Enumerated.{edge_at, column_on, IsIndexed, IsScannable}
 use Rattle.plan_tree.specs.Sets.{set_of, is_between}
-use Rattle.plan_space.specs.declared.roots.Root.{Root}
-use Rattle.plan_space.specs.declared.roots.Root.TheVariants as root
+use Rattle.plan_tree.specs.declared.roots.Root.{Root}
+use Rattle.plan_tree.specs.declared.roots.Root.TheVariants as root
 
 -- of a plan
 abbrev pub root_of : PlanTree → Root

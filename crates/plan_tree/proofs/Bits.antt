@@ -13,7 +13,7 @@ use Rattle.plan_tree.specs.Enumerated.{AreApart}
 use Rattle.plan_tree.proofs.Sets.{bit-of}
 use Rattle.plan_tree.specs.Sets.{set_of, is_between}
 use Rattle.plan_tree.proofs.LeafSets.{set-of-plan}
-use Rattle.plan_space.specs.Roots.{IsSplit}
+use Rattle.plan_tree.specs.Roots.{IsSplit}
 
 -- a plan has a relation exactly where its set has the bit
 pub leaf-is-bit : (p : PlanTree) (relation : ℕ) → has_leaf p relation ≡ set_of (covers_of p) relation
