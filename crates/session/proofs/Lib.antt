@@ -1,3 +1,4 @@
+pub mod Auditing
 pub mod Carried
 pub mod Compiling
 pub mod ContourTexts
@@ -8,8 +9,9 @@ pub mod LoadLine
 pub mod NamedColumns
 pub mod NamedLists
 pub mod Opening
+pub mod PointLevels
+pub mod PointTexts
 pub mod Queries
 pub mod RowsPrinted
 pub mod Sizes
 pub mod Unpaid
-pub mod Widths

@@ -13,6 +13,7 @@ pub mod Load
 pub mod Select
 pub mod Compile
 pub mod Run
+pub mod Audit
 pub mod Explain
 pub mod Save
 pub mod Open

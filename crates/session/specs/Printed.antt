@@ -1,5 +1,5 @@
 -- The texts that statements print.
-use Rattle.std.specs.Prelude.{ℕ, ◌+◌, ◌^◌, List, [], ◌∷◌, ◌++◌, map, length, slice_index_or, codes, decimal}
+use Rattle.std.specs.Prelude.{Bool, true, false, ℕ, ◌+◌, ◌^◌, List, [], ◌∷◌, ◌++◌, map, length, slice_index_or, codes, decimal}
 use Rattle.sql_values.specs.declared.column.ColumnDef.{ColumnDef}
 use Rattle.query_block.specs.declared.edge.ColumnAt.{ColumnAt}
 use Rattle.query_block.specs.Blocks.{RelationTree, BlockTree, relation_at}
@@ -10,6 +10,7 @@ use Rattle.db_catalog.specs.Database.{DatabaseState, table_at}
 use Rattle.bouquet_type.specs.Trees.{BouquetTree, ContourTree}
 use Rattle.bouquet_type.specs.Budgets.{budget_of, most_plans}
 use Rattle.bouquet_type.specs.Runs.{RunEnd}
+use Rattle.audit_run.specs.Audits.{AuditTree}
 use Rattle.result_text.specs.Combined.{printed}
 
 -- the line below the rows of an answer: how many there are, and how the run of the bouquet ended
@@ -71,3 +72,24 @@ contour_line threshold number contour =
 abbrev pub contour_lines : (threshold number : ℕ) → List ContourTree → List ℕ
 contour_lines threshold number [] = []
 contour_lines threshold number (contour ∷ more) = contour_line threshold number contour ++ contour_lines threshold (number + 1) more
+
+-- the levels of a point, a comma before each but the first; a dash where there is no axis
+abbrev pub levels_text : List ℕ → List ℕ
+levels_text [] = []
+levels_text (level ∷ []) = decimal level
+levels_text (level ∷ other ∷ more) = decimal level ++ (codes "," ++ levels_text (other ∷ more))
+
+abbrev pub point_text : List ℕ → List ℕ
+point_text [] = codes "-"
+point_text (level ∷ more) = levels_text (level ∷ more)
+
+abbrev pub yes_or_no : Bool → List ℕ
+yes_or_no true = codes "yes"
+yes_or_no false = codes "no"
+
+-- what an audit prints
+abbrev pub audit_line : AuditTree → List ℕ
+audit_line audit =
+    codes "-- audit point=" ++ (point_text audit.point ++ (codes " plans=" ++ (decimal audit.plans ++ (codes " below=" ++ (yes_or_no audit.below
+    ++ (codes " a=" ++ (decimal audit.a ++ (codes " b=" ++ (decimal audit.b ++ (codes " cheapest=" ++ (decimal audit.cheapest
+    ++ (codes " r=" ++ (decimal audit.r ++ (codes " work=" ++ (decimal audit.work ++ codes "\n")))))))))))))))

@@ -16,8 +16,6 @@ use Rattle.cost_model.specs.Staleness.{count_word}
 use Rattle.bouquet_file.specs.declared.fault.OpenFault.{OpenFault}
 use Rattle.bouquet_file.specs.declared.fault.OpenFault.TheVariants as opening
 use Rattle.bouquet_file.specs.Paths.{fault_path}
-use Rattle.session.specs.declared.refusal.Later.{Later}
-use Rattle.session.specs.declared.refusal.Later.TheVariants as later
 use Rattle.session.specs.declared.refusal.Refusal.{Refusal}
 use Rattle.session.specs.declared.refusal.Refusal.TheVariants as refusal
 
@@ -105,10 +103,6 @@ abbrev pub not_opened_line : OpenFault → List ℕ
 not_opened_line (opening.Stale stale) = stale_line stale
 not_opened_line fault = error_line (codes "E14 file " ++ fault_path fault)
 
--- what isn't built yet
-abbrev pub later_word : Later → List ℕ
-later_word later.Statement = codes "statement"
-
 -- the line that a refusal puts
 abbrev pub line_of : Refusal → List ℕ
 line_of (refusal.NoToken fault) = no_token_line fault
@@ -125,4 +119,4 @@ line_of (refusal.NotLoaded fault) = not_loaded_line fault
 line_of (refusal.NotOpened fault) = not_opened_line fault
 line_of (refusal.PastLimit limit value) = limit_line limit value
 line_of (refusal.PastWork spent) = error_line (codes "E16 " ++ (codes "work" ++ spaced spent))
-line_of (refusal.Later what) = error_line (codes "E00 later " ++ later_word what)
+line_of (refusal.PastAudit spent) = error_line (codes "E16 " ++ (codes "work" ++ spaced spent))

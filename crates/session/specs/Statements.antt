@@ -2,19 +2,18 @@
 use Rattle.std.specs.Prelude.{◌≡◌, ℕ, List, Option, None, IsSome}
 use Rattle.sql_parse.specs.Trees.{StatementTree, CreateTable, CreateIndex, Load, Select, Compile, Run, Explain, SaveFile, OpenFile, Audit}
 use Rattle.db_catalog.specs.Database.{table_number}
+use Rattle.session.specs.Audit.{audit_outcome}
 use Rattle.session.specs.Compile.{compile_outcome}
 use Rattle.session.specs.CreateIndex.{create_index_outcome}
 use Rattle.session.specs.CreateTable.{create_table_outcome}
 use Rattle.session.specs.Explain.{explain_outcome}
 use Rattle.session.specs.Load.{load_outcome}
-use Rattle.session.specs.Outcome.{Outcome, Refuses}
+use Rattle.session.specs.Outcome.{Outcome}
 use Rattle.session.specs.Run.{run_outcome}
 use Rattle.session.specs.Select.{select_outcome}
 use Rattle.session.specs.Save.{save_outcome}
 use Rattle.session.specs.Open.{open_outcome, open_refusal}
 use Rattle.session.specs.World.{World, named_in}
-use Rattle.session.specs.declared.refusal.Later.TheVariants as later
-use Rattle.session.specs.declared.refusal.Refusal.TheVariants as refusal
 
 -- what comes of a statement, with the file that the folder gives for it
 abbrev pub statement_outcome : (max_work : ℕ) → World → StatementTree → (file : Option (List ℕ)) → Outcome
@@ -27,7 +26,7 @@ statement_outcome max_work world (Run name) file = run_outcome max_work world na
 statement_outcome max_work world (Explain name) file = explain_outcome world name
 statement_outcome max_work world (SaveFile save) file = save_outcome world save
 statement_outcome max_work world (OpenFile name file_name query) file = open_outcome world name file_name query file
-statement_outcome max_work world (Audit audit) file = Refuses (refusal.Later later.Statement)
+statement_outcome max_work world (Audit audit) file = audit_outcome max_work world audit
 
 -- a statement asks for a file: a LOAD into a table that is there, and an OPEN that isn't refused before; no other
 abbrev pub AsksForFile : World → StatementTree → Type 0

@@ -1,5 +1,5 @@
 -- A stop, held against what is due to the statement.
-use Rattle.std.specs.Prelude.{◌≡◌, ⊤}
+use Rattle.std.specs.Prelude.{◌≡◌, ◌+◌, ⊤}
 use Rattle.session.specs.declared.stop.Stop.{Stop}
 use Rattle.session.specs.declared.stop.Stop.TheVariants as stop
 use Rattle.db_catalog.specs.declared.fault.DbFault.{DbFault}
@@ -12,8 +12,11 @@ use Rattle.ess_grid.specs.declared.fault.GridFault.{GridFault}
 use Rattle.ess_grid.specs.declared.fault.GridFault.TheVariants as grid
 use Rattle.table_stats.specs.declared.fault.StatsFault.{StatsFault}
 use Rattle.table_stats.specs.declared.fault.StatsFault.TheVariants as counts
+use Rattle.audit_run.specs.declared.told.AuditFault.{AuditFault}
+use Rattle.audit_run.specs.declared.told.AuditFault.TheVariants as audits
 use Rattle.bouquet_file.specs.declared.fault.OpenFault.{OpenFault}
 use Rattle.bouquet_file.specs.declared.fault.OpenFault.TheVariants as opening
+use Rattle.sql_values.specs.Limits.{max_plans}
 use Rattle.sql_values.specs.declared.limit.LimitName.TheVariants as limit
 use Rattle.session.specs.declared.refusal.Refusal.TheVariants as refusal
 use Rattle.session.specs.Outcome.{Outcome, Refuses}
@@ -56,3 +59,8 @@ stop_of_grid (grid.TooManyPoints points) = stop.Refused (refusal.PastLimit limit
 abbrev pub stop_of_counts : StatsFault → Stop
 stop_of_counts (counts.ProductLimit value) = stop.Refused (refusal.PastLimit limit.Product value)
 stop_of_counts counts.NoMemory = stop.NoMemory
+
+abbrev pub stop_of_audit : AuditFault → Stop
+stop_of_audit audits.PlanLimit = stop.Refused (refusal.PastLimit limit.Plans (max_plans + 1))
+stop_of_audit (audits.WorkLimit spent) = stop.Refused (refusal.PastAudit spent)
+stop_of_audit audits.NoMemory = stop.NoMemory

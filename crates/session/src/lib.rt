@@ -7,6 +7,7 @@
 //! refused before, never writes one but for a SAVE, and never reads a row but by a meter.
 #![tactic(auto)]
 
+mod audit;
 mod bouquets;
 mod columns;
 mod compile;
@@ -27,6 +28,6 @@ mod select;
 mod session;
 mod stop;
 
-pub use refusal::{Later, Refusal, refusal_line};
+pub use refusal::{Refusal, refusal_line};
 pub use session::Session;
 pub use stop::Stop;

@@ -1,12 +1,14 @@
 // The printed lines that are neither rows nor refusals.
 ghost use Rattle.std.specs.Prelude.{◌≡◌, ℕ, ◌+◌, ◌^◌, ◌<◌, ◌≤◌, [], ◌++◌, length, map, IfOk, OnOk, codes, decimal, vec_len, vec_capacity};
 ghost use Rattle.plan_tree.specs.Plans.{plan_tree};
+ghost use Rattle.audit_run.specs.Audits.{told_audit};
 ghost use Rattle.plan_tree.specs.Text.{plan_text_of};
 ghost use Rattle.bouquet_type.specs.Budgets.{budget_of};
 ghost use Rattle.bouquet_type.specs.Reports.{told_end};
 ghost use Rattle.bouquet_type.specs.Trees.{bouquet_tree, contour_tree};
-ghost use Rattle.session.specs.Printed.{report_line, load_line, size_line, contour_line, contour_lines, plan_texts};
+ghost use Rattle.session.specs.Printed.{report_line, load_line, size_line, contour_line, contour_lines, plan_texts, point_text, yes_or_no, audit_line};
 
+use audit_run::Audit;
 use bouquet_type::{Bouquet, Contour, Report};
 use itoa::Buffer;
 use plan_tree::{Plan, plan_text};
@@ -148,5 +150,44 @@ pub(crate) fn contour_lines(alloc: Global, bouquet: &Bouquet) -> Result<Vec<u8>,
             contour,
         )?;
     }
+    Ok(text)
+}
+
+// Appends the levels of a point, a comma before each but the first; a dash where there is no axis.
+fn push_point(text: &mut Vec<u8>, levels: &[u8]) -> Result<(), AllocError>
+    ensures { OnOk result (text.new.items ≡ text.old.items ++ point_text levels.now) }
+{
+    let Some((first, others)) = levels.split_first() else {
+        return text.extend_from_slice(b"-");
+    };
+    text.extend_from_slice(Buffer::new().format(*first).as_bytes())?;
+    for level in others {
+        push_labelled(text, ",", u128::from(*level))?;
+    }
+    Ok(())
+}
+
+// How a test is told.
+fn yes_or_no(holds: bool) -> &'static str
+    ensures { result.now ≡ yes_or_no holds }
+{
+    if holds { "yes" } else { "no" }
+}
+
+/// The line of an audit.
+pub(crate) fn audit_line(alloc: Global, audit: &Audit) -> Result<Vec<u8>, AllocError>
+    ensures { IfOk result (λ text. text.items ≡ audit_line (told_audit audit.now)) }
+{
+    let mut text = Vec::from_slice(alloc, b"-- audit point=")?;
+    push_point(&mut text, audit.point.levels())?;
+    push_labelled(&mut text, " plans=", u128::from(audit.plans))?;
+    text.extend_from_slice(b" below=")?;
+    text.extend_from_slice(yes_or_no(audit.below).as_bytes())?;
+    push_labelled(&mut text, " a=", audit.a)?;
+    push_labelled(&mut text, " b=", audit.b)?;
+    push_labelled(&mut text, " cheapest=", audit.cheapest)?;
+    push_labelled(&mut text, " r=", u128::from(audit.r))?;
+    push_labelled(&mut text, " work=", audit.work)?;
+    text.push(b'\n')?;
     Ok(text)
 }

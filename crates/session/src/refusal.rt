@@ -1,6 +1,6 @@
 // Why a script or a statement is refused: each refusal is a value, and becomes its line here alone.
 ghost use Rattle.std.specs.Prelude.{◌≡◌, ◌++◌, IfOk, OnOk, codes, decimal};
-ghost use Rattle.session.specs.Refusal.{line_of, error_line, limit_line, no_table_line, no_column_line, duplicate_line, not_made_line, not_bound_line, field_line, fields_line, not_loaded_line, no_token_line, token_fault_word, later_word, stale_line, not_opened_line};
+ghost use Rattle.session.specs.Refusal.{line_of, error_line, limit_line, no_table_line, no_column_line, duplicate_line, not_made_line, not_bound_line, field_line, fields_line, not_loaded_line, no_token_line, token_fault_word, stale_line, not_opened_line};
 
 use bouquet_file::{OpenFault, path_text};
 use cost_model::Stale;
@@ -12,13 +12,6 @@ use sql_lex::{LexFault, LexKind};
 use sql_parse::Name;
 use sql_values::{LimitName, Text};
 use std::alloc::{AllocError, Global};
-
-/// What isn't built yet.
-#[derive(Clone, Copy, Debug, PartialEq, Eq)]
-pub enum Later {
-    /// The statement.
-    Statement,
-}
 
 /// Why a script or a statement is refused.
 #[derive(Drop)]
@@ -51,8 +44,9 @@ pub enum Refusal {
     PastLimit(LimitName, u128),
     /// The work of a query is past the most that one may cost, and so many units were spent on it.
     PastWork(u128),
-    /// It isn't built yet.
-    Later(Later),
+    /// The work of all plans of an audit is past the most that one may cost, and so many units were spent on it. No book has
+    /// them.
+    PastAudit(u128),
 }
 
 // `error `, the kind of the refusal, and what it is about.
@@ -105,14 +99,6 @@ fn token_fault_word(kind: LexKind) -> &'static str
         LexKind::Name => "name",
         LexKind::Utf8 => "utf8",
         LexKind::NoMemory => "",
-    }
-}
-
-fn later_word(what: Later) -> &'static str
-    ensures { result.now ≡ later_word what }
-{
-    match what {
-        Later::Statement => "statement",
     }
 }
 
@@ -268,6 +254,6 @@ pub fn refusal_line(alloc: Global, refusal: &Refusal) -> Result<Vec<u8>, AllocEr
         Refusal::NotOpened(fault) => not_opened_line(alloc, *fault),
         Refusal::PastLimit(limit, value) => limit_line(alloc, *limit, *value),
         Refusal::PastWork(spent) => number_line(alloc, "E16 ", "work", *spent),
-        Refusal::Later(what) => error_line(alloc, "E00 later ", later_word(*what).as_bytes()),
+        Refusal::PastAudit(spent) => number_line(alloc, "E16 ", "work", *spent),
     }
 }

@@ -23,8 +23,8 @@ use sql_parse::Name;
 use std::alloc::Global;
 use table_stats::fresh;
 
-// Refuses the first count of a bouquet that isn't that of its tables any more.
-fn check_counts(database: &Database, bouquet: &Bouquet) -> Result<(), Stale>
+/// Refuses the first count of a bouquet that isn't that of its tables any more.
+pub(crate) fn check_counts(database: &Database, bouquet: &Bouquet) -> Result<(), Stale>
     requires fits { Fits database.now (block_tree bouquet.now.block) }
     ensures { RefusesFirst (stale_count database.now (bouquet_tree bouquet.now)) result }
 {

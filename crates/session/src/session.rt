@@ -10,7 +10,6 @@ ghost use Rattle.session.specs.States.{world_of};
 ghost use Rattle.session.specs.World.{nothing_made};
 
 use crate::named_bouquets::NamedBouquets;
-use crate::refusal::{Later, Refusal};
 use crate::stop::Stop;
 use bouquet_run::Book;
 use db_catalog::Database;
@@ -41,13 +40,6 @@ impl Model for Session {
     ghost invariant = { λ s. IsSession (record { database = s.database; bouquets = s.bouquets }) };
 }
 
-// This isn't built yet.
-fn later(what: Later) -> Stop
-    ensures refusal { result ≡ Stop.Refused (Refusal.Later what) }
-{
-    Stop::Refused(Refusal::Later(what))
-}
-
 impl Session {
     /// Before the first statement.
     pub fn new(alloc: Global) -> Session
@@ -61,7 +53,7 @@ impl Session {
 
     /// Carries a statement out and returns what it prints. One that stops changes nothing, but that the file which a SAVE
     /// couldn't write may hold anything. A query has a budget of `max_work` units, and what it paid is entered in the book,
-    /// whatever the answer.
+    /// whatever the answer; an audit may spend as much, which no book has.
     pub fn carry_out<F: Folder>(
         &mut self,
         alloc: Global,
@@ -92,7 +84,7 @@ impl Session {
             Statement::Explain(name) => self.explain(alloc, name),
             Statement::SaveFile(save) => self.save_file(alloc, save, folder),
             Statement::OpenFile(opened) => self.open_file(alloc, opened, folder),
-            Statement::Audit(_) => Err(later(Later::Statement)),
+            Statement::Audit(audit) => self.audit(alloc, max_work, audit),
         }
     }
 }

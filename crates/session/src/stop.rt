@@ -1,12 +1,13 @@
 // Why a statement isn't carried out.
 use crate::refusal::Refusal;
+use audit_run::AuditFault;
 use bouquet_file::OpenFault;
 use cost_model::Stale;
 use csv_load::LoadFault;
 use db_catalog::DbFault;
 use ess_grid::GridFault;
 use sql_bind::BindFault;
-use sql_values::LimitName;
+use sql_values::{LimitName, MAX_PLANS};
 use std::alloc::AllocError;
 use table_stats::StatsFault;
 
@@ -131,6 +132,23 @@ impl From<StatsFault> for Stop {
                 Stop::Refused(Refusal::PastLimit(LimitName::Product, value))
             }
             StatsFault::NoMemory => Stop::NoMemory,
+        }
+    }
+}
+
+impl From<AuditFault> for Stop {
+    ghost use Rattle.std.specs.Prelude.{◌≡◌};
+    ghost use Rattle.session.specs.Stop.{stop_of_audit};
+
+    ghost from_gives = { λ fault stop. stop ≡ stop_of_audit fault };
+
+    fn from(fault: AuditFault) -> Stop {
+        match fault {
+            AuditFault::PlanLimit => {
+                Stop::Refused(Refusal::PastLimit(LimitName::Plans, u128::from(MAX_PLANS) + 1))
+            }
+            AuditFault::WorkLimit { spent } => Stop::Refused(Refusal::PastAudit(spent)),
+            AuditFault::NoMemory => Stop::NoMemory,
         }
     }
 }

@@ -5,13 +5,13 @@ use Rattle.bouquet_type.specs.Trees.{bouquet_tree}
 use Rattle.bouquet_type.proofs.Meets.{bouquet-bound}
 use Rattle.contours.proofs.Soundness.{compiled-sound}
 use Rattle.bouquet_run.specs.Outcomes.{works_over}
-use Rattle.session.proofs.Widths.{width_some}
+use Rattle.audit_run.proofs.Some.{words_some}
 use Rattle.session.proofs.bouquets.answer.Goals as goal
 
 pub new-space-requires-clause-some : goal.new-space-requires-clause-some
 new-space-requires-clause-some c =
     let same : width_of (block_tree c.block-block.result.now) ≡ width_of (block_tree c.args.bouquet.now.block) = ap (λ b. width_of (block_tree b)) c.block-block.ensures.block in
-    omega (arith, c.width.ensures.width, same, width_some (block_tree c.args.bouquet.now.block) c.block-block.ensures.bouquet.costing.block)
+    omega (arith, c.width.ensures.width, same, words_some (block_tree c.args.bouquet.now.block) c.block-block.ensures.bouquet.costing.block)
 
 pub returns-in-Ok-clause-bound : goal.returns-in-Ok-clause-bound
 returns-in-Ok-clause-bound c =

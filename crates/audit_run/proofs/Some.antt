@@ -1,0 +1,76 @@
+-- Every plan works and costs something, every block has a plan, and its rows have a word.
+use Rattle.std.proofs.Common.{◌≡◌, inl, inr, ℕ, ◌≤◌, List, [], ◌∷◌, length, map, sum_by, refl, subst, arith}
+use Rattle.std.specs.Prelude.{All}
+use Rattle.std.proofs.lemmas.List.Elements.{All-nil, All-cons, All-head}
+use Rattle.std.proofs.lemmas.List.Sums.{sum_by-cons}
+use Rattle.sql_values.specs.Stored.{StoredTable}
+use Rattle.query_block.specs.Blocks.{BlockTree, RelationTree, IsRelation, IsBlock, block_tree, width_of}
+use Rattle.plan_tree.specs.Plans.{PlanTree, Scan, IndexScan, Nest, Hash, Merge, IndexLoop, plan_tree}
+use Rattle.plan_tree.specs.declared.plan.Plan.{Plan}
+use Rattle.plan_tree.specs.Enumerated.{IsPlan}
+use Rattle.plan_tree.specs.AllPlans.{plans_of}
+use Rattle.plan_tree.specs.Work.{work_of}
+use Rattle.plan_tree.proofs.Members.{IsIn}
+use Rattle.plan_tree.proofs.Enumerated.{in-plans, of-plans}
+use Rattle.cost_model.specs.Costing.{CostingTree}
+use Rattle.cost_model.specs.Costs.{cost_of}
+use Rattle.bouquet_type.specs.declared.contour.Contour.{Contour}
+use Rattle.bouquet_type.specs.Shapes.{BouquetShape}
+use Rattle.bouquet_type.specs.Trees.{IsBouquet, IsContour}
+
+pub work_some : (tables : List StoredTable) (block : BlockTree) (p : PlanTree) → 1 ≤ work_of tables block p
+work_some tables block (Scan relation) = omega arith
+work_some tables block (IndexScan relation column) = omega arith
+work_some tables block (Nest left right) = omega (arith, work_some tables block left)
+work_some tables block (Hash edge left right) = omega (arith, work_some tables block left)
+work_some tables block (Merge edge left right) = omega (arith, work_some tables block left)
+work_some tables block (IndexLoop edge left relation) = omega (arith, work_some tables block left)
+
+pub cost_some : (costing : CostingTree) (p : PlanTree) (point : List ℕ) → 1 ≤ cost_of costing p point
+cost_some costing (Scan relation) point = omega arith
+cost_some costing (IndexScan relation column) point = omega arith
+cost_some costing (Nest left right) point = omega (arith, cost_some costing left point)
+cost_some costing (Hash edge left right) point = omega (arith, cost_some costing left point)
+cost_some costing (Merge edge left right) point = omega (arith, cost_some costing left point)
+cost_some costing (IndexLoop edge left relation) point = omega (arith, cost_some costing left point)
+
+-- a list with an item has a length
+has-length : (p : PlanTree) (plans : List PlanTree) → IsIn p plans → 1 ≤ length plans
+has-length p [] is = absurd is
+has-length p (q ∷ plans) is = omega arith
+
+planned : (block : BlockTree) (plans : List Plan) → 1 ≤ length plans → All (λ p. IsPlan block (plan_tree p)) plans
+    → 1 ≤ length (plans_of block)
+planned block [] some are = absurd (omega (arith, some))
+planned block (p ∷ plans) some are =
+    has-length (plan_tree p) (plans_of block) (in-plans block (plan_tree p) (All-head (λ q. IsPlan block (plan_tree q)) p plans are))
+
+on-contours : (block : BlockTree) (contours : List Contour) → 1 ≤ length contours → All (IsContour block) contours
+    → 1 ≤ length (plans_of block)
+on-contours block [] some are = absurd (omega (arith, some))
+on-contours block (contour ∷ contours) some are =
+    let here = All-head (IsContour block) contour contours are in
+    planned block contour.plans.items here.some here.plans
+
+-- a bouquet's plans are plans of its block
+pub plans_some : (bouquet : BouquetShape) → IsBouquet bouquet → 1 ≤ length (plans_of (block_tree bouquet.block))
+plans_some bouquet is = on-contours (block_tree bouquet.block) bouquet.contours is.some is.contours
+
+words-some : (relations : List RelationTree) → 1 ≤ length relations → All IsRelation relations
+    → 1 ≤ sum_by (λ relation. length relation.columns) relations
+words-some [] some are = absurd (omega (arith, some))
+words-some (relation ∷ relations) some are =
+    omega (arith, (All-head IsRelation relation relations are).some, sum_by-cons (λ (r : RelationTree). length r.columns) relation relations)
+
+pub words_some : (block : BlockTree) → IsBlock block → 1 ≤ width_of block
+words_some block is = words-some block.relations is.some is.relations
+
+-- all plans of a block are its plans
+each-listed : (block : BlockTree) (plans : List Plan) → ((p : PlanTree) → IsIn p (map plan_tree plans) → IsPlan block p)
+    → All (λ p. IsPlan block (plan_tree p)) plans
+each-listed block [] each = All-nil (λ p. IsPlan block (plan_tree p))
+each-listed block (p ∷ plans) each =
+    All-cons (λ q. IsPlan block (plan_tree q)) p plans (each (plan_tree p) (inl refl)) (each-listed block plans (λ q is. each q (inr is)))
+
+pub each_listed : (block : BlockTree) (plans : List Plan) → map plan_tree plans ≡ plans_of block → All (λ p. IsPlan block (plan_tree p)) plans
+each_listed block plans same = each-listed block plans (λ p is. of-plans block p (subst (IsIn p) same is))

@@ -1,0 +1,63 @@
+use Rattle.std.proofs.Common.{rules, ◌≡◌, ◌∙◌, ◌+◌, ◌<◌, ◌^◌, sym, ap, subst, arith}
+use Rattle.query_block.specs.Blocks.{block_tree, width_of}
+use Rattle.db_catalog.specs.Database.{DatabaseState}
+use Rattle.db_catalog.specs.Fits.{Fits}
+use Rattle.plan_tree.specs.Plans.{plan_tree}
+use Rattle.bouquet_type.specs.Trees.{bouquet_tree}
+use Rattle.audit_run.specs.Measures.{measure_of}
+use Rattle.audit_run.specs.Executed.{measure}
+use Rattle.audit_run.proofs.Some.{words_some, plans_some}
+use Rattle.audit_run.proofs.Between.{begins, next-figures, told}
+use Rattle.audit_run.proofs.executions.audit_plans.Goals as goal
+
+pub new-space-requires-clause-some : goal.new-space-requires-clause-some
+new-space-requires-clause-some c =
+    let same : width_of (block_tree c.block.result.now) ≡ width_of (block_tree c.args.b.now.block) =
+    ap (λ b. width_of (block_tree b)) c.block.ensures.block in
+    omega (arith, c.width.ensures.width, same, words_some (block_tree c.args.b.now.block) c.block.ensures.bouquet.costing.block)
+
+pub loop-plan-init : goal.loop-plan-init
+loop-plan-init c = record {
+  so_far = begins (bouquet_tree c.args.b.now) c.args.db.now c.args.point.now c.args.plans.now c.new-figures.result c.new-meter.result.account.spent
+      c.new-figures.ensures c.new-meter.ensures.spent;
+  unchanged = search rules;
+  within = search rules;
+  rows = search rules;
+  width = search rules;
+  result_width = search rules;
+}
+
+pub measured-requires-clause-fits : goal.measured-requires-clause-fits
+measured-requires-clause-fits c =
+    subst (λ (d : DatabaseState). Fits d (block_tree c.args.b.now.block)) (sym c.loop-plan.invariant.unchanged) c.requires.fits
+
+pub loop-plan-preserved : goal.loop-plan-preserved
+loop-plan-preserved c =
+    let b = bouquet_tree c.args.b.now in
+    let plan = c.plan-item.result in
+    let spent = c.loop-plan.meter.account.spent in
+    let m = c.in-Ok.measured in
+    let is : measure m ≡ measure_of b c.args.db.now c.args.point.now (plan_tree plan) =
+    c.in-Ok.ensures.measured ∙ ap (λ d. measure_of b d c.args.point.now (plan_tree plan)) c.loop-plan.invariant.unchanged in
+    let paid : c.measured.new.meter.account.spent ≡ spent + m.work = c.in-Ok.ensures.paid in
+    let few : m.work < 2 ^ 64 = search rules in
+    let next =
+    next-figures b c.args.db.now c.args.point.now c.args.plans.now c.loop-plan.plan-index plan m c.loop-plan.figures c.with-figures.result spent
+    c.loop-plan-test.true c.plan-item.is is few
+    (record { below = c.with-figures.ensures.below; worst = c.with-figures.ensures.worst; cheapest = c.with-figures.ensures.cheapest })
+    c.loop-plan.invariant.so_far in
+    record {
+      so_far = rw paid next;
+      unchanged = search rules;
+      within = search rules;
+      rows = search rules;
+      width = search rules;
+      result_width = search rules;
+    }
+
+pub returns-clause-audit : goal.returns-clause-audit
+returns-clause-audit c =
+    let spent = c.spent.result in
+    let few : spent < 2 ^ 64 = search rules in
+    told (bouquet_tree c.args.b.now) c.args.db.now c.args.point.now c.args.plans.now c.loop-plan.figures spent c.most.result
+    (plans_some c.args.b.now c.block.ensures.bouquet) c.requires.plans few c.most.ensures.most (search rules)

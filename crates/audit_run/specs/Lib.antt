@@ -1,0 +1,3 @@
+pub mod Measures
+pub mod Audits
+pub mod Executed

@@ -1,0 +1,138 @@
+// The audit: every plan is executed once.
+ghost use Rattle.std.specs.Prelude.{◌≡◌, ◌+◌, ◌<◌, ◌≤◌, [], All, IfErr, IfOk, OnOk, IsTrue, length, map};
+ghost use Rattle.sql_values.specs.Limits.{max_plans};
+ghost use Rattle.query_block.specs.Blocks.{block_tree, width_of};
+ghost use Rattle.ess_grid.specs.Points.{IsPoint};
+ghost use Rattle.plan_tree.specs.Plans.{plan_tree};
+ghost use Rattle.plan_tree.specs.Enumerated.{IsPlan};
+ghost use Rattle.plan_tree.specs.AllPlans.{plans_of};
+ghost use Rattle.plan_tree.specs.Work.{work_of};
+ghost use Rattle.db_catalog.specs.Fits.{Fits};
+ghost use Rattle.bouquet_type.specs.Trees.{bouquet_tree};
+ghost use Rattle.bouquet_type.specs.Runs.{CostPremise};
+ghost use Rattle.audit_run.specs.Measures.{measure_of};
+ghost use Rattle.audit_run.specs.Executed.{measure, StopsAudit};
+ghost use Rattle.audit_run.specs.Audits.{audit_of, told_audit, work_of_all, RefusesAudit};
+
+use crate::figures::{Figures, Measured};
+use crate::told::{Audit, AuditFault};
+use bouquet_type::Bouquet;
+use db_catalog::{Database, Metered};
+use ess_grid::Point;
+use exec_pipe::{RunStop, run_within};
+use plan_tree::{AllFault, Plan, all_plans};
+use row_stack::Space;
+use sql_values::MAX_PLANS;
+use std::alloc::Global;
+
+// What a plan costs at a point and works: it is executed over an empty space, and its rows are given back.
+fn measured(
+    alloc: Global,
+    b: &Bouquet,
+    point: &Point,
+    plan: &Plan,
+    meter: &mut Metered<'_>,
+    space: &mut Space,
+    max_work: u64,
+) -> Result<Measured, AuditFault>
+    requires fits { Fits meter.old.database (block_tree b.now.block) }
+    requires point { IsPoint b.now.grid point.now }
+    requires plan { IsPlan (block_tree b.now.block) (plan_tree plan.now) }
+    requires width { space.old.work.width ≡ width_of (block_tree b.now.block) }
+    requires result_width { space.old.result.width ≡ width_of (block_tree b.now.block) }
+    requires empty { (space.old.work.rows ≡ []) × (space.old.result.rows ≡ []) }
+    requires left { meter.old.account.spent ≤ max_work }
+    ensures measured { IfOk result (λ measured. measure measured
+        ≡ measure_of (bouquet_tree b.now) meter.old.database point.now (plan_tree plan.now)) }
+    ensures some { IfOk result (λ measured. 1 ≤ measured.work) }
+    ensures paid { IfOk result (λ measured.
+        meter.new.account.spent ≡ meter.old.account.spent + measured.work) }
+    ensures within { OnOk result (meter.new.account.spent ≤ max_work) }
+    ensures stops { IfErr result (StopsAudit (meter.old.account.spent
+        + work_of meter.old.database.tables (block_tree b.now.block) (plan_tree plan.now))
+        max_work) }
+    ensures database { meter.new.database ≡ meter.old.database }
+    ensures width { space.new.work.width ≡ space.old.work.width }
+    ensures result_width { space.new.result.width ≡ space.old.result.width }
+    ensures empty { OnOk result ((space.new.work.rows ≡ []) × (space.new.result.rows ≡ [])) }
+{
+    let before = meter.spent();
+    match run_within(alloc, b.block(), plan, meter, space, None, max_work) {
+        Ok(_) => {
+            space.result.release(0);
+            let cost = b.costing().cost(plan, point);
+            let work = meter.spent() - before;
+            Ok(Measured { cost, work })
+        }
+        Err(RunStop::WorkLimit) => Err(AuditFault::WorkLimit {
+            spent: u128::from(max_work),
+        }),
+        Err(RunStop::NoMemory) => Err(AuditFault::NoMemory),
+    }
+}
+
+// Executes these, which are all plans of the bouquet's block.
+fn audit_plans(
+    alloc: Global,
+    db: &Database,
+    b: &Bouquet,
+    point: &Point,
+    plans: &[Plan],
+    max_work: u64,
+) -> Result<Audit, AuditFault>
+    requires fits { Fits db.now (block_tree b.now.block) }
+    requires point { IsPoint b.now.grid point.now }
+    requires plans { map plan_tree plans.now ≡ plans_of (block_tree b.now.block) }
+    requires each { All (λ p. IsPlan (block_tree b.now.block) (plan_tree p)) plans.now }
+    ensures audit { IfOk result (λ audit.
+        told_audit audit ≡ audit_of (bouquet_tree b.now) db.now point.now) }
+    ensures within { IfOk result (λ audit. audit.work ≤ max_work) }
+    ensures stops { IfErr result (StopsAudit (work_of_all (bouquet_tree b.now) db.now) max_work) }
+{
+    let mut meter = Metered::new(db);
+    let mut space = Space::new(alloc, b.block().width());
+    let mut figures = Figures::new();
+    for plan in plans {
+        match measured(alloc, b, point, plan, &mut meter, &mut space, max_work) {
+            Ok(measured) => figures = figures.with(measured),
+            Err(fault) => return Err(fault),
+        }
+    }
+    Ok(Audit {
+        point: *point,
+        plans: plans.len() as u64,
+        below: figures.below,
+        a: figures.worst.cost,
+        b: figures.worst.work,
+        cheapest: figures.cheapest,
+        r: b.most(),
+        work: meter.spent(),
+    })
+}
+
+/// Executes every plan of a bouquet's block over a database and holds the works against the costs at a point of the bouquet's
+/// grid. All executions together spend at most `max_work` units.
+pub fn audit(
+    alloc: Global,
+    db: &Database,
+    b: &Bouquet,
+    point: &Point,
+    max_work: u64,
+) -> Result<Audit, AuditFault>
+    requires fits { Fits db.now (block_tree b.now.block) }
+    requires point { IsPoint b.now.grid point.now }
+    ensures audit { IfOk result (λ audit.
+        told_audit audit ≡ audit_of (bouquet_tree b.now) db.now point.now) }
+    ensures premise { IfOk result (λ audit. IsTrue audit.below →
+        CostPremise (bouquet_tree b.now).costing point.now audit.a audit.b
+        (work_of db.now.tables (block_tree b.now.block))) }
+    ensures few { IfOk result (λ audit. audit.plans ≤ max_plans) }
+    ensures within { IfOk result (λ audit. audit.work ≤ max_work) }
+    ensures refuses { IfErr result (RefusesAudit (bouquet_tree b.now) db.now max_work) }
+{
+    match all_plans(alloc, b.block(), MAX_PLANS) {
+        Ok(plans) => audit_plans(alloc, db, b, point, plans.as_slice(), max_work),
+        Err(AllFault::TooMany) => Err(AuditFault::PlanLimit),
+        Err(AllFault::NoMemory) => Err(AuditFault::NoMemory),
+    }
+}

@@ -1,0 +1,45 @@
+-- What comes of AUDIT.
+use Rattle.std.specs.Prelude.{ℕ, ◌+◌, List, [], ◌∷◌, Option, Some, None, option_map, length, nat_eq, nat_lt, if◌then◌else◌}
+use Rattle.sql_values.specs.Limits.{max_plans}
+use Rattle.sql_values.specs.declared.limit.LimitName.TheVariants as limit
+use Rattle.sql_parse.specs.declared.tree.AuditDef.{AuditDef}
+use Rattle.ess_grid.specs.Points.{GridShape}
+use Rattle.plan_tree.specs.AllPlans.{plans_of}
+use Rattle.bouquet_type.specs.Trees.{BouquetTree}
+use Rattle.audit_run.specs.Audits.{audit_of, work_of_all}
+use Rattle.session.specs.Printed.{audit_line}
+use Rattle.session.specs.Run.{at_bouquet, stale_count, unless_stale}
+use Rattle.session.specs.declared.refusal.Refusal.{Refusal}
+use Rattle.session.specs.declared.refusal.Refusal.TheVariants as refusal
+use Rattle.session.specs.Outcome.{Outcome, Prints, Refuses}
+use Rattle.session.specs.World.{World, named_in}
+
+-- the first of these levels that an axis of so many hasn't
+abbrev pub first_missing : (count : ℕ) → (levels : List ℕ) → Option ℕ
+first_missing count [] = None
+first_missing count (level ∷ more) = if nat_lt level count then first_missing count more else Some level
+
+-- levels that are no point of a grid: they aren't one for each axis, or one of them is too high
+abbrev pub point_refusal : GridShape → (levels : List ℕ) → Option Refusal
+point_refusal grid levels =
+    if nat_eq (length levels) grid.axes then option_map (λ level. refusal.PastLimit limit.Level level) (first_missing grid.levels levels)
+    else Some (refusal.PastLimit limit.Coordinates (length levels))
+
+-- what is told of a bouquet at a point, unless its levels are refused; a block has to have few enough plans, and their work
+-- together may be no more than this. No book takes it in
+abbrev pub audit_answer : (max_work : ℕ) → World → BouquetTree → (levels : List ℕ) → Option Refusal → Outcome
+audit_answer max_work world bouquet levels (Some why) = Refuses why
+audit_answer max_work world bouquet levels None =
+    if nat_lt max_plans (length (plans_of bouquet.costing.block)) then Refuses (refusal.PastLimit limit.Plans (max_plans + 1))
+    else if nat_lt max_work (work_of_all bouquet world.database) then Refuses (refusal.PastAudit max_work)
+    else Prints (audit_line (audit_of bouquet world.database levels)) 0 world
+
+-- the audit of the bouquet of this name, whose counts have to be those of the tables
+abbrev pub audit_outcome : (max_work : ℕ) → World → AuditDef → Outcome
+audit_outcome max_work world audit =
+    at_bouquet audit.name
+    (λ named.
+    let bouquet = named.bouquet in
+    unless_stale (stale_count world.database bouquet)
+    (audit_answer max_work world bouquet audit.levels (point_refusal bouquet.costing.grid audit.levels)))
+    (named_in audit.name world.bouquets)
