@@ -4,7 +4,7 @@ use Rattle.std.specs.FinMap as map
 use Rattle.std.specs.Coded.{Coded, code_by, coded×, coded_ℕ, coded_list, coded_option}
 use Rattle.outside_io.specs.Calls.{Calls}
 use Rattle.outside_io.specs.Files.{Files, FolderState}
-use Rattle.outside_io.specs.Memory.{MemoryFolderState}
+use Rattle.outside_io.specs.Memory.{MemoryFolderState, NeverFailsFolderState}
 
 -- files
 abbrev pub files_code : Coded Files
@@ -40,4 +40,12 @@ memory_folder_code =
       write_faults = p.1.1.0;
       misses = p.1.1.1;
     })
+    (λ _. refl)
+
+-- a folder that never fails
+abbrev pub never_fails_folder_code : Coded NeverFailsFolderState
+never_fails_folder_code =
+    code_by (Files × ℕ) (coded× files_code coded_ℕ)
+    (λ s. (s.files, s.misses))
+    (λ p. record { files = p.0; misses = p.1 })
     (λ _. refl)

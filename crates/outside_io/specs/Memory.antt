@@ -32,6 +32,20 @@ folder_state_of folder = record {
   misses = folder.misses;
 }
 
+-- a folder that never fails: its files, and how many reads missed
+pub record NeverFailsFolderState : Type 0 where
+  pub files : Files
+  pub misses : ℕ
+
+-- as its trait sees it: no call failed
+abbrev pub never_fails_state : NeverFailsFolderState → FolderState
+never_fails_state folder = record {
+  files = Some folder.files;
+  read_faults = 0;
+  write_faults = 0;
+  misses = folder.misses;
+}
+
 -- the files under their names, as a list has them
 abbrev pub named_files : List (Vec ℕ Global × Vec ℕ Global) → Files
 named_files entries = finite.from_entries (map (λ entry. (entry.0.items, entry.1.items)) entries)

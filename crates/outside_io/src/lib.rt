@@ -1,6 +1,6 @@
 //! The outside as the program sees it: a source of bytes, a sink for bytes, and a folder of files,
 //! each a trait that counts what went wrong. Implementations in memory, whose contents are known,
-//! fail at the calls whose numbers they were given. A source and a sink over any reader and writer
+//! fail at the calls whose numbers they were given, or never. A source and a sink over any reader and writer
 //! adapt standard input and output, and a folder adapts the files of the working directory.
 //! To the layers above the traits promise exact bytes where contents are known, and a failure only
 //! where a count rose. No call here looks at what the bytes mean.
@@ -11,10 +11,14 @@ mod failing;
 mod fault;
 mod folder;
 mod folder_counts;
+mod held_files;
 mod memory_folder;
 mod memory_sink;
 mod memory_source;
 mod name;
+mod never_fails_folder;
+mod never_fails_sink;
+mod never_fails_source;
 mod reader_source;
 mod regular;
 mod replace;
@@ -28,6 +32,9 @@ pub use folder::Folder;
 pub use memory_folder::MemoryFolder;
 pub use memory_sink::MemorySink;
 pub use memory_source::MemorySource;
+pub use never_fails_folder::NeverFailsFolder;
+pub use never_fails_sink::NeverFailsSink;
+pub use never_fails_source::NeverFailsSource;
 pub use reader_source::{ReaderSource, StdSource};
 pub use sink::Sink;
 pub use source::Source;

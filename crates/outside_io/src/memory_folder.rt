@@ -10,8 +10,8 @@ ghost use Rattle.outside_io.specs.Calls.{no_calls, fails_next, after_call};
 ghost use Rattle.outside_io.specs.Memory.{named_files, folder_state_of};
 
 use crate::failing::FailingCalls;
-use crate::folder::check_len;
 use crate::folder_counts::FolderCounts;
+use crate::held_files::{lend_file, put_file, read_file, write_file};
 use crate::{FileFault, Folder};
 use std::alloc::{AllocError, Global};
 use std::collections::BTreeMap;
@@ -41,34 +41,6 @@ impl Model for MemoryFolder {
       write_faults = f.counts.write_faults;
       misses = f.counts.misses;
     } };
-}
-
-// Puts the bytes under the name.
-fn put_file(
-    alloc: Global,
-    files: &mut BTreeMap<Vec<u8>, Vec<u8>>,
-    name: &str,
-    bytes: &[u8],
-) -> Result<(), AllocError>
-    ensures put { OnOk result (named_files files.new.entries
-        ≡ with_file (named_files files.old.entries) name.now bytes.now) }
-    ensures kept { OnErr result (named_files files.new.entries ≡ named_files files.old.entries) }
-{
-    let key = Vec::from_slice(alloc, name.as_bytes())?;
-    let value = Vec::from_slice(alloc, bytes)?;
-    files.insert(key, value)?;
-    Ok(())
-}
-
-// Lends the bytes under the name.
-fn lend_file<'a>(files: &'a BTreeMap<Vec<u8>, Vec<u8>>, name: &str) -> Option<&'a [u8]>
-    ensures { option_map (λ bytes. bytes.now) result
-        ≡ held_file (named_files files.now.entries) name.now }
-{
-    match files.get(name.as_bytes()) {
-        Some(bytes) => Some(bytes.as_slice()),
-        None => None,
-    }
 }
 
 impl MemoryFolder {
@@ -106,39 +78,6 @@ impl MemoryFolder {
     {
         lend_file(&self.files, name)
     }
-}
-
-// Puts the bytes under the name, in a write.
-fn write_file(
-    alloc: Global,
-    files: &mut BTreeMap<Vec<u8>, Vec<u8>>,
-    name: &str,
-    bytes: &[u8],
-) -> Result<(), FileFault>
-    ensures put { OnOk result (named_files files.new.entries
-        ≡ with_file (named_files files.old.entries) name.now bytes.now) }
-    ensures kept { OnErr result (named_files files.new.entries ≡ named_files files.old.entries) }
-    ensures kinds { IfErr result (λ e. e ≡ FileFault.NoMemory) }
-{
-    put_file(alloc, files, name, bytes)?;
-    Ok(())
-}
-
-// A copy of the file's bytes, or why a read doesn't give them.
-fn read_file(
-    alloc: Global,
-    files: &BTreeMap<Vec<u8>, Vec<u8>>,
-    name: &str,
-) -> Result<Vec<u8>, FileFault>
-    ensures known { IsReadAnswer (named_files files.now.entries) name.now result }
-    ensures within { KeepsFileLimit result }
-    ensures failed { IsErrOf result FileFault.Failed → ⊥ }
-{
-    let Some(bytes) = lend_file(files, name) else {
-        return Err(FileFault::Absent);
-    };
-    check_len(bytes.len() as u64)?;
-    Ok(Vec::from_slice(alloc, bytes)?)
 }
 
 impl Folder for MemoryFolder {

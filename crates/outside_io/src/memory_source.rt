@@ -6,6 +6,7 @@ ghost use Rattle.outside_io.specs.Count.{HasCause};
 ghost use Rattle.outside_io.specs.Calls.{no_calls, fails_next, after_call};
 
 use crate::failing::FailingCalls;
+use crate::source::copy_first;
 use crate::{Failed, Source};
 use std::marker::Model;
 
@@ -26,16 +27,6 @@ impl Model for MemorySource {
     ghost view = { λ s. record { left = drop s.at s.bytes.items; calls = s.calls } };
 
     ghost invariant = { λ s. s.at ≤ vec_len s.bytes };
-}
-
-// Copies as many of the first bytes as there is room for, and returns how many these are.
-fn copy_first(from: &[u8], into: &mut [u8]) -> usize
-    ensures count { result ≡ min (length from.now) (length into.old) }
-    ensures copied { take result into.new ≡ take result from.now }
-{
-    let n = from.len().min(into.len());
-    into[..n].copy_from_slice(&from[..n]);
-    n
 }
 
 impl MemorySource {

@@ -1,10 +1,20 @@
 // Where the script comes from: the trait of every source. It never says what the bytes mean.
 ghost use Rattle.std.specs.Prelude.{◌≡◌, ℕ, ◌≤◌, ◌<◌, ◌↔◌, List, [], take, length, Option};
-ghost use Rattle.std.specs.Prelude.{IfOk, IsErr, OnErr, IfSome};
+ghost use Rattle.std.specs.Prelude.{IfOk, IsErr, OnErr, IfSome, min};
 ghost use Rattle.std.specs.Io.KnownBytes.{Consumes, Keeps};
 ghost use Rattle.outside_io.specs.Count.{HasCause};
 
 use crate::Failed;
+
+/// Copies as many of the first bytes as there is room for, and returns how many these are.
+pub(crate) fn copy_first(from: &[u8], into: &mut [u8]) -> usize
+    ensures count { result ≡ min (length from.now) (length into.old) }
+    ensures copied { take result into.new ≡ take result from.now }
+{
+    let n = from.len().min(into.len());
+    into[..n].copy_from_slice(&from[..n]);
+    n
+}
 
 /// A source of bytes.
 pub trait Source {

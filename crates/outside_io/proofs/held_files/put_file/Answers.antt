@@ -1,7 +1,7 @@
 -- The tree gets the entry of this name.
 use Rattle.std.proofs.Common.{◌∙◌}
 use Rattle.outside_io.proofs.Named.{named_files-put}
-use Rattle.outside_io.proofs.memory_folder.put_file.Goals as goal
+use Rattle.outside_io.proofs.held_files.put_file.Goals as goal
 
 pub returns-clause-put : goal.returns-clause-put
 returns-clause-put c =

@@ -1,7 +1,7 @@
 -- The tree is looked up by the bytes of the name.
 use Rattle.std.proofs.Common.{Some, None, ap, ◌∙◌}
 use Rattle.outside_io.proofs.Named.{found-held_file}
-use Rattle.outside_io.proofs.memory_folder.lend_file.Goals as goal
+use Rattle.outside_io.proofs.held_files.lend_file.Goals as goal
 
 pub returns-in-Some : goal.returns-in-Some
 returns-in-Some c =

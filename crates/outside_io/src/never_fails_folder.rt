@@ -1,0 +1,95 @@
+// A folder in memory that never fails. Its files are known; a write that finds no memory changes nothing.
+ghost use Rattle.std.specs.Prelude.{◌≡◌, OnOk, OnErr, IfErr, IsErrOf, IsErrAnd, option_map};
+ghost use Rattle.std.specs.FinMap as finite;
+ghost use Rattle.outside_io.specs.Files.{IsReadAnswer, KeepsFileLimit, IsMiss, OnlyReads};
+ghost use Rattle.outside_io.specs.Files.{OnlyWrites, held_file, with_file};
+ghost use Rattle.outside_io.specs.Count.{CountsEach};
+ghost use Rattle.outside_io.specs.Memory.{never_fails_state};
+
+use crate::folder_counts::FolderCounts;
+use crate::held_files::{lend_file, put_file, read_file, write_file};
+use crate::{FileFault, Folder};
+use std::alloc::{AllocError, Global};
+use std::collections::BTreeMap;
+use std::marker::Model;
+
+/// A folder in memory whose calls never fail but for want of memory.
+#[derive(Drop)]
+pub struct NeverFailsFolder {
+    alloc: Global,
+    files: BTreeMap<Vec<u8>, Vec<u8>>,
+    counts: FolderCounts,
+}
+
+impl Model for NeverFailsFolder {
+    ghost use Rattle.outside_io.specs.Memory.{NeverFailsFolderState, named_files};
+    ghost use Rattle.outside_io.specs.Codes.{never_fails_folder_code};
+
+    ghost Value = { NeverFailsFolderState };
+
+    ghost coded = { never_fails_folder_code };
+
+    ghost view = { λ f. record { files = named_files f.files.entries; misses = f.counts.misses } };
+}
+
+impl NeverFailsFolder {
+    /// A folder without files.
+    pub fn new(alloc: Global) -> NeverFailsFolder
+        ensures files { result.files ≡ finite.empty }
+        ensures misses { result.misses ≡ 0 }
+    {
+        NeverFailsFolder {
+            alloc,
+            files: BTreeMap::new(alloc),
+            counts: FolderCounts::new(),
+        }
+    }
+
+    /// Puts the bytes under the name, in the place of what was there. It has no limit.
+    pub fn add(&mut self, name: &str, bytes: &[u8]) -> Result<(), AllocError>
+        ensures added { OnOk result (self.new.files ≡ with_file self.old.files name.now bytes.now) }
+        ensures kept { OnErr result (self.new.files ≡ self.old.files) }
+        ensures misses { self.new.misses ≡ self.old.misses }
+    {
+        put_file(self.alloc, &mut self.files, name, bytes)
+    }
+
+    /// The bytes under the name.
+    pub fn get(&self, name: &str) -> Option<&[u8]>
+        ensures { option_map (λ bytes. bytes.now) result ≡ held_file self.now.files name.now }
+    {
+        lend_file(&self.files, name)
+    }
+}
+
+impl Folder for NeverFailsFolder {
+    ghost state = { never_fails_state };
+
+    fn read(&mut self, alloc: Global, name: &str) -> Result<Vec<u8>, FileFault>
+        ensures known { IsReadAnswer self.old.files name.now result }
+        ensures within { KeepsFileLimit result }
+        ensures reads { OnlyReads (IsErrOf result FileFault.Failed) (IsErrAnd result IsMiss)
+            (never_fails_state self.old) (never_fails_state self.new) }
+
+        // No call fails, each miss is counted once, and nothing else is.
+        ensures never { ¬ (IsErrOf result FileFault.Failed) }
+        ensures misses { CountsEach (IsErrAnd result IsMiss) self.old.misses self.new.misses }
+    {
+        let outcome = read_file(alloc, &self.files, name);
+        self.counts.count_read(&outcome);
+        outcome
+    }
+
+    fn write(&mut self, name: &str, bytes: &[u8]) -> Result<(), FileFault>
+        ensures written { OnOk result (
+            self.new.files ≡ with_file self.old.files name.now bytes.now) }
+        ensures kept { OnErr result (self.new.files ≡ self.old.files) }
+        ensures writes { OnlyWrites (IsErrOf result FileFault.Failed)
+            (never_fails_state self.old) (never_fails_state self.new) }
+
+        // No call fails.
+        ensures never { IfErr result (λ fault. fault ≡ FileFault.NoMemory) }
+    {
+        write_file(self.alloc, &mut self.files, name, bytes)
+    }
+}
