@@ -1,0 +1,2 @@
+pub mod ByTens
+pub mod LastDigit
