@@ -1,8 +1,16 @@
+pub mod Asked
 pub mod Beginning
 pub mod Carrying
+pub mod ClapLine
+pub mod ClapWords
+pub mod CutAtEquals
+pub mod Demonstrations
 pub mod Ends
 pub mod Reading
 pub mod Runs
 pub mod Scripts
 pub mod Steps
 pub mod TokensFew
+pub mod WordNumbers
+pub mod WordsGiven
+pub mod WordsRead

@@ -154,11 +154,16 @@ pub known_bounded : (source now : Option (List ℕ)) (bytes : List ℕ) → IfSo
 known_bounded None now bytes read = tt
 known_bounded (Some left) now bytes read = (enough, omega arith, read.1)
 
+-- nothing was taken
+pub untaken_bounded : (source : Option (List ℕ)) → IfSome source (TakesAtMost enough source)
+untaken_bounded None = tt
+untaken_bounded (Some left) = (0, omega arith, refl)
+
 pub known_read : (source now : Option (List ℕ)) (bytes : List ℕ) → IfSome source (λ left. (bytes ≡ take enough left) × (now ≡ Some (drop enough left))) → IfSome source (λ left. bytes ≡ take enough left)
 known_read None now bytes read = tt
 known_read (Some left) now bytes read = read.0
 
-decided_by : (max_work : ℕ) (source_failed sink_failed : Type 0) (script : List ℕ) (before after : FolderState) (ended : Status) (had got : Option (List ℕ)) (paid : ℕ) → (ended ≡ status.BadWords → ⊥) → (ended ≡ status.ReadFault → ⊥) → (ended ≡ status.WriteFault → ⊥)
+pub decided_by : (max_work : ℕ) (source_failed sink_failed : Type 0) (script : List ℕ) (before after : FolderState) (ended : Status) (had got : Option (List ℕ)) (paid : ℕ) → (ended ≡ status.BadWords → ⊥) → (ended ≡ status.ReadFault → ⊥) → (ended ≡ status.WriteFault → ⊥)
     → Serves max_work source_failed sink_failed script before after ended had got paid → IsDecided max_work script before after ended
 decided_by max_work source_failed sink_failed script before after status.Done had got paid words reads writes serves = record { answer = serves.answer; due = serves.due; ends = inl (rw (serves.carries.done refl).0 refl) }
 decided_by max_work source_failed sink_failed script before after status.Refused had got paid words reads writes serves = record { answer = serves.answer; due = serves.due; ends = inl (rw (serves.carries.refused refl).0 refl) }

@@ -3,3 +3,4 @@ pub mod Limits
 pub mod Script
 pub mod Serve
 pub mod Source
+pub mod Words

@@ -1,5 +1,5 @@
 -- What is due to a script, and what a run of the program did of it.
-use Rattle.std.specs.Prelude.{◌≡◌, ◌⊎◌, ℕ, ◌+◌, ◌<◌, ◌≤◌, true, false, List, [], ◌∷◌, ◌++◌, take, length, map, codes, Option, Result, Ok, Err, IfOk, IsOkAnd, IsSomeAnd, if◌then◌else◌}
+use Rattle.std.specs.Prelude.{◌≡◌, ◌⊎◌, ℕ, ◌+◌, ◌<◌, ◌≤◌, true, false, List, [], ◌∷◌, ◌++◌, take, length, map, codes, Option, Some, Result, Ok, Err, IfOk, IsOkAnd, IsSomeAnd, if◌then◌else◌}
 use Rattle.std.specs.Io.KnownBytes.{Appends}
 use Rattle.outside_io.specs.Count.{Rose}
 use Rattle.outside_io.specs.Files.{Files, FolderState}
@@ -14,6 +14,7 @@ use Rattle.session.specs.Returns.{FailsToWrite}
 use Rattle.session.specs.Statements.{AsksForFile}
 use Rattle.session.specs.declared.refusal.Refusal.{Refusal}
 use Rattle.session.specs.declared.refusal.Refusal.TheVariants as refusal
+use Rattle.demo_data.specs.Demo.{demo_files, demo_script}
 use Rattle.shell.specs.Script.{Answer, AreAnsweredWithin, AreGiven, ScriptState, Step, answer_of, at_start, files_after, script_answer, state_after}
 use Rattle.shell.specs.declared.status.Status.{Status}
 use Rattle.shell.specs.declared.status.Status.TheVariants as status
@@ -140,6 +141,19 @@ pub record IsDecided (max_work : ℕ) (script : List ℕ) (old new : FolderState
   pub answer : Answer
   pub due : IsAnswer max_work script old new answer
   pub ends : (ended ≡ (if answer.refused then status.Refused else status.Done)) ⊎ (ended ≡ status.NoMemory)
+
+-- the folder of the demonstration of this number, before its script is carried out
+abbrev pub demo_folder : ℕ → FolderState
+demo_folder number = record { files = Some (demo_files number); read_faults = 0; write_faults = 0; misses = 0 }
+
+-- a run of the demonstration of this number: its script was carried out over its folder, of which afterwards this is known, no call
+-- of it failed, and where the sink didn't fail either, the run ended as the script's text does, or out of memory
+pub record Demonstrates (max_work number : ℕ) (sink_failed : Type 0) (ended : Status) (before after : Option (List ℕ)) (paid : ℕ) : Type 0 where
+  pub left : FolderState
+  pub serves : Serves max_work ⊥ sink_failed demo_script (demo_folder number) left ended before after paid
+  pub no_read_failed : left.read_faults ≡ 0
+  pub no_write_failed : left.write_faults ≡ 0
+  pub decided : ¬ sink_failed → IsDecided max_work demo_script (demo_folder number) left ended
 
 -- no count of a folder falls
 pub record NeverFalls (old new : FolderState) : Type 0 where

@@ -4,12 +4,15 @@
 //! what each status means. It never prints what wasn't due, and never answers a fault that none of the three counted.
 #![tactic(auto)]
 
+mod demonstration;
 mod fold;
 mod program;
+mod run;
 mod script;
 mod sink;
 mod source;
 mod status;
+mod words;
 
 pub use program::{one_answer_is_due, serve};
 pub use status::Status;

@@ -1,48 +1,28 @@
--- What was read is carried out; before that nothing is put.
-use Rattle.std.proofs.Common.{Err, inl, inr, refl, ap}
-use Rattle.shell.specs.Limits.{max_work}
+-- There was no memory to read the arguments, so nothing was done; a demonstration takes nothing from the source.
+use Rattle.std.proofs.Common.{inr, refl}
+use Rattle.shell.specs.Words.{options_of, word_texts}
 use Rattle.shell.specs.declared.status.Status.TheVariants as status
-use Rattle.shell.proofs.Runs.{known_nothing, known_whole, known_read, known_emptied, known_bounded, known_decided, known_refused}
+use Rattle.shell.proofs.Asked.{where_asked, where_shown}
+use Rattle.shell.proofs.Demonstrations.{demonstrates_nothing}
+use Rattle.shell.proofs.Runs.{known_nothing, known_decided, untaken_bounded}
 use Rattle.shell.proofs.program.serve.Goals as goal
 
-pub returns-in-Err-Failed-clause-serves : goal.returns-in-Err-Failed-clause-serves
-returns-in-Err-Failed-clause-serves g c = λ none.
-    known_nothing max_work _ _ (g.S.Source.left c.args.source.now) (g.F.Folder.state c.args.folder.now) status.ReadFault (g.K.Sink.got c.args.sink.now) c.args.book.now (inl refl) (λ _. c.in-Err-Failed.ensures.faults.rose (ap Err c.in-Err-Failed.field-0-is))
-
 pub returns-in-Err-NoMemory-clause-serves : goal.returns-in-Err-NoMemory-clause-serves
-returns-in-Err-NoMemory-clause-serves g c = λ none.
-    known_nothing max_work _ _ (g.S.Source.left c.args.source.now) (g.F.Folder.state c.args.folder.now) status.NoMemory (g.K.Sink.got c.args.sink.now) c.args.book.now (inr refl) (λ is. cc is)
+returns-in-Err-NoMemory-clause-serves g c =
+    where_asked (options_of (word_texts c.args.words.now)) (λ options plain.
+    known_nothing options.max_work _ _ (g.S.Source.left c.args.source.now) (g.F.Folder.state c.args.folder.now) status.NoMemory (g.K.Sink.got c.args.sink.now) c.args.book.now (inr refl) (λ is. cc is))
+
+pub returns-in-Err-NoMemory-clause-demonstrates : goal.returns-in-Err-NoMemory-clause-demonstrates
+returns-in-Err-NoMemory-clause-demonstrates g c =
+    where_shown (options_of (word_texts c.args.words.now)) (λ options number.
+    demonstrates_nothing options.max_work number _ (g.K.Sink.got c.args.sink.now) c.args.book.now)
 
 pub returns-in-Err-NoMemory-clause-decided : goal.returns-in-Err-NoMemory-clause-decided
-returns-in-Err-NoMemory-clause-decided g c = λ none source_quiet reads_quiet writes_quiet sink_quiet.
-    known_decided max_work _ _ (g.S.Source.left c.args.source.now) (g.F.Folder.state c.args.folder.now) (g.F.Folder.state c.args.folder.now) status.NoMemory (g.K.Sink.got c.args.sink.now) (g.K.Sink.got c.args.sink.now) c.args.book.now
-    (λ is. cc is) (λ is. cc is) (λ is. cc is) (returns-in-Err-NoMemory-clause-serves g c none)
+returns-in-Err-NoMemory-clause-decided g c = λ source_quiet reads_quiet writes_quiet sink_quiet.
+    where_asked (options_of (word_texts c.args.words.now)) (λ options plain.
+    known_decided options.max_work ⊥ ⊥ (g.S.Source.left c.args.source.now) (g.F.Folder.state c.args.folder.now) (g.F.Folder.state c.args.folder.now) status.NoMemory (g.K.Sink.got c.args.sink.now) (g.K.Sink.got c.args.sink.now) c.args.book.now
+    (λ is. cc is) (λ is. cc is) (λ is. cc is)
+    (known_nothing options.max_work ⊥ ⊥ (g.S.Source.left c.args.source.now) (g.F.Folder.state c.args.folder.now) status.NoMemory (g.K.Sink.got c.args.sink.now) c.args.book.now (inr refl) (λ is. cc is)))
 
-pub returns-clause-serves : goal.returns-clause-serves
-returns-clause-serves g c = λ none.
-    known_whole max_work _ _ (g.S.Source.left c.args.source.now) (g.F.Folder.state c.args.folder.now) (g.F.Folder.state c.carry_out_script.new.folder) c.in-Ok.script.items c.carry_out_script.result (g.K.Sink.got c.args.sink.now) (g.K.Sink.got c.carry_out_script.new.sink) c.carry_out_script.new.book
-    (known_read (g.S.Source.left c.args.source.now) (g.S.Source.left c.read_source.new.source) c.in-Ok.script.items c.in-Ok.ensures.whole) (rw c.deref.ensures.value at c.carry_out_script.ensures.serves)
-
-pub returns-clause-emptied : goal.returns-clause-emptied
-returns-clause-emptied g c = λ done.
-    known_emptied (g.S.Source.left c.args.source.now) (g.S.Source.left c.read_source.new.source) c.in-Ok.script.items c.in-Ok.ensures.whole (rw c.deref.ensures.value at (c.carry_out_script.ensures.fits done))
-
-pub returns-clause-bounded : goal.returns-clause-bounded
-returns-clause-bounded g c =
-    known_bounded (g.S.Source.left c.args.source.now) (g.S.Source.left c.read_source.new.source) c.in-Ok.script.items c.in-Ok.ensures.whole
-
-pub returns-clause-unread_script : goal.returns-clause-unread_script
-returns-clause-unread_script g c =
-    known_refused (g.S.Source.left c.args.source.now) _ c.in-Ok.script.items
-    (known_read (g.S.Source.left c.args.source.now) (g.S.Source.left c.read_source.new.source) c.in-Ok.script.items c.in-Ok.ensures.whole) (rw c.deref.ensures.value at c.carry_out_script.ensures.unread)
-
-pub returns-clause-unpaid_script : goal.returns-clause-unpaid_script
-returns-clause-unpaid_script g c =
-    known_refused (g.S.Source.left c.args.source.now) _ c.in-Ok.script.items
-    (known_read (g.S.Source.left c.args.source.now) (g.S.Source.left c.read_source.new.source) c.in-Ok.script.items c.in-Ok.ensures.whole) (rw c.deref.ensures.value at c.carry_out_script.ensures.unpaid_script)
-
-pub returns-clause-decided : goal.returns-clause-decided
-returns-clause-decided g c = λ none source_quiet reads_quiet writes_quiet sink_quiet.
-    known_decided max_work _ _ (g.S.Source.left c.args.source.now) (g.F.Folder.state c.args.folder.now) (g.F.Folder.state c.carry_out_script.new.folder) c.carry_out_script.result (g.K.Sink.got c.args.sink.now) (g.K.Sink.got c.carry_out_script.new.sink) c.carry_out_script.new.book
-    c.carry_out_script.ensures.kinds (λ fault. reads_quiet (c.carry_out_script.ensures.read_fault fault))
-    (λ fault. elim (c.carry_out_script.ensures.write_fault fault) [ inl sink ↦ sink_quiet sink | inr folder ↦ writes_quiet folder ]) (returns-clause-serves g c none)
+pub returns-in-Some-clause-bounded : goal.returns-in-Some-clause-bounded
+returns-in-Some-clause-bounded g c = untaken_bounded (g.S.Source.left c.args.source.now)

@@ -4,7 +4,7 @@ use Rattle.sql_parse.specs.Trees.{statement_tree}
 use Rattle.shell.specs.declared.status.Status.TheVariants as status
 use Rattle.shell.proofs.Scripts.{one_reading}
 use Rattle.shell.proofs.Runs.{serves_nothing, serves_statements, serves_refusal}
-use Rattle.shell.proofs.program.carry_out_script.Goals as goal
+use Rattle.shell.proofs.run.carry_out_script.Goals as goal
 
 pub returns-in-Ok-clause-serves : goal.returns-in-Ok-clause-serves
 returns-in-Ok-clause-serves g c =

@@ -1,0 +1,6 @@
+-- There was no memory for the folder, so nothing was carried out.
+use Rattle.shell.proofs.Demonstrations.{demonstrates_nothing}
+use Rattle.shell.proofs.demonstration.run_demonstration.Goals as goal
+
+pub returns-in-Err-clause-demonstrates : goal.returns-in-Err-clause-demonstrates
+returns-in-Err-clause-demonstrates g c = demonstrates_nothing c.args.max_work c.args.number _ (g.K.Sink.got c.args.sink.now) c.args.book.now
