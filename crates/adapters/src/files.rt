@@ -1,6 +1,6 @@
 // What a folder's files answer: those of the system, in a directory of the test's own, and those in memory.
 use crate::failing_files::{FailingFiles, Wrong};
-use outside_io::{DirFolder, FileFault, Folder, MemoryFolder};
+use outside_io::{DirFolder, FileFault, Folder, MemoryFolder, NeverFailsFolder};
 use std::alloc::Global;
 use std::fs::{OpenFile, Permissions};
 use std::os::unix::fs::{PermissionsExt, symlink};
@@ -279,5 +279,15 @@ fn a_folder_in_memory_keeps_what_was_written(rt: HostRuntime) -> Result<(), Fail
     folder.add("a", b"old")?;
     let found = write_line(alloc, &mut folder, "a", "a")?;
     assert_eq!(rt; found.as_str(), "done, newer\n");
+    Ok(())
+}
+
+#[test]
+fn a_folder_that_never_fails_keeps_what_was_written(rt: HostRuntime) -> Result<(), Fail> {
+    let alloc = rt.alloc();
+    let mut folder = NeverFailsFolder::new(alloc);
+    folder.add("a", b"old")?;
+    let found = write_line(alloc, &mut folder, "b", "a")?;
+    assert_eq!(rt; found.as_str(), "done, old\n");
     Ok(())
 }

@@ -1,6 +1,8 @@
 // What the adapters of streams reach of the system: that a sink flushes and tells the failures of a writer, and that a
-// source tells those of a reader.
-use outside_io::{Failed, PutFault, ReaderSource, Sink, Source, StdSink, StdSource, WriterSink};
+// source tells those of a reader; and that a sink in memory finds memory.
+use outside_io::{
+    Failed, NeverFailsSink, PutFault, ReaderSource, Sink, Source, StdSink, StdSource, WriterSink,
+};
 use std::alloc::Global;
 use std::io;
 use std::io::{ErrorKind, Read, Write};
@@ -146,4 +148,11 @@ fn standard_input_and_output_have_adapters(rt: HostRuntime) {
     let taken = StdSource::new(rt.reader()).take(&mut []);
     let put = StdSink::new(io::writer(&rt)).put(b"");
     assert!(rt; taken == Ok(0) && put == Ok(()));
+}
+
+#[test]
+fn a_sink_that_never_fails_appends(rt: HostRuntime) {
+    let mut sink = NeverFailsSink::new(rt.alloc());
+    let put = (sink.put(b"one"), sink.put(b" two"));
+    assert!(rt; put == (Ok(()), Ok(())) && sink.bytes() == "one two".as_bytes());
 }
