@@ -11,9 +11,10 @@ pub record IsInBounds (account : Account) : Type 0 where
   pub granted : account.spent ≤ account.limit
   pub bounded : account.limit ≤ 2 ^ 126
 
--- a payment of n: it is made exactly where it fits, and else spends what is left; the limit stays
+-- a payment of n: it is made exactly where it fits, and else spends what is left, and none is taken back; the limit stays
 pub record Pays {T E : Type 0} (n : ℕ) (old new : Account) (result : Result T E) : Type 0 where
   pub fits : IsOk result ↔ (old.spent + n ≤ old.limit)
   pub paid : OnOk result (new.spent ≡ old.spent + n)
   pub refused : OnErr result (new.spent ≡ old.limit)
   pub limit : new.limit ≡ old.limit
+  pub never_falls : old.spent ≤ new.spent
