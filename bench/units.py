@@ -61,7 +61,7 @@ def measures(rows):
         Measure("entry", "SELECT A.K FROM SMALL A, MATE B WHERE A.G = B.G AND B.V >= 0", "X0(S0,1)", rows, None),
         Measure("descent", "SELECT BIG.K FROM BIG, MATE WHERE BIG.V = MATE.V", "X0(S0,1)", rows, "given"),
         Measure("merged", "SELECT BIG.K FROM BIG, SMALL WHERE BIG.K = SMALL.K", "M0(S0,S1)", rows, "row"),
-        Measure("indexed", "SELECT MATE.K FROM MATE WHERE V < 0 AND G <> G", "I0(2)", rows, None),
+        Measure("indexed", "SELECT MATE.K FROM MATE WHERE V < 0 AND G <> G", "I0.2", rows, None),
     ]
 
 
