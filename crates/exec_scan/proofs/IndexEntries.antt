@@ -1,40 +1,36 @@
--- The entries of an index: each is that of a row, whose value in the column isn't NULL. So a range of words finds rows.
-use Rattle.std.proofs.Common.{◌≡◌, ℕ, suc, ◌+◌, ◌<◌, ℤ, Bool, true, false, cond, ◌||◌, IsTrue, nat_eq, List, [], ◌∷◌, All, length, filter, map, drop, get_or, length-drop, Some, None, FitsSigned, w64, refl, sym, ap, subst, ◌∙◌, arith}
+-- The entries of an index: each is that of a row, whose value in the column isn't NULL.
+use Rattle.std.proofs.Common.{◌≡◌, ℕ, suc, ◌+◌, ◌<◌, Bool, true, false, not, cond, ◌&&◌, IsTrue, nat_eq, List, [], ◌∷◌, ◌++◌, All, length, filter, map, drop, get_or, length-drop, refl, sym, ap, subst, ◌∙◌, arith}
+use Rattle.std.specs.Prelude.{count_by, if◌then◌else◌}
 use Rattle.std.specs.List.{list_any, Contains}
+use Rattle.std.specs.List.Sorted.{IsPermutation}
+use Rattle.std.specs.Ordering.{is_gt}
 use Rattle.std.proofs.Math.Seq.{drop-cons}
-use Rattle.std.proofs.lemmas.Bool.Decides.{nat_tests}
-use Rattle.std.proofs.lemmas.List.Elements.{All-nil, All-cons, All-head, All-tail, All-append, All-get_or}
-use Rattle.std.proofs.lemmas.List.Sorted.{All-permutation}
+use Rattle.std.proofs.lemmas.Bool.{eqb-true, not_from_false}
+use Rattle.std.proofs.lemmas.List.{length-map, map-append}
+use Rattle.std.proofs.lemmas.List.Elements.{All-nil, All-cons, All-head, All-tail, All-append, All-contains, filter-append, filter_agree}
+use Rattle.std.proofs.lemmas.Map.Views.{Contains-from_any}
+use Rattle.std.proofs.lemmas.List.Sums.{length-filter}
+use Rattle.std.proofs.lemmas.List.Sorted.{All-permutation, IsPermutation-refl, IsPermutation-trans, IsPermutation-cons, IsPermutation-middle, IsPermutation-map, IsPermutation-sym, length_permutation}
 use Rattle.sql_values.specs.declared.value.Value.{Value}
 use Rattle.sql_values.specs.declared.value.Value.TheVariants as value
 use Rattle.sql_values.specs.Words.{word_of}
 use Rattle.sql_values.specs.Stored.{ValueRow}
 use Rattle.sql_values.specs.Truth.{is_null}
 use Rattle.query_block.specs.Truth.{value_at}
-use Rattle.sql_values.specs.declared.column.ColumnType.{ColumnType}
-use Rattle.query_block.specs.declared.condition.Condition.{Condition}
-use Rattle.query_block.specs.Conditions.{FilterTree, filter_tree}
-use Rattle.query_block.specs.Blocks.{RelationTree, BlockTree, kind_at, relation_at, FitsColumns, IsRelation, IsBlock}
-use Rattle.plan_tree.specs.Usable.{is_usable}
-use Rattle.btree_index.specs.declared.index.Cursor.{Cursor}
-use Rattle.btree_index.specs.Entries.{IndexEntry, HaveWords, entries_left, is_within}
-use Rattle.db_catalog.specs.Database.{DatabaseState, table_at, row_at, StandAsWords}
-use Rattle.db_catalog.specs.Fits.{Fits, FitsTable}
-use Rattle.db_catalog.specs.Indexes.{value_entry, entries_from, column_entries, index_at}
+use Rattle.btree_index.specs.Entries.{IndexEntry, entry_order}
+use Rattle.db_catalog.specs.Database.{DatabaseState, table_at}
+use Rattle.db_catalog.specs.Indexes.{value_entry, entries_from, column_entries, index_at, ordered, placed}
 use Rattle.db_catalog.proofs.EntryOrder.{ordered_same}
-use Rattle.exec_scan.specs.declared.range.WordRange.{WordRange}
-use Rattle.exec_scan.specs.Ranges.{IsStored, Finds}
-use Rattle.exec_scan.specs.State.{IndexScanState}
-use Rattle.exec_scan.proofs.StoredValues.{is-stored}
-use Rattle.exec_scan.specs.IndexScanning.{IsInIndex, is_wanted, entries_to}
+use Rattle.exec_scan.specs.EntryReading.{row_of_entry}
+use Rattle.exec_scan.proofs.LeafRows.{filter-map}
 
 -- the first of the rows from a place on is the row at that place
-pub record Front {X : Type 0} (all rest : List X) (first : ℕ) (x d : X) : Type 0 where
-  pub there : first < length all
-  pub here : get_or all first d ≡ x
-  pub rest_is : rest ≡ drop (first + 1) all
+record Front {X : Type 0} (all rest : List X) (first : ℕ) (x d : X) : Type 0 where
+  there : first < length all
+  here : get_or all first d ≡ x
+  rest_is : rest ≡ drop (first + 1) all
 
-pub front : {X : Type 0} (all rest : List X) (first : ℕ) (x d : X) → x ∷ rest ≡ drop first all → Front all rest first x d
+front : {X : Type 0} (all rest : List X) (first : ℕ) (x d : X) → x ∷ rest ≡ drop first all → Front all rest first x d
 front all rest first x d is =
     let there : first < length all = omega (arith, simp length-drop at (ap length is)) in
     let next : suc first ≡ first + 1 = omega arith in
@@ -47,93 +43,133 @@ pub record IsEntry (texts : List (List ℕ)) (column : ℕ) (rows : List ValueRo
   pub some : is_null (value_at (get_or rows entry.1 []) column) ≡ false
   pub word : word_of texts (value_at (get_or rows entry.1 []) column) ≡ entry.0
 
--- the entry of a row's value
-of-value : (texts : List (List ℕ)) (column : ℕ) (rows : List ValueRow) (number : ℕ) (v : Value) → number < length rows → value_at (get_or rows number []) column ≡ v
-    → All (IsEntry texts column rows) (value_entry texts number v)
-of-value texts column rows number value.Null there is = All-nil (IsEntry texts column rows)
-of-value texts column rows number (value.Int n) there is =
-    All-cons (IsEntry texts column rows) (n, number) [] (record { there = there; some = ap is_null is; word = ap (word_of texts) is }) (All-nil (IsEntry texts column rows))
-of-value texts column rows number (value.Text t) there is =
-    All-cons (IsEntry texts column rows) (word_of texts (value.Text t), number) [] (record { there = there; some = ap is_null is; word = ap (word_of texts) is }) (All-nil (IsEntry texts column rows))
+-- whether the column of a row isn't NULL
+abbrev pub has_value : (column : ℕ) → ValueRow → Bool
+has_value column row = not (is_null (value_at row column))
 
-are-entries : (texts : List (List ℕ)) (column : ℕ) (all : List ValueRow) (first : ℕ) (rows : List ValueRow) → rows ≡ drop first all → All (IsEntry texts column all) (entries_from texts column first rows)
-are-entries texts column all first [] is = All-nil (IsEntry texts column all)
-are-entries texts column all first (row ∷ rows) is =
-    let at = front all rows first row [] is in
-    All-append (IsEntry texts column all) (value_entry texts first (value_at row column)) (entries_from texts column (first + 1) rows)
-    (of-value texts column all first (value_at row column) at.there (ap (λ (r : ValueRow). value_at r column) at.here))
-    (are-entries texts column all (first + 1) rows at.rest_is)
+module _ (texts : List (List ℕ)) (column : ℕ) (all : List ValueRow) where
+  abbrev row_at_entry : IndexEntry → ValueRow
+  row_at_entry entry = get_or all entry.1 []
 
--- so of the entries of an index
-pub indexed : (database : DatabaseState) (table column : ℕ) → All (IsEntry database.texts column (table_at database table).rows) (index_at database table column)
-indexed database table column =
-    All-permutation (IsEntry database.texts column (table_at database table).rows) (column_entries database table column) (index_at database table column)
-    (ordered_same (column_entries database table column))
-    (are-entries database.texts column (table_at database table).rows 0 (table_at database table).rows refl)
+  -- the entry of a value that stands in a row, if there is one
+  is-entry : (number : ℕ) (row : ValueRow) (v : Value) → number < length all → get_or all number [] ≡ row → value_at row column ≡ v → All (IsEntry texts column all) (value_entry texts number v)
+  is-entry number row v there here is = by v (ap (λ (r : ValueRow). value_at r column) here ∙ is)
+    where
+      one : (v : Value) → value_at (get_or all number []) column ≡ v → is_null v ≡ false → All (IsEntry texts column all) ((word_of texts v, number) ∷ [])
+      one v is some =
+          All-cons (IsEntry texts column all) (word_of texts v, number) [] (record { there = there; some = ap is_null is ∙ some; word = ap (word_of texts) is }) (All-nil (IsEntry texts column all))
+
+      by : (v : Value) → value_at (get_or all number []) column ≡ v → All (IsEntry texts column all) (value_entry texts number v)
+      by value.Null is = All-nil (IsEntry texts column all)
+      by (value.Int n) is = one (value.Int n) is refl
+      by (value.Text t) is = one (value.Text t) is refl
+
+  are-entries : (first : ℕ) (rows : List ValueRow) → rows ≡ drop first all → All (IsEntry texts column all) (entries_from texts column first rows)
+  are-entries first [] is = All-nil (IsEntry texts column all)
+  are-entries first (row ∷ rows) is =
+      let at = front all rows first row [] is in
+      All-append (IsEntry texts column all) (value_entry texts first (value_at row column)) (entries_from texts column (first + 1) rows)
+      (is-entry first row (value_at row column) at.there at.here refl) (are-entries (first + 1) rows at.rest_is)
+
+  -- and its row
+  row-of-entry : (number : ℕ) (row : ValueRow) (v : Value) → get_or all number [] ≡ row → map row_at_entry (value_entry texts number v) ≡ cond (not (is_null v)) (row ∷ []) []
+  row-of-entry number row value.Null here = refl
+  row-of-entry number row (value.Int n) here = ap (λ (r : ValueRow). r ∷ []) here
+  row-of-entry number row (value.Text t) here = ap (λ (r : ValueRow). r ∷ []) here
+
+  rows-of-entries : (first : ℕ) (rows : List ValueRow) → rows ≡ drop first all → map row_at_entry (entries_from texts column first rows) ≡ filter (has_value column) rows
+  rows-of-entries first [] is = refl
+  rows-of-entries first (row ∷ rows) is =
+      let at = front all rows first row [] is in
+      map-append row_at_entry (value_entry texts first (value_at row column)) (entries_from texts column (first + 1) rows)
+      ∙ (λ i. row-of-entry first row (value_at row column) at.here i ++ rows-of-entries (first + 1) rows at.rest_is i)
+      ∙ sym (filter-append (has_value column) (row ∷ []) rows)
+
+-- a test passes the same entries in order
+front-kept : (b : Bool) (x : IndexEntry) (xs ys : List IndexEntry) → IsPermutation xs ys → IsPermutation (cond b (x ∷ xs) xs) (cond b (x ∷ ys) ys)
+front-kept true x xs ys same = IsPermutation-cons x xs ys same
+front-kept false x xs ys same = same
+
+past-kept : (a b : Bool) (x y : IndexEntry) (xs ys : List IndexEntry) → IsPermutation (cond a (x ∷ xs) xs) ys
+    → IsPermutation (cond a (x ∷ cond b (y ∷ xs) xs) (cond b (y ∷ xs) xs)) (cond b (y ∷ ys) ys)
+past-kept true true x y xs ys same = IsPermutation-trans _ _ _ (IsPermutation-middle (x ∷ []) y xs) (IsPermutation-cons y (x ∷ xs) ys same)
+past-kept true false x y xs ys same = same
+past-kept false b x y xs ys same = front-kept b y xs ys same
+
+placed-kept : (q : IndexEntry → Bool) (entry : IndexEntry) (entries : List IndexEntry) → IsPermutation (filter q (entry ∷ entries)) (filter q (placed entry entries))
+placed-kept q entry [] = IsPermutation-refl (filter q (entry ∷ []))
+placed-kept q entry (first ∷ rest) = by (is_gt (entry_order entry first)) (placed-kept q entry rest)
+  where
+    by : (b : Bool) → IsPermutation (filter q (entry ∷ rest)) (filter q (placed entry rest))
+        → IsPermutation (filter q (entry ∷ first ∷ rest)) (filter q (if b then first ∷ placed entry rest else entry ∷ first ∷ rest))
+    by true again = past-kept (q entry) (q first) entry first (filter q rest) (filter q (placed entry rest)) again
+    by false again = IsPermutation-refl (filter q (entry ∷ first ∷ rest))
+
+ordered-kept : (q : IndexEntry → Bool) (entries : List IndexEntry) → IsPermutation (filter q entries) (filter q (ordered entries))
+ordered-kept q [] = IsPermutation-refl []
+ordered-kept q (entry ∷ entries) =
+    IsPermutation-trans _ _ _ (front-kept (q entry) entry (filter q entries) (filter q (ordered entries)) (ordered-kept q entries)) (placed-kept q entry (ordered entries))
+
+-- two tests, one after the other
+both-tests : {X : Type 0} (p q : X → Bool) (xs : List X) → filter q (filter p xs) ≡ filter (λ x. p x && q x) xs
+both-tests p q [] = refl
+both-tests p q (x ∷ xs) = grind (arith, both-tests p q xs)
+
+-- the first of them may be left out where it follows from the second
+followed : (a b : Bool) → (b ≡ true → a ≡ true) → (a && b) ≡ b
+followed a b follows = grind arith
+
+wider-test : {X : Type 0} (p q : X → Bool) → ((x : X) → q x ≡ true → p x ≡ true) → (xs : List X) → filter q (filter p xs) ≡ filter q xs
+wider-test p q follows xs = both-tests p q xs ∙ filter_agree (λ x. p x && q x) q (λ x. followed (p x) (q x) (follows x)) xs
+
+module _ (database : DatabaseState) (table column : ℕ) where
+  abbrev rows : List ValueRow
+  rows = (table_at database table).rows
+
+  -- each entry of an index is that of a row
+  pub indexed : All (IsEntry database.texts column (table_at database table).rows) (index_at database table column)
+  indexed =
+      All-permutation (IsEntry database.texts column rows) (column_entries database table column) (index_at database table column)
+      (ordered_same (column_entries database table column)) (are-entries database.texts column rows 0 rows refl)
+
+  -- the rows of those that pass a test are the rows with a value that pass it, in another order
+  pub index-rows : (p : ValueRow → Bool)
+      → IsPermutation (filter p (filter (has_value column) rows)) (map (row_of_entry database table) (filter (λ (e : IndexEntry). p (row_of_entry database table e)) (index_at database table column)))
+  index-rows p =
+      let q = λ (e : IndexEntry). p (row_of_entry database table e) in
+      let entries = column_entries database table column in
+      subst (λ xs. IsPermutation xs (map (row_of_entry database table) (filter q (index_at database table column))))
+      (sym (filter-map p q (row_of_entry database table) entries (λ e. refl)) ∙ ap (filter p) (rows-of-entries database.texts column rows 0 rows refl))
+      (IsPermutation-map (row_of_entry database table) (filter q entries) (filter q (index_at database table column)) (ordered-kept q entries))
+
+  -- so of those that are wanted those that are kept, where these are all wanted and have a value
+  pub found-rows : (wanted kept : ValueRow → Bool) → ((row : ValueRow) → kept row ≡ true → (wanted row ≡ true) × (is_null (value_at row column) ≡ false))
+      → IsPermutation (filter kept (map (row_of_entry database table) (filter (λ (e : IndexEntry). wanted (row_of_entry database table e)) (index_at database table column)))) (filter kept rows)
+  found-rows wanted kept follows =
+      let row = row_of_entry database table in
+      let index = index_at database table column in
+      let in_index = filter-map kept (λ (e : IndexEntry). kept (row e)) row (filter (λ (e : IndexEntry). wanted (row e)) index) (λ e. refl)
+      ∙ ap (map row) (wider-test (λ (e : IndexEntry). wanted (row e)) (λ (e : IndexEntry). kept (row e)) (λ e is. (follows (row e) is).0) index) in
+      let in_table = wider-test (has_value column) kept (λ r is. not_from_false _ (follows r is).1) rows in
+      subst (λ xs. IsPermutation xs (filter kept rows)) (sym in_index)
+      (IsPermutation-sym _ _ (subst (λ xs. IsPermutation xs (map row (filter (λ (e : IndexEntry). kept (row e)) index))) in_table (index-rows kept)))
+
+  -- so many are read of an index, and there are so many entries
+  pub count-read : (p : ValueRow → Bool) → length (filter (λ (e : IndexEntry). p (row_of_entry database table e)) (index_at database table column)) ≡ count_by (λ (row : ValueRow). has_value column row && p row) rows
+  count-read p =
+      sym (length-map (filter (λ (e : IndexEntry). p (row_of_entry database table e)) (index_at database table column)) (row_of_entry database table))
+      ∙ length_permutation _ _ (index-rows p) ∙ ap length (both-tests (has_value column) p rows) ∙ length-filter (λ (row : ValueRow). has_value column row && p row) rows
+
+  pub count-entries : length (column_entries database table column) ≡ count_by (has_value column) rows
+  count-entries =
+      sym (length-map (column_entries database table column) (row_of_entry database table)) ∙ ap length (rows-of-entries database.texts column rows 0 rows refl) ∙ length-filter (has_value column) rows
 
 pub filter-same : {X : Type 0} (p q : X → Bool) (xs : List X) → All (λ x. p x ≡ q x) xs → filter p xs ≡ filter q xs
 filter-same p q [] same = refl
 filter-same p q (x ∷ xs) same =
     (λ i. cond (All-head (λ x. p x ≡ q x) x xs same i) (x ∷ filter-same p q xs (All-tail (λ x. p x ≡ q x) x xs same) i) (filter-same p q xs (All-tail (λ x. p x ≡ q x) x xs same) i))
 
--- what follows of two things that are so of each
-both : {X : Type 0} (P Q R : X → Type 0) → ((x : X) → P x → Q x → R x) → (xs : List X) → All P xs → All Q xs → All R xs
-both P Q R follows [] p q = All-nil R
-both P Q R follows (x ∷ xs) p q = All-cons R x xs (follows x (All-head P x xs p) (All-head Q x xs q)) (both P Q R follows xs (All-tail P x xs p) (All-tail Q x xs q))
-
--- the value of an entry's row is one that may stand in the column
-of-entry : (database : DatabaseState) (relation : RelationTree) (table column : ℕ) (entry : IndexEntry) → table ≡ relation.table → FitsTable database relation → StandAsWords database table
-    → IsEntry database.texts column (table_at database table).rows entry → FitsSigned w64 entry.0
-    → IsStored database.texts (kind_at relation.columns column) (value_at (get_or (table_at database table).rows entry.1 []) column)
-of-entry database relation table column entry table_is fits stand is word =
-    let value_word = subst (FitsSigned w64) (sym is.word) word in
-    subst (λ (t : ℕ). StandAsWords database t → entry.1 < length (table_at database t).rows
-    → FitsSigned w64 (word_of database.texts (value_at (row_at (table_at database t) entry.1) column))
-    → IsStored database.texts (kind_at relation.columns column) (value_at (row_at (table_at database t) entry.1) column)) (sym table_is)
-    (is-stored database relation column entry.1 fits) stand is.there value_word
-
--- a range that finds the rows that are wanted has exactly their entries
-pub in-range : (database : DatabaseState) (block : BlockTree) (relation table column : ℕ) (range : WordRange)
-    → table ≡ (relation_at block.relations relation).table → FitsTable database (relation_at block.relations relation)
-    → HaveWords (index_at database table column) → StandAsWords database table
-    → Finds database.texts (relation_at block.relations relation).columns column range
-    (filter (is_usable (relation_at block.relations relation).columns column) (relation_at block.relations relation).filter)
-    → filter (is_within range.from range.to) (index_at database table column) ≡ filter (is_wanted database block relation table column) (index_at database table column)
-in-range database block relation table column range table_is fits words stand finds =
-    let rows = (table_at database table).rows in
-    filter-same (is_within range.from range.to) (is_wanted database block relation table column) (index_at database table column)
-    (both (IsEntry database.texts column rows) (λ (e : IndexEntry). FitsSigned w64 e.0) (λ (e : IndexEntry). is_within range.from range.to e ≡ is_wanted database block relation table column e)
-    (λ e is word.
-    ap (λ (w : ℤ). is_within range.from range.to (w, e.1)) (sym is.word)
-    ∙ finds (get_or rows e.1 []) (of-entry database (relation_at block.relations relation) table column e table_is fits stand is word) is.some)
-    (index_at database table column) (indexed database table column) words)
-
--- so the descent leads to the entries that have to be read
-pub descended : (database : DatabaseState) (block : BlockTree) (scan : IndexScanState) (cursor : Cursor) (range : WordRange) (texts : List (List ℕ)) (conjuncts : List Condition)
-    → IsBlock block → Fits database block → IsInIndex database block scan → HaveWords (index_at database scan.table scan.column) → StandAsWords database scan.table → texts ≡ database.texts → map filter_tree conjuncts ≡ (relation_at block.relations scan.relation).filter
-    → ((columns : List ColumnType) → All (FitsColumns columns) (map filter_tree conjuncts) → Finds texts columns scan.column range (filter (is_usable columns scan.column) (map filter_tree conjuncts)))
-    → entries_left (index_at database scan.table scan.column) cursor ≡ filter (is_within range.from range.to) (index_at database scan.table scan.column)
-    → entries_to database block scan.relation scan.table scan.column (Some cursor) ≡ entries_to database block scan.relation scan.table scan.column None
-descended database block scan cursor range texts conjuncts is fits at words stand known are finds left =
-    let own = relation_at block.relations scan.relation in
-    let none : RelationTree = record { table = 0; columns = []; filter = []; indexes = [] } in
-    let fit : All (FitsColumns own.columns) own.filter = (All-get_or IsRelation block.relations scan.relation none at.numbers.exists is.relations).filter in
-    let found : Finds texts own.columns scan.column range (filter (is_usable own.columns scan.column) (map filter_tree conjuncts)) =
-    finds own.columns (subst (All (FitsColumns own.columns)) (sym are) fit) in
-    left
-    ∙ in-range database block scan.relation scan.table scan.column range at.numbers.table_is
-    (All-get_or (FitsTable database) block.relations scan.relation none at.numbers.exists fits) words stand
-    (subst (λ (t : List (List ℕ)). Finds t own.columns scan.column range (filter (is_usable own.columns scan.column) own.filter)) known
-    (subst (λ (f : List FilterTree). Finds texts own.columns scan.column range (filter (is_usable own.columns scan.column) f)) are found))
-
 -- an indexed column of a relation that fits is an indexed column of its table
 pub is-indexed : (indexes : List ℕ) (column : ℕ) (indexed : List ℕ) → All (λ (c : ℕ). Contains indexed c) indexes → IsTrue (list_any (λ other. nat_eq other column) indexes) → Contains indexed column
-is-indexed [] column indexed all is = cc
-is-indexed (other ∷ indexes) column indexed all is =
-    by (nat_eq other column) refl (λ more. is-indexed indexes column indexed (All-tail (λ (c : ℕ). Contains indexed c) other indexes all) more)
-  where
-    by : (b : Bool) → nat_eq other column ≡ b → (IsTrue (list_any (λ other. nat_eq other column) indexes) → Contains indexed column) → Contains indexed column
-    by true same more =
-        let one : other ≡ column = grind (arith, nat_tests) in
-        subst (Contains indexed) one (All-head (λ (c : ℕ). Contains indexed c) other indexes all)
-    by false apart more = more (sym (ap (λ b. b || list_any (λ other. nat_eq other column) indexes) apart) ∙ is)
+is-indexed indexes column indexed all is =
+    All-contains (Contains indexed) indexes column all (Contains-from_any {eq = λ (a b : ℕ). nat_eq b a} (λ a b same. sym (eqb-true b a same)) column indexes is)

@@ -1,13 +1,14 @@
 -- The rows of one relation of a block: its rows that meet its filter, each in its place.
-use Rattle.std.proofs.Common.{◌≡◌, ℕ, zero, suc, ◌+◌, ◌<◌, Bool, true, false, cond, ◌&&◌, ◌||◌, not, List, [], ◌∷◌, ◌++◌, length, map, filter, flat_map, All, if◌then◌else◌, refl, ap, ◌∙◌, arith}
+use Rattle.std.proofs.Common.{◌≡◌, ℕ, zero, suc, ◌+◌, ◌<◌, Bool, true, false, ◌&&◌, List, [], ◌∷◌, length, map, filter, All, refl, ap, ◌∙◌, arith}
 use Rattle.std.proofs.lemmas.List.{append-nil}
+use Rattle.std.proofs.Math.Bool.{and-true}
 use Rattle.std.proofs.lemmas.Simd.{map-map}
 use Rattle.std.proofs.lemmas.List.Concat.{flat_map_single}
 use Rattle.std.proofs.lemmas.List.Elements.{All-head, All-tail}
 use Rattle.sql_values.specs.Stored.{StoredTable, ValueRow}
 use Rattle.query_block.specs.declared.edge.Edge.{Edge}
 use Rattle.query_block.specs.Blocks.{RelationTree, BlockTree, relation_at, IsEdge}
-use Rattle.query_block.specs.Meaning.{Combination, choices, product, rows_at, rows_of, meets_filter, meets_filters, meets_edge, meets_edges, is_inside}
+use Rattle.query_block.specs.Meaning.{Combination, choices, product, rows_at, rows_of, meets_filter, meets_filters, meets_edges, is_inside}
 use Rattle.plan_tree.specs.Plans.{Scan, has_leaf}
 use Rattle.exec_scan.specs.Places.{placed_row}
 
@@ -27,50 +28,32 @@ before_leaf r n k at = grind arith
 -- behind the relation there is nothing to choose
 none_chosen : (tables : List StoredTable) (r n : ℕ) (relations : List RelationTree) → r < n → product (choices tables (has_leaf (Scan r)) n relations) ≡ nothing relations ∷ []
 none_chosen tables r n [] past = refl
-none_chosen tables r n (relation ∷ relations) past =
-    let more = choices tables (has_leaf (Scan r)) (n + 1) relations in
-    ap (λ (b : Bool). product ((if b then rows_at tables relation.table else [] ∷ []) ∷ more)) (off_leaf r n past)
-    ∙ ap (λ (rest : List Combination). flat_map (λ (row : ValueRow). map (λ (rows : Combination). row ∷ rows) rest) ([] ∷ [])) (none_chosen tables r (n + 1) relations (omega arith))
+none_chosen tables r n (relation ∷ relations) past = rw (off_leaf r n past, none_chosen tables r (n + 1) relations (omega arith))
 
 -- so the rows of the relation's table are all that is chosen from
 chosen : (tables : List StoredTable) (r n k : ℕ) (relations : List RelationTree) → n + k ≡ r → k < length relations
     → product (choices tables (has_leaf (Scan r)) n relations) ≡ map (placed_row relations k) (rows_at tables (relation_at relations k).table)
 chosen tables r n k [] at there = absurd (omega (arith, there))
 chosen tables r n zero (relation ∷ relations) at there =
-    let more = choices tables (has_leaf (Scan r)) (n + 1) relations in
-    let rows = rows_at tables relation.table in
-    ap (λ (b : Bool). product ((if b then rows else [] ∷ []) ∷ more)) (in_leaf r n (omega (arith, at)))
-    ∙ ap (λ (rest : List Combination). flat_map (λ (row : ValueRow). map (λ (others : Combination). row ∷ others) rest) rows) (none_chosen tables r (n + 1) relations (omega (arith, at)))
-    ∙ flat_map_single (λ (row : ValueRow). row ∷ nothing relations) rows
+    rw (in_leaf r n (omega (arith, at)), none_chosen tables r (n + 1) relations (omega (arith, at)))
+    (flat_map_single (λ (row : ValueRow). row ∷ nothing relations) (rows_at tables relation.table))
 chosen tables r n (suc k) (relation ∷ relations) at there =
-    let more = choices tables (has_leaf (Scan r)) (n + 1) relations in
-    let rows = rows_at tables (relation_at relations k).table in
     let first = λ (others : Combination). [] ∷ others in
-    ap (λ (b : Bool). product ((if b then rows_at tables relation.table else [] ∷ []) ∷ more)) (before_leaf r n k at)
-    ∙ ap (λ (rest : List Combination). map first rest ++ []) (chosen tables r (n + 1) k relations (omega (arith, at)) (omega (arith, there)))
-    ∙ append-nil (map first (map (placed_row relations k) rows))
-    ∙ map-map first (placed_row relations k) rows
+    let rows = map (placed_row relations k) (rows_at tables (relation_at relations k).table) in
+    rw (before_leaf r n k at, chosen tables r (n + 1) k relations (omega (arith, at)) (omega (arith, there)))
+    (append-nil (map first rows) ∙ map-map first (placed_row relations k) (rows_at tables (relation_at relations k).table))
 
 -- a filter is asked of that relation alone
 none_asked : (r n : ℕ) (relations : List RelationTree) → r < n → meets_filters (has_leaf (Scan r)) n relations (nothing relations) ≡ true
 none_asked r n [] past = refl
-none_asked r n (relation ∷ relations) past =
-    ap (λ (b : Bool). (not b || meets_filter relation.filter []) && meets_filters (has_leaf (Scan r)) (n + 1) relations (nothing relations)) (off_leaf r n past)
-    ∙ none_asked r (n + 1) relations (omega arith)
-
-and-true : (b c : Bool) → c ≡ true → b && c ≡ b
-and-true true c met = met
-and-true false c met = refl
+none_asked r n (relation ∷ relations) past = rw (off_leaf r n past) (none_asked r (n + 1) relations (omega arith))
 
 asked : (r n k : ℕ) (relations : List RelationTree) (row : ValueRow) → n + k ≡ r → k < length relations
     → meets_filters (has_leaf (Scan r)) n relations (placed_row relations k row) ≡ meets_filter (relation_at relations k).filter row
 asked r n k [] row at there = absurd (omega (arith, there))
 asked r n zero (relation ∷ relations) row at there =
-    ap (λ (b : Bool). (not b || meets_filter relation.filter row) && meets_filters (has_leaf (Scan r)) (n + 1) relations (nothing relations)) (in_leaf r n (omega (arith, at)))
-    ∙ and-true _ _ (none_asked r (n + 1) relations (omega (arith, at)))
-asked r n (suc k) (relation ∷ relations) row at there =
-    ap (λ (b : Bool). (not b || meets_filter relation.filter []) && meets_filters (has_leaf (Scan r)) (n + 1) relations (placed_row relations k row)) (before_leaf r n k at)
-    ∙ asked r (n + 1) k relations row (omega (arith, at)) (omega (arith, there))
+    rw (in_leaf r n (omega (arith, at)), none_asked r (n + 1) relations (omega (arith, at))) (and-true (meets_filter relation.filter row))
+asked r n (suc k) (relation ∷ relations) row at there = rw (before_leaf r n k at) (asked r (n + 1) k relations row (omega (arith, at)) (omega (arith, there)))
 
 -- no edge is inside one relation
 outside : (r : ℕ) (edge : Edge) → edge.left < edge.right → is_inside (has_leaf (Scan r)) edge ≡ false
@@ -79,18 +62,12 @@ outside r edge lower = grind arith
 no_edge : (r : ℕ) (relations : List RelationTree) (edges : List Edge) (rows : Combination) → All (IsEdge relations) edges → meets_edges (has_leaf (Scan r)) edges rows ≡ true
 no_edge r relations [] rows are = refl
 no_edge r relations (edge ∷ edges) rows are =
-    ap (λ (b : Bool). (not b || meets_edge rows edge) && meets_edges (has_leaf (Scan r)) edges rows) (outside r edge (All-head (IsEdge relations) edge edges are).lower)
-    ∙ no_edge r relations edges rows (All-tail (IsEdge relations) edge edges are)
+    rw (outside r edge (All-head (IsEdge relations) edge edges are).lower) (no_edge r relations edges rows (All-tail (IsEdge relations) edge edges are))
 
 -- a filter of values that come of others
-filter-map : {A B : Type 0} (p : B → Bool) (q : A → Bool) (f : A → B) (xs : List A) → ((x : A) → p (f x) ≡ q x) → filter p (map f xs) ≡ map f (filter q xs)
+pub filter-map : {A B : Type 0} (p : B → Bool) (q : A → Bool) (f : A → B) (xs : List A) → ((x : A) → p (f x) ≡ q x) → filter p (map f xs) ≡ map f (filter q xs)
 filter-map p q f [] same = refl
-filter-map p q f (x ∷ xs) same =
-    ap (λ (b : Bool). cond b (f x ∷ filter p (map f xs)) (filter p (map f xs))) (same x) ∙ by (q x) (filter-map p q f xs same)
-  where
-    by : (b : Bool) → filter p (map f xs) ≡ map f (filter q xs) → cond b (f x ∷ filter p (map f xs)) (filter p (map f xs)) ≡ map f (cond b (x ∷ filter q xs) (filter q xs))
-    by true rest = ap (λ ys. f x ∷ ys) rest
-    by false rest = rest
+filter-map p q f (x ∷ xs) same = grind (arith, same x, filter-map p q f xs same)
 
 pub leaf_rows : (tables : List StoredTable) (block : BlockTree) (r : ℕ) → r < length block.relations → All (IsEdge block.relations) block.edges
     → rows_of tables block (has_leaf (Scan r))
@@ -99,4 +76,5 @@ leaf_rows tables block r there are =
     let meets = λ (rows : Combination). meets_filters (has_leaf (Scan r)) 0 block.relations rows && meets_edges (has_leaf (Scan r)) block.edges rows in
     ap (filter meets) (chosen tables r 0 r block.relations (omega arith) there)
     ∙ filter-map meets (meets_filter (relation_at block.relations r).filter) (placed_row block.relations r) (rows_at tables (relation_at block.relations r).table)
-    (λ row. and-true _ _ (no_edge r block.relations block.edges (placed_row block.relations r row) are) ∙ asked r 0 r block.relations row (omega arith) there)
+    (λ row. ap (λ b. meets_filters (has_leaf (Scan r)) 0 block.relations (placed_row block.relations r row) && b) (no_edge r block.relations block.edges (placed_row block.relations r row) are)
+    ∙ and-true _ ∙ asked r 0 r block.relations row (omega arith) there)

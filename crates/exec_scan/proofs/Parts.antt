@@ -1,5 +1,5 @@
 -- A row of words in which the words of one relation stand in their place has that relation's row.
-use Rattle.std.proofs.Common.{◌≡◌, ℕ, zero, suc, ℤ, ◌+◌, ◌<◌, ◌≤◌, Bool, true, false, IsTrue, List, [], ◌∷◌, length, take, drop, sum_by, if◌then◌else◌, refl, sym, ap, subst, ◌∙◌, arith, length-drop}
+use Rattle.std.proofs.Common.{◌≡◌, ℕ, zero, suc, ℤ, ◌+◌, ◌<◌, ◌≤◌, Bool, true, false, IsTrue, List, [], ◌∷◌, length, take, drop, sum_by, refl, sym, ap, subst, ◌∙◌, arith, length-drop}
 use Rattle.std.proofs.lemmas.List.{drop-drop, nil_from_length}
 use Rattle.std.proofs.lemmas.List.Sums.{sum_by-cons}
 use Rattle.sql_values.specs.Stored.{ValueRow, values_of, AreWordsOf}
@@ -31,12 +31,8 @@ has_none : (texts : List (List ℕ)) (r n : ℕ) (relations : List RelationTree)
 has_none texts r n [] words past long = (nil_from_length words long, refl)
 has_none texts r n (relation ∷ relations) words past long =
     let (fits, others) = rest_long relation relations words long in
-    let rest = has_none texts r (n + 1) relations (drop (size relation) words) (omega arith) others in (
-      (fits, untrue (has_leaf (Scan r) n) (off_leaf r n past), rest.0),
-      ap (λ (b : Bool). (if b then values_of texts relation.columns (take (size relation) words) else [])
-          ∷ part_of (has_leaf (Scan r)) (n + 1) (combination_of texts relations (drop (size relation) words))) (off_leaf r n past)
-          ∙ ap (λ (rows : List ValueRow). [] ∷ rows) rest.1,
-    )
+    let rest = has_none texts r (n + 1) relations (drop (size relation) words) (omega arith) others in
+    ((fits, untrue (has_leaf (Scan r) n) (off_leaf r n past), rest.0), rw (off_leaf r n past) (ap (λ (rows : List ValueRow). [] ∷ rows) rest.1))
 
 -- the words of relation k of these stand in their place
 has_one : (texts : List (List ℕ)) (r n k : ℕ) (relations : List RelationTree) (row : ValueRow) (own words : List ℤ) → n + k ≡ r → k < length relations
@@ -47,12 +43,9 @@ has_one texts r n k [] row own words at there long stand are seen = absurd (omeg
 has_one texts r n zero (relation ∷ relations) row own words at there long stand are seen =
     let (fits, others) = rest_long relation relations words long in
     let rest = has_none texts r (n + 1) relations (drop (size relation) words) (omega (arith, at)) others in
-    let rows = part_of (has_leaf (Scan r)) (n + 1) (combination_of texts relations (drop (size relation) words)) in (
+    let first : values_of texts relation.columns (take (size relation) words) ≡ row = ap (values_of texts relation.columns) stand ∙ seen in (
       (fits, (λ _. subst (AreWordsOf texts relation.columns) (sym stand) are), rest.0),
-      ap (λ (b : Bool). (if b then values_of texts relation.columns (take (size relation) words) else []) ∷ rows) (in_leaf r n (omega (arith, at)))
-          ∙ ap (λ (own : List ℤ). values_of texts relation.columns own ∷ rows) stand
-          ∙ ap (λ (first : ValueRow). first ∷ rows) seen
-          ∙ ap (λ (others : List ValueRow). row ∷ others) rest.1,
+      rw (in_leaf r n (omega (arith, at))) (λ i. first i ∷ rest.1 i),
     )
 has_one texts r n (suc k) (relation ∷ relations) row own words at there long stand are seen =
     let (fits, others) = rest_long relation relations words long in
@@ -62,9 +55,7 @@ has_one texts r n (suc k) (relation ∷ relations) row own words at there long s
     let rest = has_one texts r (n + 1) k relations row own (drop (size relation) words) (omega (arith, at)) (omega (arith, there)) others
     (ap (take (size (relation_at relations k))) place ∙ stand) are seen in (
       (fits, untrue (has_leaf (Scan r) n) (before_leaf r n k at), rest.0),
-      ap (λ (b : Bool). (if b then values_of texts relation.columns (take (size relation) words) else [])
-          ∷ part_of (has_leaf (Scan r)) (n + 1) (combination_of texts relations (drop (size relation) words))) (before_leaf r n k at)
-          ∙ ap (λ (rows : List ValueRow). [] ∷ rows) rest.1,
+      rw (before_leaf r n k at) (ap (λ (rows : List ValueRow). [] ∷ rows) rest.1),
     )
 
 pub is-part : (texts : List (List ℕ)) (r : ℕ) (relations : List RelationTree) (row : ValueRow) (own words : List ℤ) → r < length relations

@@ -1,7 +1,8 @@
-pub mod State
 pub mod Places
-pub mod TableScanning
+pub mod OnWay
 pub mod Ranges
-pub mod IndexScanning
+pub mod TableReading
+pub mod EntryReading
+pub mod Reading
+pub mod State
 pub mod Scanning
-pub mod Seeing

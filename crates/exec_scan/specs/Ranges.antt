@@ -2,6 +2,8 @@
 use Rattle.std.specs.Prelude.{◌≡◌, ◌≢◌, ℕ, ℤ, ◌&&◌, ◌||◌, not, Bool, true, false, List, IsTrue, int_le, FitsSigned}
 use Rattle.std.specs.Int.{w64}
 use Rattle.sql_values.specs.declared.column.ColumnType.{ColumnType}
+use Rattle.sql_values.specs.declared.op.Op.{Op}
+use Rattle.sql_values.specs.declared.op.Op.TheVariants.{Eq, Ne, Lt, Le, Gt, Ge}
 use Rattle.sql_values.specs.declared.value.Value.{Value}
 use Rattle.sql_values.specs.declared.value.Value.TheVariants as value
 use Rattle.sql_values.specs.Dictionary.{has_text}
@@ -19,22 +21,35 @@ use Rattle.exec_scan.specs.declared.range.WordRange.{WordRange}
 abbrev pub is_in : WordRange → ℤ → Bool
 is_in range word = int_le range.from word && int_le word range.to
 
+-- the operator that holds of two values the other way round
+abbrev pub turned : Op → Op
+turned Eq = Eq
+turned Ne = Ne
+turned Lt = Gt
+turned Le = Ge
+turned Gt = Lt
+turned Ge = Le
+
 -- the literal is of the kind of a column
 abbrev pub IsLiteralOf : ColumnType → Value → Type 0
 IsLiteralOf kind literal = (literal ≢ value.Null) × (holds_texts kind ≡ is_text literal)
 
--- the value may stand in a column of this kind, as a word of 64 bits; a text is one of the dictionary
-abbrev pub IsStored : List (List ℕ) → ColumnType → Value → Type 0
-IsStored texts kind value.Null = Unit {0}
-IsStored texts kind (value.Int number) = (holds_texts kind ≡ false) × FitsSigned w64 number
-IsStored texts kind (value.Text text) =
-    (holds_texts kind ≡ true) × IsTrue (has_text texts text) × FitsSigned w64 (word_of texts (value.Text text))
+-- the value is of the kind of a column; a text is one of the dictionary
+abbrev pub IsOfKind : List (List ℕ) → ColumnType → Value → Type 0
+IsOfKind texts kind value.Null = Unit {0}
+IsOfKind texts kind (value.Int number) = holds_texts kind ≡ false
+IsOfKind texts kind (value.Text text) = (holds_texts kind ≡ true) × IsTrue (has_text texts text)
 
--- of the words of a column's values, other than NULL, a new range has those of the old one that pass a test
+-- a value of a column, other than NULL, whose word has 64 bits
+pub record IsStored (texts : List (List ℕ)) (kind : ColumnType) (v : Value) : Type 0 where
+  pub some : is_null v ≡ false
+  pub kind_is : IsOfKind texts kind v
+  pub fits : FitsSigned w64 (word_of texts v)
+
+-- of the words of a column's values a new range has those of the old one that pass a test
 abbrev pub Narrows : List (List ℕ) → ColumnType → (old new : WordRange) → (Value → Bool) → Type 0
 Narrows texts kind old new test =
-    (v : Value) → IsStored texts kind v → is_null v ≡ false
-    → is_in new (word_of texts v) ≡ (is_in old (word_of texts v) && test v)
+    (v : Value) → IsStored texts kind v → is_in new (word_of texts v) ≡ (is_in old (word_of texts v) && test v)
 
 -- whether a row meets a conjunct, if an index on the column can use it
 abbrev pub passes : List ColumnType → (column : ℕ) → FilterTree → ValueRow → Bool
@@ -43,11 +58,11 @@ passes columns column conjunct row = not (is_usable columns column conjunct) || 
 -- the same of the rows that pass a conjunct
 abbrev pub NarrowsTo : List (List ℕ) → List ColumnType → (column : ℕ) → (old new : WordRange) → FilterTree → Type 0
 NarrowsTo texts columns column old new conjunct =
-    (row : ValueRow) → IsStored texts (kind_at columns column) (value_at row column) → is_null (value_at row column) ≡ false
+    (row : ValueRow) → IsStored texts (kind_at columns column) (value_at row column)
     → is_in new (word_of texts (value_at row column)) ≡ (is_in old (word_of texts (value_at row column)) && passes columns column conjunct row)
 
--- a range has exactly the words of a column, other than NULL's, in rows that meet these conjuncts
+-- a range has exactly the words of a column in rows that meet these conjuncts
 abbrev pub Finds : List (List ℕ) → List ColumnType → (column : ℕ) → WordRange → List FilterTree → Type 0
 Finds texts columns column range conjuncts =
-    (row : ValueRow) → IsStored texts (kind_at columns column) (value_at row column) → is_null (value_at row column) ≡ false
+    (row : ValueRow) → IsStored texts (kind_at columns column) (value_at row column)
     → is_in range (word_of texts (value_at row column)) ≡ meets_filter conjuncts row

@@ -1,11 +1,14 @@
 -- What the operator of a leaf has left of the rows of its relation, and what is always so of one.
+use Rattle.std.specs.Prelude.{ℕ, map}
 use Rattle.plan_tree.specs.Plans.{PlanTree, Scan, IndexScan, Nest, Hash, Merge, IndexLoop}
 use Rattle.plan_tree.specs.Left.{Left}
-use Rattle.query_block.specs.Blocks.{BlockTree}
+use Rattle.query_block.specs.Blocks.{BlockTree, relation_at}
 use Rattle.db_catalog.specs.Database.{DatabaseState}
-use Rattle.exec_scan.specs.State.{ScanState, OfTable, OfIndex}
-use Rattle.exec_scan.specs.TableScanning.{table_scan_left, IsInTable, IsOfRelation}
-use Rattle.exec_scan.specs.IndexScanning.{index_scan_left, IsInIndex}
+use Rattle.exec_scan.specs.declared.way.Way.{Way}
+use Rattle.exec_scan.specs.OnWay.{with_emits}
+use Rattle.exec_scan.specs.Places.{AreOfRelation, placed_row}
+use Rattle.exec_scan.specs.Reading.{IsReaderIn, kept_rows, read_due, table_of}
+use Rattle.exec_scan.specs.State.{ScanState}
 
 -- the plan is the scan of a relation, by whatever its rows are found
 abbrev pub IsLeaf : PlanTree → Type 0
@@ -16,12 +19,21 @@ IsLeaf (Hash edge left right) = ⊥
 IsLeaf (Merge edge left right) = ⊥
 IsLeaf (IndexLoop edge left relation) = ⊥
 
--- the rows still to come, and the work still to be paid
+-- what finding the rows of a relation has left: of the rows ahead those come that meet its filter, each in its place, and
+-- the work of reading is due
+abbrev pub find_left : DatabaseState → BlockTree → (relation : ℕ) → Way → Left
+find_left database block relation way =
+    let own = relation_at block.relations relation in
+    record {
+      rest = map (placed_row block.relations relation) (kept_rows database own way);
+      due = (read_due database own way).due;
+    }
+
+-- the rows still to come, and the work still to be paid: a unit for each of them besides
 abbrev pub scan_left : DatabaseState → BlockTree → ScanState → Left
-scan_left database block (OfTable scan) = table_scan_left database.tables block scan
-scan_left database block (OfIndex scan) = index_scan_left database block scan
+scan_left database block scan = with_emits (find_left database block scan.place.relation scan.way)
 
 -- a scan of a relation of the block over the tables of the database
-abbrev pub IsScanOver : DatabaseState → BlockTree → ScanState → Type 0
-IsScanOver database block (OfTable scan) = IsInTable database scan × IsOfRelation block scan
-IsScanOver database block (OfIndex scan) = IsInIndex database block scan
+pub record IsScanOver (database : DatabaseState) (block : BlockTree) (scan : ScanState) : Type 0 where
+  pub numbers : AreOfRelation block scan.place.relation (table_of scan.way) scan.place.columns scan.place.offset
+  pub reading : IsReaderIn database scan.way

@@ -1,44 +1,24 @@
 -- What is seen of an operator that runs a leaf of a plan.
-use Rattle.std.specs.Prelude.{ℕ, Option}
-use Rattle.btree_index.specs.declared.index.Cursor.{Cursor}
+use Rattle.std.specs.Prelude.{ℕ, Option, Some, None}
 use Rattle.plan_tree.specs.Plans.{PlanTree, Scan, IndexScan}
+use Rattle.exec_scan.specs.declared.relation_place.RelationPlace.{RelationPlace}
+use Rattle.exec_scan.specs.declared.way.Way.{Way}
+use Rattle.exec_scan.specs.Reading.{column_of}
 
--- a scan of a whole table: which relation of the block it reads, and the number of its table; where the relation's words
--- begin in a row of all relations, and how many they are; how many pages the table has, and how many of them are opened;
--- the last of these by its number, how many rows stand on it, and how many of those are looked at
-pub record TableScanState : Type 0 where
-  pub relation : ℕ
-  pub table : ℕ
-  pub offset : ℕ
-  pub columns : ℕ
-  pub pages : ℕ
-  pub opened : ℕ
-  pub page : ℕ
-  pub slots : ℕ
-  pub slot : ℕ
+-- where its relation stands in the block, and how far it is on its way to the relation's rows
+pub record ScanState : Type 0 where
+  pub place : RelationPlace
+  pub way : Way
 
--- a scan by the index on a column of a relation of the block: the column, and the number of the relation's table; where the
--- relation's words begin in a row of all relations, and how many they are; where the scan is among the entries of the
--- index, once it has descended to them
-pub record IndexScanState : Type 0 where
-  pub relation : ℕ
-  pub column : ℕ
-  pub table : ℕ
-  pub offset : ℕ
-  pub columns : ℕ
-  pub cursor : Option Cursor
-
--- by what the rows of the leaf are found
-pub data ScanState : Type 0 where
-  OfTable : TableScanState → ScanState
-  OfIndex : IndexScanState → ScanState
+-- the leaf that finds the rows of a relation by the index on a column, or in its table
+abbrev pub leaf_by : (relation : ℕ) → Option ℕ → PlanTree
+leaf_by relation None = Scan relation
+leaf_by relation (Some column) = IndexScan relation column
 
 -- the leaf that it runs
 abbrev pub leaf_of : ScanState → PlanTree
-leaf_of (OfTable scan) = Scan scan.relation
-leaf_of (OfIndex scan) = IndexScan scan.relation scan.column
+leaf_of scan = leaf_by scan.place.relation (column_of scan.way)
 
 -- the relation that it reads
 abbrev pub relation_of : ScanState → ℕ
-relation_of (OfTable scan) = scan.relation
-relation_of (OfIndex scan) = scan.relation
+relation_of scan = scan.place.relation

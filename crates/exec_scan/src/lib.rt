@@ -1,14 +1,19 @@
 //! The leaves of a plan: an operator that gives the rows of one relation of a block, each in its place of a row of all
 //! relations. It finds them in the whole table, or by the index on a column.
+//! Its reader of rows by the entries of an index serves an index loop too.
 //! To the layers above it promises that a scan gives exactly the rows that meet the relation's filter, in some order, and
 //! pays exactly the leaf's line of the table of work: to open it, for each page and each row looked at, or for the descent
 //! and each entry with its row; and for each row given.
 //! It never takes memory, never copies a row that isn't given, and never reads a row unpaid.
 #![tactic(auto)]
 
-mod index_scan;
+mod entry_reader;
 mod range;
+mod relation_place;
 mod scan_op;
-mod table_scan;
+mod table_reader;
+mod way;
 
+pub use entry_reader::EntryReader;
+pub use relation_place::{RelationPlace, relation_in};
 pub use scan_op::ScanOp;

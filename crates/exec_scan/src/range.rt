@@ -1,6 +1,6 @@
 // The words of a column that an index on it has to look for: those that meet each conjunct of a filter that the index can
 // use. Of texts only one word is looked for.
-ghost use Rattle.std.specs.Prelude.{◌≡◌, ◌&&◌, ◌||◌, ℕ, ℤ, List, All, true, not, map, filter, int_le, int_lt, FitsSigned};
+ghost use Rattle.std.specs.Prelude.{◌≡◌, ◌&&◌, ◌||◌, ℤ, List, All, true, not, map, filter, int_le, int_lt, FitsSigned};
 ghost use Rattle.std.specs.Int.{w64};
 ghost use Rattle.std.specs.Ordering.{int_cmp};
 ghost use Rattle.sql_values.specs.declared.column.ColumnType.{ColumnType};
@@ -11,7 +11,7 @@ ghost use Rattle.sql_values.specs.declared.op.Op.TheVariants.{Eq, Le, Ge};
 ghost use Rattle.sql_values.specs.Truth.{comparison, holds};
 ghost use Rattle.query_block.specs.Blocks.{AreOperands, FitsColumns, holds_texts};
 ghost use Rattle.query_block.specs.Conditions.{filter_tree, Compare, Between};
-ghost use Rattle.query_block.specs.Meaning.{is_true, meets_filter};
+ghost use Rattle.query_block.specs.Meaning.{is_true};
 ghost use Rattle.plan_tree.specs.Usable.{is_range, is_usable};
 ghost use Rattle.exec_scan.specs.Ranges.{is_in, IsLiteralOf, Narrows, NarrowsTo, Finds};
 
@@ -39,8 +39,11 @@ const NO_WORD: WordRange = WordRange {
 fn from_on(range: WordRange, word: i64) -> WordRange
     ensures { (w : ℤ) → is_in result w ≡ (is_in range w && int_le word w) }
 {
+    if word <= range.from {
+        return range;
+    }
     WordRange {
-        from: range.from.max(word),
+        from: word,
         to: range.to,
     }
 }
@@ -49,9 +52,12 @@ fn from_on(range: WordRange, word: i64) -> WordRange
 fn up_to(range: WordRange, word: i64) -> WordRange
     ensures { (w : ℤ) → is_in result w ≡ (is_in range w && int_le w word) }
 {
+    if range.to <= word {
+        return range;
+    }
     WordRange {
         from: range.from,
-        to: range.to.min(word),
+        to: word,
     }
 }
 
@@ -91,6 +97,7 @@ fn by_word(range: WordRange, op: Op, word: i64) -> WordRange
 }
 
 // The operator that holds of two values the other way round.
+#[tactic(auto, using(crate::proofs::Narrowing::same_turned))]
 fn turned(op: Op) -> Op
     ensures turned { (a b : Value) → comparison op a b ≡ comparison result b a }
     ensures range { (kind : ColumnType) → is_range kind result ≡ is_range kind op }
@@ -133,18 +140,13 @@ fn by_literal(range: WordRange, op: Op, literal: &Value, texts: &Texts) -> WordR
 }
 
 // The words of values between two literals. Texts have no such range.
-fn by_bounds(range: WordRange, low: &Value, high: &Value) -> WordRange
-    ensures { (kind : ColumnType) (texts : List (List ℕ)) → IsLiteralOf kind low.now
-        → IsLiteralOf kind high.now → Narrows texts kind range result
+fn by_bounds(range: WordRange, low: &Value, high: &Value, texts: &Texts) -> WordRange
+    ensures { (kind : ColumnType) → IsLiteralOf kind low.now → IsLiteralOf kind high.now
+        → Narrows texts.now kind range result
         (λ v. holds_texts kind || (is_true (comparison Ge v low.now) && is_true (comparison Le v high.now))) }
 {
-    match low {
-        Value::Int(low) => match high {
-            Value::Int(high) => by_word(by_word(range, Op::Ge, *low), Op::Le, *high),
-            Value::Null | Value::Text(_) => range,
-        },
-        Value::Null | Value::Text(_) => range,
-    }
+    let above = by_literal(range, Op::Ge, low, texts);
+    by_literal(above, Op::Le, high, texts)
 }
 
 // The words of the rows that meet a comparison, where an index on the column can use it.
@@ -188,10 +190,11 @@ fn by_between(
     of: &Operand,
     low: &Operand,
     high: &Operand,
+    texts: &Texts,
 ) -> WordRange
-    ensures { (columns : List ColumnType) (texts : List (List ℕ)) → AreOperands columns of.now low.now
+    ensures { (columns : List ColumnType) → AreOperands columns of.now low.now
         → AreOperands columns of.now high.now
-        → NarrowsTo texts columns column range result (Between of.now low.now high.now) }
+        → NarrowsTo texts.now columns column range result (Between of.now low.now high.now) }
 {
     match of {
         Operand::Literal(_) => range,
@@ -203,7 +206,7 @@ fn by_between(
                     if *of != column {
                         return range;
                     }
-                    by_bounds(range, low, high)
+                    by_bounds(range, low, high, texts)
                 }
             },
         },
@@ -217,7 +220,7 @@ fn narrowed(range: WordRange, column: u8, conjunct: &Condition, texts: &Texts) -
 {
     match conjunct {
         Condition::Compare(op, left, right) => by_compare(range, column, *op, left, right, texts),
-        Condition::Between(of, low, high) => by_between(range, column, of, low, high),
+        Condition::Between(of, low, high) => by_between(range, column, of, low, high, texts),
         Condition::OneOf(_, _) => range,
         Condition::IsNull(_) => range,
         Condition::Not(_) => range,

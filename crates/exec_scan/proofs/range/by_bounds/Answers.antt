@@ -1,22 +1,16 @@
-use Rattle.std.proofs.Common.{SFits, w64, sym, ◌&&◌, subst, ◌||◌, rules}
-use Rattle.std.proofs.lemmas.Int.{to_z-of_z}
-use Rattle.sql_values.specs.declared.value.Value.{Value}
-use Rattle.sql_values.specs.declared.value.Value.TheVariants as value
+use Rattle.std.proofs.Common.{ap, ◌&&◌, ◌||◌, ◌∙◌, not}
 use Rattle.sql_values.specs.declared.op.Op.TheVariants.{Le, Ge}
 use Rattle.sql_values.specs.Truth.{comparison}
+use Rattle.sql_values.specs.Words.{word_of}
 use Rattle.query_block.specs.Meaning.{is_true}
-use Rattle.query_block.specs.Blocks.{holds_texts}
-use Rattle.exec_scan.specs.Ranges.{IsLiteralOf, Narrows}
-use Rattle.exec_scan.proofs.Narrowing.{by-numbers}
+use Rattle.plan_tree.specs.Usable.{is_range}
+use Rattle.exec_scan.specs.Ranges.{is_in}
+use Rattle.exec_scan.proofs.Narrowing.{both-bounds}
 use Rattle.exec_scan.proofs.range.by_bounds.Goals as goal
 
-pub returns-in-Int-high : goal.returns-in-Int-high
-returns-in-Int-high c = λ kind texts low_is high_is.
-    let low : SFits w64 c.in-Int.low = search rules in
-    let high : SFits w64 c.in-Int-high.high = search rules in
-    let from = simp to_z-of_z at c.by_word.ensures in
-    let to = simp to_z-of_z at c.by_word-in-Int-high.ensures in
-    let number : IsLiteralOf kind (value.Int c.in-Int.low) = subst (IsLiteralOf kind) c.in-Int.is low_is in
-    subst (λ (l : Value). Narrows texts kind c.args.range c.by_word-in-Int-high.result (λ v. holds_texts kind || (is_true (comparison Ge v l) && is_true (comparison Le v c.args.high.now)))) (sym c.in-Int.is)
-    (subst (λ (h : Value). Narrows texts kind c.args.range c.by_word-in-Int-high.result (λ v. holds_texts kind || (is_true (comparison Ge v (value.Int c.in-Int.low)) && is_true (comparison Le v h)))) (sym c.in-Int-high.is)
-    (by-numbers texts kind c.in-Int.low c.in-Int-high.high c.args.range c.by_word.result c.by_word-in-Int-high.result from to number))
+pub returns : goal.returns
+returns c = λ kind low high v stored.
+    let below = is_true (comparison Le v c.args.high.now) in
+    c.by_literal.ensures kind high v stored
+    ∙ ap (λ b. b && (not (is_range kind Le) || below)) (c.by_literal-above.ensures kind low v stored)
+    ∙ both-bounds kind (is_in c.args.range (word_of c.args.texts.now v)) (is_true (comparison Ge v c.args.low.now)) below

@@ -1,25 +1,23 @@
-use Rattle.std.proofs.Common.{sym, subst}
-use Rattle.query_block.specs.declared.condition.Operand.{Operand}
+use Rattle.std.proofs.Common.{false, refl, sym}
+use Rattle.std.proofs.lemmas.Bool.{and_left, and_right, ne_eqb, or_from}
 use Rattle.query_block.specs.declared.condition.Operand.TheVariants.{Column, Literal}
 use Rattle.query_block.specs.Conditions.{Compare}
-use Rattle.exec_scan.specs.Ranges.{NarrowsTo}
-use Rattle.exec_scan.proofs.Narrowing.{other-left, other-right, two-columns}
+use Rattle.exec_scan.proofs.Narrowing.{unusable}
 use Rattle.exec_scan.proofs.range.by_compare.Goals as goal
 
 pub returns-then-of-column : goal.returns-then-of-column
 returns-then-of-column c = λ columns are.
-    subst (λ (l : Operand). NarrowsTo c.args.texts.now columns c.args.column c.args.range c.args.range (Compare c.args.op l c.args.right.now)) (sym c.in-Column.is)
-    (subst (λ (r : Operand). NarrowsTo c.args.texts.now columns c.args.column c.args.range c.args.range (Compare c.args.op (Column c.in-Column.of) r)) (sym c.in-Literal-right.is)
-    (other-left c.args.texts.now columns c.args.column c.in-Column.of c.args.op c.in-Literal-right.literal c.args.range c.if-of-column.true))
+    let other = ne_eqb c.args.column c.in-Column.of (λ same. c.if-of-column.true (sym same)) in
+    rw (c.in-Column.is, c.in-Literal-right.is)
+    (unusable c.args.texts.now columns c.args.column (Compare c.args.op (Column c.in-Column.of) (Literal c.in-Literal-right.literal)) c.args.range (and_right _ _ (or_from _ _ (and_left _ _ other) refl)))
 
 pub returns-then-of-column-2 : goal.returns-then-of-column-2
 returns-then-of-column-2 c = λ columns are.
-    subst (λ (l : Operand). NarrowsTo c.args.texts.now columns c.args.column c.args.range c.args.range (Compare c.args.op l c.args.right.now)) (sym c.in-Literal.is)
-    (subst (λ (r : Operand). NarrowsTo c.args.texts.now columns c.args.column c.args.range c.args.range (Compare c.args.op (Literal c.in-Literal.literal) r)) (sym c.in-Column-right-2.is)
-    (other-right c.args.texts.now columns c.args.column c.in-Column-right-2.of c.args.op c.in-Literal.literal c.args.range c.if-of-column-2.true))
+    let other = ne_eqb c.args.column c.in-Column-right-2.of (λ same. c.if-of-column-2.true (sym same)) in
+    rw (c.in-Literal.is, c.in-Column-right-2.is)
+    (unusable c.args.texts.now columns c.args.column (Compare c.args.op (Literal c.in-Literal.literal) (Column c.in-Column-right-2.of)) c.args.range (and_right _ _ (or_from _ _ refl other)))
 
 pub returns-in-Column-right : goal.returns-in-Column-right
 returns-in-Column-right c = λ columns are.
-    subst (λ (l : Operand). NarrowsTo c.args.texts.now columns c.args.column c.args.range c.args.range (Compare c.args.op l c.args.right.now)) (sym c.in-Column.is)
-    (subst (λ (r : Operand). NarrowsTo c.args.texts.now columns c.args.column c.args.range c.args.range (Compare c.args.op (Column c.in-Column.of) r)) (sym c.in-Column-right.is)
-    (two-columns c.args.texts.now columns c.args.column c.in-Column.of c.in-Column-right.field-0 c.args.op c.args.range))
+    rw (c.in-Column.is, c.in-Column-right.is)
+    (unusable c.args.texts.now columns c.args.column (Compare c.args.op (Column c.in-Column.of) (Column c.in-Column-right.field-0)) c.args.range (and_right _ _ (or_from _ _ (and_right _ false refl) refl)))

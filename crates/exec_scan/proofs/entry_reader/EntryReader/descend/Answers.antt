@@ -1,0 +1,10 @@
+use Rattle.std.proofs.Common.{subst}
+use Rattle.db_catalog.specs.Database.{StandAsWords}
+use Rattle.exec_scan.specs.EntryReading.{EntryReaderState}
+use Rattle.exec_scan.proofs.entry_reader.EntryReader.descend.Goals as goal
+
+pub returns-in_err-cursor-clause-rows : goal.returns-in_err-cursor-clause-rows
+returns-in_err-cursor-clause-rows c = subst (λ (reader : EntryReaderState). StandAsWords c.args.meter.now.database reader.table) c.self.view_is c.seek.ensures.rows
+
+pub returns-clause-rows : goal.returns-clause-rows
+returns-clause-rows c = subst (λ (reader : EntryReaderState). StandAsWords c.args.meter.now.database reader.table) c.self.view_is c.seek.ensures.rows

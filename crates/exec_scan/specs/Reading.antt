@@ -1,0 +1,104 @@
+-- What is left to read of a relation's rows on each of the two ways to them, and what is always so of a way.
+use Rattle.std.specs.Prelude.{◌≡◌, ℕ, ℤ, ◌+◌, ◌*◌, Bool, List, [], ◌∷◌, Option, Some, None, length, map, filter}
+use Rattle.std.specs.List.Sorted.{IsPermutation}
+use Rattle.work_ledger.specs.Charges.{open_charge}
+use Rattle.sql_values.specs.Stored.{AreWordsOf, StoredTable, ValueRow, values_of}
+use Rattle.query_block.specs.Blocks.{RelationTree}
+use Rattle.query_block.specs.Meaning.{meets_filter}
+use Rattle.plan_tree.specs.Usable.{is_usable}
+use Rattle.plan_tree.specs.Work.{index_scan_work, scan_work, table_rows}
+use Rattle.plan_tree.specs.Left.{Left}
+use Rattle.btree_index.specs.declared.index.Cursor.{Cursor}
+use Rattle.btree_index.specs.Entries.{IndexEntry}
+use Rattle.db_catalog.specs.Database.{DatabaseState}
+use Rattle.db_catalog.specs.Indexes.{index_at, index_height}
+use Rattle.exec_scan.specs.declared.way.Way.{Way}
+use Rattle.exec_scan.specs.declared.way.Way.TheVariants as way
+use Rattle.exec_scan.specs.EntryReading.{EntryReaderState, IsReaderOf, entries_at, row_of_entry}
+use Rattle.exec_scan.specs.TableReading.{IsTableReader, table_ahead, table_due}
+
+-- the table whose rows are read
+abbrev pub table_of : Way → ℕ
+table_of (way.Table reader) = reader.table
+table_of (way.Index reader) = reader.table
+
+-- the column by whose index they are found, if they are
+abbrev pub column_of : Way → Option ℕ
+column_of (way.Table reader) = None
+column_of (way.Index reader) = Some reader.column
+
+-- whether a row meets every conjunct of the filter that an index on the column can use
+abbrev pub is_wanted : RelationTree → (column : ℕ) → ValueRow → Bool
+is_wanted own column row = meets_filter (filter (is_usable own.columns column) own.filter) row
+
+-- of the entries of an index those that are still to be read: before the descent the wanted ones, then those ahead
+abbrev pub entries_to_read : (IndexEntry → Bool) → List IndexEntry → Option Cursor → List IndexEntry
+entries_to_read wanted entries None = filter wanted entries
+entries_to_read wanted entries (Some cursor) = entries_at entries (Some cursor)
+
+abbrev pub wanted_entries : DatabaseState → RelationTree → EntryReaderState → List IndexEntry
+wanted_entries database own reader =
+    entries_to_read (λ entry. is_wanted own reader.column (row_of_entry database reader.table entry))
+    (index_at database reader.table reader.column) reader.cursor
+
+-- their rows
+abbrev pub wanted_rows : DatabaseState → RelationTree → EntryReaderState → List ValueRow
+wanted_rows database own reader = map (row_of_entry database reader.table) (wanted_entries database own reader)
+
+-- the work of the descent, if it isn't made yet
+abbrev pub descent_due : (height : ℕ) → Option Cursor → ℕ
+descent_due height None = 2 * height
+descent_due height (Some cursor) = 0
+
+-- what reading them has left: no row comes of it alone; that of the descent is due, and 10 for each entry and its row
+abbrev pub wanted_due : DatabaseState → RelationTree → EntryReaderState → Left
+wanted_due database own reader = record {
+  rest = [];
+  due = descent_due (index_height database reader.table reader.column) reader.cursor + 10 * length (wanted_entries database own reader);
+}
+
+-- the rows of the relation that aren't read yet
+abbrev pub rows_ahead : DatabaseState → RelationTree → Way → List ValueRow
+rows_ahead database own (way.Table reader) = table_ahead database reader
+rows_ahead database own (way.Index reader) = wanted_rows database own reader
+
+-- what reading them has left
+abbrev pub read_due : DatabaseState → RelationTree → Way → Left
+read_due database own (way.Table reader) = table_due database reader
+read_due database own (way.Index reader) = wanted_due database own reader
+
+-- of the rows ahead those that meet the relation's filter
+abbrev pub kept_rows : DatabaseState → RelationTree → Way → List ValueRow
+kept_rows database own way = filter (meets_filter own.filter) (rows_ahead database own way)
+
+-- the reader stands in its table or its index
+abbrev pub IsReaderIn : DatabaseState → Way → Type 0
+IsReaderIn database (way.Table reader) = IsTableReader database reader
+IsReaderIn database (way.Index reader) = IsReaderOf database reader
+
+-- a way to the rows of this relation
+pub record IsWayTo (database : DatabaseState) (own : RelationTree) (way : Way) : Type 0 where
+  pub table : table_of way ≡ own.table
+  pub reading : IsReaderIn database way
+
+-- there were no rows, there are none, and nothing is due
+pub record AreNone (old new : List ValueRow) (left : Left) : Type 0 where
+  pub before : old ≡ []
+  pub after : new ≡ []
+  pub due : left.due ≡ 0
+
+-- the words are those of the first of these rows, which then isn't one of them
+pub record IsFirstRow (texts : List (List ℕ)) (own : RelationTree) (old new : List ValueRow) (words : List ℤ) : Type 0 where
+  pub are : AreWordsOf texts own.columns words
+  pub first : old ≡ values_of texts own.columns words ∷ new
+
+-- the work of the scan of a relation by the index on a column, or of its table, that gives so many rows
+abbrev pub work_by : List StoredTable → RelationTree → Option ℕ → (out : ℕ) → ℕ
+work_by tables own None out = scan_work tables own out
+work_by tables own (Some column) out = index_scan_work tables own column out
+
+-- nothing is read yet: the rows that are kept are those of the table, in some order, and what is due makes the leaf's work
+-- with what it costs to open it and to give these rows
+pub record HasAll (database : DatabaseState) (own : RelationTree) (way : Way) : Type 0 where
+  pub rows : IsPermutation (kept_rows database own way) (filter (meets_filter own.filter) (table_rows database.tables own))
+  pub due : (out : ℕ) → open_charge + (read_due database own way).due + out ≡ work_by database.tables own (column_of way) out

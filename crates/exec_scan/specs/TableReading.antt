@@ -1,0 +1,52 @@
+-- What is seen of a reader of a whole table, what it has left to read, and what is always so of it.
+use Rattle.std.specs.Prelude.{◌≡◌, ℕ, ℤ, ◌+◌, ◌-◌, ◌*◌, ◌<◌, ◌≤◌, min, List, [], ◌∷◌, length, drop}
+use Rattle.sql_values.specs.Limits.{max_columns}
+use Rattle.sql_values.specs.Stored.{ValueRow, StandsFor}
+use Rattle.heap_pages.specs.Rows.{rows_per_page, row_number}
+use Rattle.plan_tree.specs.Left.{Left}
+use Rattle.db_catalog.specs.Database.{DatabaseState, table_at}
+use Rattle.db_catalog.specs.Meter.{table_pages}
+
+-- the table; how many pages it has, and how many of them are opened; the last of these by its number, how many rows stand
+-- on it, and how many of those are looked at
+pub record TableReaderState : Type 0 where
+  pub table : ℕ
+  pub pages : ℕ
+  pub opened : ℕ
+  pub page : ℕ
+  pub slots : ℕ
+  pub slot : ℕ
+
+-- the table is there and has so many pages; the page at hand is the last that is opened, and its rows are the last on the
+-- opened pages
+pub record IsTableReader (database : DatabaseState) (reader : TableReaderState) : Type 0 where
+  pub there : reader.table < length database.tables
+  pub some : 1 ≤ length (table_at database reader.table).columns
+  pub few : length (table_at database reader.table).columns ≤ max_columns
+  pub pages : reader.pages ≡ table_pages database reader.table
+  pub opened : reader.opened ≤ reader.pages
+  pub page : reader.page ≡ reader.opened - 1
+  pub rows : row_number (length (table_at database reader.table).columns) reader.page reader.slots
+      ≡ min (reader.opened * rows_per_page (length (table_at database reader.table).columns))
+      (length (table_at database reader.table).rows)
+  pub slot : reader.slot ≤ reader.slots
+
+-- the rows that aren't looked at yet
+abbrev pub table_ahead : DatabaseState → TableReaderState → List ValueRow
+table_ahead database reader =
+    let table = table_at database reader.table in drop (row_number (length table.columns) reader.page reader.slot) table.rows
+
+-- what looking at them has left: no row comes of it alone; 8 is due for each page that isn't opened, and 1 for each row
+abbrev pub table_due : DatabaseState → TableReaderState → Left
+table_due database reader =
+    record { rest = []; due = 8 * (reader.pages - reader.opened) + length (table_ahead database reader) }
+
+-- the words are those of the first row that isn't looked at, which then is looked at
+abbrev pub LooksAt : DatabaseState → (old new : TableReaderState) → List ℤ → Type 0
+LooksAt database old new words =
+    (row : ValueRow) × (table_ahead database old ≡ row ∷ table_ahead database new)
+    × StandsFor database.texts (table_at database old.table).columns words row
+
+-- only where it is in its table changes
+abbrev pub MovesOn : (old new : TableReaderState) → Type 0
+MovesOn old new = new ≡ record old { opened = new.opened; page = new.page; slots = new.slots; slot = new.slot }
