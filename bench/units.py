@@ -52,7 +52,7 @@ def measures(rows):
         Measure("row", "SELECT BIG.K FROM BIG WHERE V < 0", "S0", rows, None),
         Measure("given", "SELECT BIG.K FROM BIG, NONE WHERE BIG.K = NONE.K", "N(S0,S1)", rows, "row"),
         Measure("probe", "SELECT BIG.K FROM BIG, SMALL WHERE BIG.K = SMALL.K", "H0(S0,S1)", rows, "given"),
-        Measure("candidate", "SELECT A.K FROM SMALL A, MATE B WHERE A.K = B.K AND B.K < 1000", "N(S0,S1)", pairs, None),
+        Measure("candidate", "SELECT A.K FROM SMALL A, SMALL B WHERE A.K = B.V", "N(S0,S1)", pairs, None),
         Measure("found", "SELECT A.K FROM SMALL A, MATE B WHERE A.G = B.G AND A.V = B.V", "H0(S0,S1)", rows, None),
         Measure("hashed", "SELECT BIG.K FROM BIG, MATE, NONE WHERE BIG.K = MATE.V AND MATE.G = NONE.G",
                 "N(H0(S0,S1),S2)", rows, "given"),
