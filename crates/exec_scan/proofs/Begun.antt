@@ -25,16 +25,16 @@ use Rattle.exec_scan.proofs.LeafRows.{leaf_rows}
 use Rattle.exec_scan.proofs.Usable.{meets-part, meets-some}
 
 -- an index that isn't descended yet: what meets the filter is wanted and has a value in the column
-pub index-all : (database : DatabaseState) (own : RelationTree) (column : ℕ) → HasUsable own column
-    → let fresh : EntryReaderState = record { table = own.table; column = column; cursor = None } in HasAll database own (way.Index fresh)
-index-all database own column usable =
+pub index-all : (database : DatabaseState) (own : RelationTree) (column : ℕ) → HasUsable own column → (reader : EntryReaderState) → reader.table ≡ own.table → reader.column ≡ column → reader.cursor ≡ None
+    → HasAll database own (way.Index reader)
+index-all database own column usable reader table indexed none =
     let wanted = is_wanted own column in
     let levels : index_height database own.table column ≡ height_in database.tables own column = ap height_of (count-entries database own.table column) in
-    record {
+    subst (λ (reader : EntryReaderState). HasAll database own (way.Index reader)) (λ i. record { table = sym table i; column = sym indexed i; cursor = sym none i }) (record {
       rows = found-rows database own.table column wanted (meets_filter own.filter)
           (λ row is. (meets-part (is_usable own.columns column) own.filter row is, meets-some own.columns column own.filter row usable is));
       due = λ out. omega (arith, levels, count-read database own.table column wanted);
-    }
+    })
 
 -- the rows of a leaf are those of its relation, by whatever they are found
 pub same-leaf : (relation : ℕ) (column : Option ℕ) → has_leaf (leaf_by relation column) ≡ has_leaf (Scan relation)

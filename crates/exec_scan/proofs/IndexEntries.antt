@@ -1,41 +1,34 @@
 -- The entries of an index: each is that of a row, whose value in the column isn't NULL.
-use Rattle.std.proofs.Common.{◌≡◌, ℕ, suc, ◌+◌, ◌<◌, Bool, true, false, not, cond, ◌&&◌, IsTrue, nat_eq, List, [], ◌∷◌, ◌++◌, All, length, filter, map, drop, get_or, length-drop, refl, sym, ap, subst, ◌∙◌, arith}
-use Rattle.std.specs.Prelude.{count_by, if◌then◌else◌}
+use Rattle.std.proofs.Common.{◌≡◌, ℕ, ◌+◌, ◌<◌, Bool, true, false, not, cond, ◌&&◌, IsTrue, nat_eq, List, [], ◌∷◌, ◌++◌, All, length, filter, map, drop, get_or, length-drop, refl, sym, ap, ◌∙◌, arith}
+use Rattle.std.specs.Prelude.{count_by}
 use Rattle.std.specs.List.{list_any, Contains}
 use Rattle.std.specs.List.Sorted.{IsPermutation}
-use Rattle.std.specs.Ordering.{is_gt}
-use Rattle.std.proofs.Math.Seq.{drop-cons}
 use Rattle.std.proofs.lemmas.Bool.{eqb-true, not_from_false}
-use Rattle.std.proofs.lemmas.List.{length-map, map-append}
+use Rattle.std.proofs.lemmas.List.{drop_more, length-map, map-append}
 use Rattle.std.proofs.lemmas.List.Elements.{All-nil, All-cons, All-head, All-tail, All-append, All-contains, filter-append, filter_agree}
 use Rattle.std.proofs.lemmas.Map.Views.{Contains-from_any}
 use Rattle.std.proofs.lemmas.List.Sums.{length-filter}
-use Rattle.std.proofs.lemmas.List.Sorted.{All-permutation, IsPermutation-refl, IsPermutation-trans, IsPermutation-cons, IsPermutation-middle, IsPermutation-map, IsPermutation-sym, length_permutation}
+use Rattle.std.proofs.lemmas.List.Sorted.{All-permutation, IsPermutation-map, IsPermutation-sym, length_permutation}
 use Rattle.sql_values.specs.declared.value.Value.{Value}
 use Rattle.sql_values.specs.declared.value.Value.TheVariants as value
 use Rattle.sql_values.specs.Words.{word_of}
 use Rattle.sql_values.specs.Stored.{ValueRow}
 use Rattle.sql_values.specs.Truth.{is_null}
 use Rattle.query_block.specs.Truth.{value_at}
-use Rattle.btree_index.specs.Entries.{IndexEntry, entry_order}
+use Rattle.btree_index.specs.Entries.{IndexEntry}
 use Rattle.db_catalog.specs.Database.{DatabaseState, table_at}
-use Rattle.db_catalog.specs.Indexes.{value_entry, entries_from, column_entries, index_at, ordered, placed}
+use Rattle.db_catalog.specs.Indexes.{value_entry, entries_from, column_entries, index_at}
 use Rattle.db_catalog.proofs.EntryOrder.{ordered_same}
 use Rattle.exec_scan.specs.EntryReading.{row_of_entry}
 use Rattle.exec_scan.proofs.LeafRows.{filter-map}
+use Rattle.exec_scan.proofs.Permutations.{andthen, equal, permuted}
 
 -- the first of the rows from a place on is the row at that place
-record Front {X : Type 0} (all rest : List X) (first : ℕ) (x d : X) : Type 0 where
-  there : first < length all
-  here : get_or all first d ≡ x
-  rest_is : rest ≡ drop (first + 1) all
-
-front : {X : Type 0} (all rest : List X) (first : ℕ) (x d : X) → x ∷ rest ≡ drop first all → Front all rest first x d
+front : {X : Type 0} (all rest : List X) (first : ℕ) (x d : X) → x ∷ rest ≡ drop first all → (first < length all) × (get_or all first d ≡ x) × (rest ≡ drop (first + 1) all)
 front all rest first x d is =
     let there : first < length all = omega (arith, simp length-drop at (ap length is)) in
-    let next : suc first ≡ first + 1 = omega arith in
-    let both : x ∷ rest ≡ get_or all first d ∷ drop (first + 1) all = is ∙ drop-cons all first d there ∙ (λ i. get_or all first d ∷ drop (next i) all) in
-    record { there = there; here = cc; rest_is = cc }
+    let both : x ∷ rest ≡ get_or all first d ∷ drop (first + 1) all = is ∙ drop_more all first d there in
+    (there, cc, cc)
 
 -- what is so of each entry
 pub record IsEntry (texts : List (List ℕ)) (column : ℕ) (rows : List ValueRow) (entry : IndexEntry) : Type 0 where
@@ -51,72 +44,40 @@ module _ (texts : List (List ℕ)) (column : ℕ) (all : List ValueRow) where
   abbrev row_at_entry : IndexEntry → ValueRow
   row_at_entry entry = get_or all entry.1 []
 
-  -- the entry of a value that stands in a row, if there is one
-  is-entry : (number : ℕ) (row : ValueRow) (v : Value) → number < length all → get_or all number [] ≡ row → value_at row column ≡ v → All (IsEntry texts column all) (value_entry texts number v)
-  is-entry number row v there here is = by v (ap (λ (r : ValueRow). value_at r column) here ∙ is)
-    where
-      one : (v : Value) → value_at (get_or all number []) column ≡ v → is_null v ≡ false → All (IsEntry texts column all) ((word_of texts v, number) ∷ [])
-      one v is some =
-          All-cons (IsEntry texts column all) (word_of texts v, number) [] (record { there = there; some = ap is_null is ∙ some; word = ap (word_of texts) is }) (All-nil (IsEntry texts column all))
+  abbrev AreEntries : List IndexEntry → Type 0
+  AreEntries = All (IsEntry texts column all)
 
-      by : (v : Value) → value_at (get_or all number []) column ≡ v → All (IsEntry texts column all) (value_entry texts number v)
-      by value.Null is = All-nil (IsEntry texts column all)
-      by (value.Int n) is = one (value.Int n) is refl
-      by (value.Text t) is = one (value.Text t) is refl
+  -- the entry of a value that stands in a row, if there is one, and its row
+  one-entry : (number : ℕ) (v : Value) → number < length all → value_at (get_or all number []) column ≡ v → is_null v ≡ false → AreEntries ((word_of texts v, number) ∷ [])
+  one-entry number v there is some =
+      All-cons (IsEntry texts column all) (word_of texts v, number) [] (record { there = there; some = ap is_null is ∙ some; word = ap (word_of texts) is }) (All-nil (IsEntry texts column all))
 
-  are-entries : (first : ℕ) (rows : List ValueRow) → rows ≡ drop first all → All (IsEntry texts column all) (entries_from texts column first rows)
-  are-entries first [] is = All-nil (IsEntry texts column all)
-  are-entries first (row ∷ rows) is =
-      let at = front all rows first row [] is in
-      All-append (IsEntry texts column all) (value_entry texts first (value_at row column)) (entries_from texts column (first + 1) rows)
-      (is-entry first row (value_at row column) at.there at.here refl) (are-entries (first + 1) rows at.rest_is)
+  of-value : (number : ℕ) (v : Value) → number < length all → value_at (get_or all number []) column ≡ v
+      → AreEntries (value_entry texts number v) × (map row_at_entry (value_entry texts number v) ≡ cond (not (is_null v)) (get_or all number [] ∷ []) [])
+  of-value number value.Null there is = (All-nil (IsEntry texts column all), refl)
+  of-value number (value.Int n) there is = (one-entry number (value.Int n) there is refl, refl)
+  of-value number (value.Text t) there is = (one-entry number (value.Text t) there is refl, refl)
 
-  -- and its row
-  row-of-entry : (number : ℕ) (row : ValueRow) (v : Value) → get_or all number [] ≡ row → map row_at_entry (value_entry texts number v) ≡ cond (not (is_null v)) (row ∷ []) []
-  row-of-entry number row value.Null here = refl
-  row-of-entry number row (value.Int n) here = ap (λ (r : ValueRow). r ∷ []) here
-  row-of-entry number row (value.Text t) here = ap (λ (r : ValueRow). r ∷ []) here
-
-  rows-of-entries : (first : ℕ) (rows : List ValueRow) → rows ≡ drop first all → map row_at_entry (entries_from texts column first rows) ≡ filter (has_value column) rows
-  rows-of-entries first [] is = refl
-  rows-of-entries first (row ∷ rows) is =
-      let at = front all rows first row [] is in
-      map-append row_at_entry (value_entry texts first (value_at row column)) (entries_from texts column (first + 1) rows)
-      ∙ (λ i. row-of-entry first row (value_at row column) at.here i ++ rows-of-entries (first + 1) rows at.rest_is i)
-      ∙ sym (filter-append (has_value column) (row ∷ []) rows)
-
--- a test passes the same entries in order
-front-kept : (b : Bool) (x : IndexEntry) (xs ys : List IndexEntry) → IsPermutation xs ys → IsPermutation (cond b (x ∷ xs) xs) (cond b (x ∷ ys) ys)
-front-kept true x xs ys same = IsPermutation-cons x xs ys same
-front-kept false x xs ys same = same
-
-past-kept : (a b : Bool) (x y : IndexEntry) (xs ys : List IndexEntry) → IsPermutation (cond a (x ∷ xs) xs) ys
-    → IsPermutation (cond a (x ∷ cond b (y ∷ xs) xs) (cond b (y ∷ xs) xs)) (cond b (y ∷ ys) ys)
-past-kept true true x y xs ys same = IsPermutation-trans _ _ _ (IsPermutation-middle (x ∷ []) y xs) (IsPermutation-cons y (x ∷ xs) ys same)
-past-kept true false x y xs ys same = same
-past-kept false b x y xs ys same = front-kept b y xs ys same
-
-placed-kept : (q : IndexEntry → Bool) (entry : IndexEntry) (entries : List IndexEntry) → IsPermutation (filter q (entry ∷ entries)) (filter q (placed entry entries))
-placed-kept q entry [] = IsPermutation-refl (filter q (entry ∷ []))
-placed-kept q entry (first ∷ rest) = by (is_gt (entry_order entry first)) (placed-kept q entry rest)
-  where
-    by : (b : Bool) → IsPermutation (filter q (entry ∷ rest)) (filter q (placed entry rest))
-        → IsPermutation (filter q (entry ∷ first ∷ rest)) (filter q (if b then first ∷ placed entry rest else entry ∷ first ∷ rest))
-    by true again = past-kept (q entry) (q first) entry first (filter q rest) (filter q (placed entry rest)) again
-    by false again = IsPermutation-refl (filter q (entry ∷ first ∷ rest))
-
-ordered-kept : (q : IndexEntry → Bool) (entries : List IndexEntry) → IsPermutation (filter q entries) (filter q (ordered entries))
-ordered-kept q [] = IsPermutation-refl []
-ordered-kept q (entry ∷ entries) =
-    IsPermutation-trans _ _ _ (front-kept (q entry) entry (filter q entries) (filter q (ordered entries)) (ordered-kept q entries)) (placed-kept q entry (ordered entries))
+  of-rows : (first : ℕ) (rows : List ValueRow) → rows ≡ drop first all
+      → AreEntries (entries_from texts column first rows) × (map row_at_entry (entries_from texts column first rows) ≡ filter (has_value column) rows)
+  of-rows first [] is = (All-nil (IsEntry texts column all), refl)
+  of-rows first (row ∷ rows) is =
+      let (there, here, rest) = front all rows first row [] is in
+      let one = of-value first (value_at row column) there (ap (λ (r : ValueRow). value_at r column) here) in
+      let more = of-rows (first + 1) rows rest in (
+        All-append (IsEntry texts column all) (value_entry texts first (value_at row column)) (entries_from texts column (first + 1) rows) one.0 more.0,
+        map-append row_at_entry (value_entry texts first (value_at row column)) (entries_from texts column (first + 1) rows)
+            ∙ (λ i. one.1 i ++ more.1 i) ∙ (λ i. cond (has_value column row) (here i ∷ []) [] ++ filter (has_value column) rows)
+            ∙ sym (filter-append (has_value column) (row ∷ []) rows),
+      )
 
 -- two tests, one after the other
-both-tests : {X : Type 0} (p q : X → Bool) (xs : List X) → filter q (filter p xs) ≡ filter (λ x. p x && q x) xs
+pub both-tests : {X : Type 0} (p q : X → Bool) (xs : List X) → filter q (filter p xs) ≡ filter (λ x. p x && q x) xs
 both-tests p q [] = refl
 both-tests p q (x ∷ xs) = grind (arith, both-tests p q xs)
 
 -- the first of them may be left out where it follows from the second
-followed : (a b : Bool) → (b ≡ true → a ≡ true) → (a && b) ≡ b
+pub followed : (a b : Bool) → (b ≡ true → a ≡ true) → (a && b) ≡ b
 followed a b follows = grind arith
 
 wider-test : {X : Type 0} (p q : X → Bool) → ((x : X) → q x ≡ true → p x ≡ true) → (xs : List X) → filter q (filter p xs) ≡ filter q xs
@@ -130,7 +91,7 @@ module _ (database : DatabaseState) (table column : ℕ) where
   pub indexed : All (IsEntry database.texts column (table_at database table).rows) (index_at database table column)
   indexed =
       All-permutation (IsEntry database.texts column rows) (column_entries database table column) (index_at database table column)
-      (ordered_same (column_entries database table column)) (are-entries database.texts column rows 0 rows refl)
+      (ordered_same (column_entries database table column)) (of-rows database.texts column rows 0 rows refl).0
 
   -- the rows of those that pass a test are the rows with a value that pass it, in another order
   pub index-rows : (p : ValueRow → Bool)
@@ -138,9 +99,8 @@ module _ (database : DatabaseState) (table column : ℕ) where
   index-rows p =
       let q = λ (e : IndexEntry). p (row_of_entry database table e) in
       let entries = column_entries database table column in
-      subst (λ xs. IsPermutation xs (map (row_of_entry database table) (filter q (index_at database table column))))
-      (sym (filter-map p q (row_of_entry database table) entries (λ e. refl)) ∙ ap (filter p) (rows-of-entries database.texts column rows 0 rows refl))
-      (IsPermutation-map (row_of_entry database table) (filter q entries) (filter q (index_at database table column)) (ordered-kept q entries))
+      andthen (equal (ap (filter p) (sym (of-rows database.texts column rows 0 rows refl).1) ∙ filter-map p q (row_of_entry database table) entries (λ e. refl)))
+      (IsPermutation-map (row_of_entry database table) _ _ (permuted (filter q) (filter-append q) (ordered_same entries)))
 
   -- so of those that are wanted those that are kept, where these are all wanted and have a value
   pub found-rows : (wanted kept : ValueRow → Bool) → ((row : ValueRow) → kept row ≡ true → (wanted row ≡ true) × (is_null (value_at row column) ≡ false))
@@ -151,8 +111,7 @@ module _ (database : DatabaseState) (table column : ℕ) where
       let in_index = filter-map kept (λ (e : IndexEntry). kept (row e)) row (filter (λ (e : IndexEntry). wanted (row e)) index) (λ e. refl)
       ∙ ap (map row) (wider-test (λ (e : IndexEntry). wanted (row e)) (λ (e : IndexEntry). kept (row e)) (λ e is. (follows (row e) is).0) index) in
       let in_table = wider-test (has_value column) kept (λ r is. not_from_false _ (follows r is).1) rows in
-      subst (λ xs. IsPermutation xs (filter kept rows)) (sym in_index)
-      (IsPermutation-sym _ _ (subst (λ xs. IsPermutation xs (map row (filter (λ (e : IndexEntry). kept (row e)) index))) in_table (index-rows kept)))
+      andthen (equal in_index) (IsPermutation-sym _ _ (andthen (equal (sym in_table)) (index-rows kept)))
 
   -- so many are read of an index, and there are so many entries
   pub count-read : (p : ValueRow → Bool) → length (filter (λ (e : IndexEntry). p (row_of_entry database table e)) (index_at database table column)) ≡ count_by (λ (row : ValueRow). has_value column row && p row) rows
@@ -162,12 +121,11 @@ module _ (database : DatabaseState) (table column : ℕ) where
 
   pub count-entries : length (column_entries database table column) ≡ count_by (has_value column) rows
   count-entries =
-      sym (length-map (column_entries database table column) (row_of_entry database table)) ∙ ap length (rows-of-entries database.texts column rows 0 rows refl) ∙ length-filter (has_value column) rows
+      sym (length-map (column_entries database table column) (row_of_entry database table)) ∙ ap length (of-rows database.texts column rows 0 rows refl).1 ∙ length-filter (has_value column) rows
 
 pub filter-same : {X : Type 0} (p q : X → Bool) (xs : List X) → All (λ x. p x ≡ q x) xs → filter p xs ≡ filter q xs
 filter-same p q [] same = refl
-filter-same p q (x ∷ xs) same =
-    (λ i. cond (All-head (λ x. p x ≡ q x) x xs same i) (x ∷ filter-same p q xs (All-tail (λ x. p x ≡ q x) x xs same) i) (filter-same p q xs (All-tail (λ x. p x ≡ q x) x xs same) i))
+filter-same p q (x ∷ xs) same = grind (arith, All-head (λ x. p x ≡ q x) x xs same, filter-same p q xs (All-tail (λ x. p x ≡ q x) x xs same))
 
 -- an indexed column of a relation that fits is an indexed column of its table
 pub is-indexed : (indexes : List ℕ) (column : ℕ) (indexed : List ℕ) → All (λ (c : ℕ). Contains indexed c) indexes → IsTrue (list_any (λ other. nat_eq other column) indexes) → Contains indexed column

@@ -8,7 +8,7 @@ use Rattle.std.proofs.lemmas.List.Elements.{All-head, All-tail}
 use Rattle.sql_values.specs.Stored.{StoredTable, ValueRow}
 use Rattle.query_block.specs.declared.edge.Edge.{Edge}
 use Rattle.query_block.specs.Blocks.{RelationTree, BlockTree, relation_at, IsEdge}
-use Rattle.query_block.specs.Meaning.{Combination, choices, product, rows_at, rows_of, meets_filter, meets_filters, meets_edges, is_inside}
+use Rattle.query_block.specs.Meaning.{Combination, choices, product, rows_at, rows_of, meets_filter, meets_filters, meets_edges}
 use Rattle.plan_tree.specs.Plans.{Scan, has_leaf}
 use Rattle.exec_scan.specs.Places.{placed_row}
 
@@ -25,17 +25,19 @@ off_leaf r n past = grind arith
 pub before_leaf : (r n k : ℕ) → n + suc k ≡ r → has_leaf (Scan r) n ≡ false
 before_leaf r n k at = grind arith
 
--- behind the relation there is nothing to choose
-none_chosen : (tables : List StoredTable) (r n : ℕ) (relations : List RelationTree) → r < n → product (choices tables (has_leaf (Scan r)) n relations) ≡ nothing relations ∷ []
-none_chosen tables r n [] past = refl
-none_chosen tables r n (relation ∷ relations) past = rw (off_leaf r n past, none_chosen tables r (n + 1) relations (omega arith))
+-- behind the relation there is nothing to choose, and no filter is asked
+none_behind : (tables : List StoredTable) (r n : ℕ) (relations : List RelationTree) → r < n
+    → (product (choices tables (has_leaf (Scan r)) n relations) ≡ nothing relations ∷ []) × (meets_filters (has_leaf (Scan r)) n relations (nothing relations) ≡ true)
+none_behind tables r n [] past = (refl, refl)
+none_behind tables r n (relation ∷ relations) past =
+    let more = none_behind tables r (n + 1) relations (omega arith) in (rw (off_leaf r n past, more.0), rw (off_leaf r n past) more.1)
 
 -- so the rows of the relation's table are all that is chosen from
 chosen : (tables : List StoredTable) (r n k : ℕ) (relations : List RelationTree) → n + k ≡ r → k < length relations
     → product (choices tables (has_leaf (Scan r)) n relations) ≡ map (placed_row relations k) (rows_at tables (relation_at relations k).table)
 chosen tables r n k [] at there = absurd (omega (arith, there))
 chosen tables r n zero (relation ∷ relations) at there =
-    rw (in_leaf r n (omega (arith, at)), none_chosen tables r (n + 1) relations (omega (arith, at)))
+    rw (in_leaf r n (omega (arith, at)), (none_behind tables r (n + 1) relations (omega (arith, at))).0)
     (flat_map_single (λ (row : ValueRow). row ∷ nothing relations) (rows_at tables relation.table))
 chosen tables r n (suc k) (relation ∷ relations) at there =
     let first = λ (others : Combination). [] ∷ others in
@@ -44,25 +46,18 @@ chosen tables r n (suc k) (relation ∷ relations) at there =
     (append-nil (map first rows) ∙ map-map first (placed_row relations k) (rows_at tables (relation_at relations k).table))
 
 -- a filter is asked of that relation alone
-none_asked : (r n : ℕ) (relations : List RelationTree) → r < n → meets_filters (has_leaf (Scan r)) n relations (nothing relations) ≡ true
-none_asked r n [] past = refl
-none_asked r n (relation ∷ relations) past = rw (off_leaf r n past) (none_asked r (n + 1) relations (omega arith))
-
 asked : (r n k : ℕ) (relations : List RelationTree) (row : ValueRow) → n + k ≡ r → k < length relations
     → meets_filters (has_leaf (Scan r)) n relations (placed_row relations k row) ≡ meets_filter (relation_at relations k).filter row
 asked r n k [] row at there = absurd (omega (arith, there))
 asked r n zero (relation ∷ relations) row at there =
-    rw (in_leaf r n (omega (arith, at)), none_asked r (n + 1) relations (omega (arith, at))) (and-true (meets_filter relation.filter row))
+    rw (in_leaf r n (omega (arith, at)), (none_behind [] r (n + 1) relations (omega (arith, at))).1) (and-true (meets_filter relation.filter row))
 asked r n (suc k) (relation ∷ relations) row at there = rw (before_leaf r n k at) (asked r (n + 1) k relations row (omega (arith, at)) (omega (arith, there)))
 
 -- no edge is inside one relation
-outside : (r : ℕ) (edge : Edge) → edge.left < edge.right → is_inside (has_leaf (Scan r)) edge ≡ false
-outside r edge lower = grind arith
-
 no_edge : (r : ℕ) (relations : List RelationTree) (edges : List Edge) (rows : Combination) → All (IsEdge relations) edges → meets_edges (has_leaf (Scan r)) edges rows ≡ true
 no_edge r relations [] rows are = refl
 no_edge r relations (edge ∷ edges) rows are =
-    rw (outside r edge (All-head (IsEdge relations) edge edges are).lower) (no_edge r relations edges rows (All-tail (IsEdge relations) edge edges are))
+    grind (arith, (All-head (IsEdge relations) edge edges are).lower, no_edge r relations edges rows (All-tail (IsEdge relations) edge edges are))
 
 -- a filter of values that come of others
 pub filter-map : {A B : Type 0} (p : B → Bool) (q : A → Bool) (f : A → B) (xs : List A) → ((x : A) → p (f x) ≡ q x) → filter p (map f xs) ≡ map f (filter q xs)

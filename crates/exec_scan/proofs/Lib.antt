@@ -1,9 +1,9 @@
+pub mod Permutations
 pub mod OnWay
 pub mod LeafRows
 pub mod Parts
 pub mod Relations
 pub mod Written
-pub mod FirstRows
 pub mod IndexEntries
 pub mod Usable
 pub mod Wanted

@@ -1,34 +1,31 @@
 -- What a range has of the words of a column, once a conjunct is looked at.
 use Rattle.std.proofs.Common.{◌≡◌, ℕ, ℤ, pos, negsuc, Bool, true, false, not, ◌&&◌, ◌||◌, List, ◌∷◌, filter, nat_cmp, Some, None, option_map, ◌-◌, ◌^◌, SFits, w64, sym, ap, subst, ◌∙◌, arith, zero, suc, ◌+ℤ◌, of_z}
-use Rattle.std.specs.Prelude.{int_le, int_lt, FitsSigned, if◌then◌else◌}
+use Rattle.std.specs.Prelude.{int_le, int_lt, FitsSigned}
 use Rattle.std.specs.List.{position_or_len}
 use Rattle.std.specs.Ordering.{int_cmp, int_eq, is_eq, is_lt, is_gt, ordering_reverse}
 use Rattle.std.specs.Cmp.Lexicographic.{slice_cmp}
 use Rattle.std.specs.Str.{bytes_eq}
 use Rattle.std.specs.declared.cmp.Ordering.{Ordering}
-use Rattle.std.proofs.lemmas.Bool.{and_right, false_from_ne_true}
+use Rattle.std.proofs.lemmas.Bool.{false_from_ne_true}
 use Rattle.std.proofs.lemmas.Bool.Decides.{same_from_decides, Decides-int_eq, Decides-like}
 use Rattle.std.proofs.lemmas.Int.{ints}
 use Rattle.std.proofs.lemmas.Map.Text.{is_eq-slice_cmp}
 use Rattle.std.proofs.lemmas.Slice.Eq.{bytes_eq-Decides}
-use Rattle.std.proofs.Math.Bool.{and_assoc, and-true, or_comm}
+use Rattle.std.proofs.Math.Bool.{or_comm}
 use Rattle.sql_values.specs.declared.op.Op.{Op}
-use Rattle.sql_values.specs.declared.op.Op.TheVariants.{Eq, Le, Ge}
+use Rattle.sql_values.specs.declared.op.Op.TheVariants.{Eq}
 use Rattle.sql_values.specs.declared.column.ColumnType.{ColumnType}
 use Rattle.sql_values.specs.declared.column.ColumnType.TheVariants.{Integer}
-use Rattle.sql_values.specs.declared.truth.Truth.TheVariants.{Unknown}
 use Rattle.sql_values.specs.declared.value.Value.{Value}
 use Rattle.sql_values.specs.declared.value.Value.TheVariants as value
 use Rattle.sql_values.specs.Order.{value_cmp}
-use Rattle.sql_values.specs.Truth.{comparison, certain, holds, is_null}
-use Rattle.sql_values.specs.Words.{word_of}
+use Rattle.sql_values.specs.Truth.{comparison, holds, is_null}
 use Rattle.sql_values.specs.Dictionary.{has_text, code_of, text_of}
 use Rattle.sql_values.proofs.ValueOrder.{total}
 use Rattle.sql_values.proofs.Dictionary.{position-below}
 use Rattle.sql_values.proofs.Stored.{text_of-code_of}
 use Rattle.sql_values.specs.Stored.{ValueRow}
 use Rattle.query_block.specs.Conditions.{FilterTree}
-use Rattle.query_block.specs.Truth.{value_at, truth_of}
 use Rattle.query_block.specs.Blocks.{holds_texts}
 use Rattle.query_block.specs.Meaning.{is_true, meets_filter}
 use Rattle.plan_tree.specs.Usable.{is_range, is_usable}
@@ -36,11 +33,8 @@ use Rattle.exec_scan.specs.declared.range.WordRange.{WordRange}
 use Rattle.exec_scan.specs.Ranges.{is_in, passes, turned, IsLiteralOf, Narrows, NarrowsTo}
 
 -- tests of words, one against another
-both-eq : (w word : ℤ) → (int_le word w && int_le w word) ≡ is_eq (int_cmp w word)
-both-eq w word = grind (arith, ints)
-
 pub eq_is : (b : Bool) (w word : ℤ) → ((b && int_le word w) && int_le w word) ≡ (b && is_eq (int_cmp w word))
-eq_is b w word = and_assoc b (int_le word w) (int_le w word) ∙ ap (λ c. b && c) (both-eq w word)
+eq_is b w word = grind (arith, ints)
 
 pub next_le : (w word : ℤ) → int_le (word +ℤ pos 1) w ≡ int_lt word w
 next_le w word = grind (arith, ints)
@@ -63,30 +57,17 @@ flips : (op : Op) (order : Ordering) → holds op (ordering_reverse order) ≡ h
 flips op order = grind arith
 
 pub same_turned : (op other : Op) (a b : Value) → other ≡ turned op → comparison op a b ≡ comparison other b a
-same_turned op other a b is =
-    (λ i. if or_comm (is_null a) (is_null b) i then Unknown else certain ((ap (holds op) (total.antisymm a b) ∙ flips op (value_cmp b a) ∙ ap (λ o. holds o (value_cmp b a)) (sym is)) i))
-
-true-certain : (b : Bool) → is_true (certain b) ≡ b
-true-certain b = grind arith
+same_turned op other a b is = grind (arith, or_comm (is_null a) (is_null b), total.antisymm a b, flips op (value_cmp b a), is)
 
 -- what is known of a range that was narrowed by a word
 abbrev ByWord : Op → (word : ℤ) → (old new : WordRange) → Type 0
 ByWord op word old new = (w : ℤ) → FitsSigned w64 w → is_in new w ≡ (is_in old w && (not (is_range Integer op) || holds op (int_cmp w word)))
 
-is-number : (kind : ColumnType) (op : Op) → holds_texts kind ≡ false → is_range kind op ≡ is_range Integer op
-is-number kind op no-text = grind arith
-
 pub by-number : (texts : List (List ℕ)) (kind : ColumnType) (op : Op) (number : ℤ) (old new : WordRange) → ByWord op number old new → IsLiteralOf kind (value.Int number)
     → Narrows texts kind old new (λ v. not (is_range kind op) || is_true (comparison op v (value.Int number)))
 by-number texts kind op number old new by literal value.Null stored = cc stored.some
-by-number texts kind op number old new by literal (value.Int n) stored =
-    by n stored.fits
-    ∙ (λ i. is_in old n && (not (sym (is-number kind op literal.1) i) || sym (true-certain (holds op (int_cmp n number))) i))
+by-number texts kind op number old new by literal (value.Int n) stored = grind (arith, by n stored.fits, literal.1)
 by-number texts kind op number old new by literal (value.Text t) stored = cc (stored.kind_is.0, literal.1)
-
--- two bounds, one after the other, where only numbers have a range
-pub both-bounds : (kind : ColumnType) (old low high : Bool) → ((old && (not (is_range kind Ge) || low)) && (not (is_range kind Le) || high)) ≡ (old && (holds_texts kind || (low && high)))
-both-bounds kind old low high = grind arith
 
 -- a text of the dictionary has the code of another exactly where it is that one
 code-there : (texts : List (List ℕ)) (t : List ℕ) → has_text texts t ≡ true → code_of texts t ≡ Some (pos (position_or_len (bytes_eq t) texts))
@@ -110,8 +91,7 @@ pub by-code : (texts : List (List ℕ)) (kind : ColumnType) (l : List ℕ) (code
 by-code texts kind l code old new by found text value.Null stored = cc stored.some
 by-code texts kind l code old new by found text (value.Int n) stored = cc (stored.kind_is, text)
 by-code texts kind l code old new by found text (value.Text t) stored =
-    let own : ℤ = pos (position_or_len (bytes_eq t) texts) in
-    by own stored.fits ∙ ap (λ b. is_in old own && b) (same-code texts t l code stored.kind_is.1 found ∙ sym (true-certain (is_eq (slice_cmp nat_cmp t l))))
+    grind (arith, by (pos (position_or_len (bytes_eq t) texts)) stored.fits, same-code texts t l code stored.kind_is.1 found)
 
 -- no word is from the greatest to the least
 none-in : (w : ℤ) → (int_le (pos (2 ^ 63 - 1)) w && int_le w (negsuc (2 ^ 63 - 1))) ≡ false
@@ -125,14 +105,12 @@ by-no-code texts kind l old missing text (value.Text t) stored =
     let own : ℤ = pos (position_or_len (bytes_eq t) texts) in
     let other : bytes_eq t l ≡ false = false_from_ne_true (bytes_eq t l)
     (λ same. let both : Some own ≡ None = sym (code-there texts t stored.kind_is.1) ∙ ap (code_of texts) ((bytes_eq-Decides t l).0 same) ∙ missing in cc) in
-    none-in own ∙ sym (and_right (is_in old own) _ (true-certain (is_eq (slice_cmp nat_cmp t l)) ∙ is_eq-slice_cmp t l ∙ other))
+    grind (arith, none-in own, other, is_eq-slice_cmp t l)
 
 -- a conjunct that the index can't use narrows nothing
 pub unusable : (texts : List (List ℕ)) (columns : List ColumnType) (column : ℕ) (conjunct : FilterTree) (old : WordRange) → is_usable columns column conjunct ≡ false
     → NarrowsTo texts columns column old old conjunct
-unusable texts columns column conjunct old none row stored =
-    let w = word_of texts (value_at row column) in
-    sym (ap (λ b. is_in old w && (not b || is_true (truth_of conjunct row))) none ∙ and-true (is_in old w))
+unusable texts columns column conjunct old none row stored = grind (arith, none)
 
 -- one conjunct after another
 pub next-conjunct : (columns : List ColumnType) (column : ℕ) (conjunct : FilterTree) (more : List FilterTree) (row : ValueRow) (old new : Bool)

@@ -1,5 +1,6 @@
 -- A row of words in which the words of one relation stand in their place has that relation's row.
-use Rattle.std.proofs.Common.{◌≡◌, ℕ, zero, suc, ℤ, ◌+◌, ◌<◌, ◌≤◌, Bool, true, false, IsTrue, List, [], ◌∷◌, length, take, drop, sum_by, refl, sym, ap, subst, ◌∙◌, arith, length-drop}
+use Rattle.std.proofs.Common.{◌≡◌, ℕ, zero, suc, ℤ, ◌+◌, ◌<◌, ◌≤◌, List, [], ◌∷◌, length, take, drop, sum_by, refl, sym, ap, subst, ◌∙◌, arith, length-drop}
+use Rattle.std.proofs.lemmas.Bool.{false≢true}
 use Rattle.std.proofs.lemmas.List.{drop-drop, nil_from_length}
 use Rattle.std.proofs.lemmas.List.Sums.{sum_by-cons}
 use Rattle.sql_values.specs.Stored.{ValueRow, values_of, AreWordsOf}
@@ -18,10 +19,6 @@ abbrev Has : (texts : List (List ℕ)) (r n : ℕ) → List RelationTree → Lis
 Has texts r n relations words rows =
     ArePartWords texts (has_leaf (Scan r)) n relations words × (part_of (has_leaf (Scan r)) n (combination_of texts relations words) ≡ rows)
 
-untrue : {P : Type 0} (b : Bool) → b ≡ false → IsTrue b → P
-untrue true is h = cc
-untrue false is h = cc
-
 rest_long : (relation : RelationTree) (relations : List RelationTree) (words : List ℤ) → length words ≡ sum_by size (relation ∷ relations)
     → (size relation ≤ length words) × (length (drop (size relation) words) ≡ sum_by size relations)
 rest_long relation relations words long =
@@ -32,7 +29,7 @@ has_none texts r n [] words past long = (nil_from_length words long, refl)
 has_none texts r n (relation ∷ relations) words past long =
     let (fits, others) = rest_long relation relations words long in
     let rest = has_none texts r (n + 1) relations (drop (size relation) words) (omega arith) others in
-    ((fits, untrue (has_leaf (Scan r) n) (off_leaf r n past), rest.0), rw (off_leaf r n past) (ap (λ (rows : List ValueRow). [] ∷ rows) rest.1))
+    ((fits, λ is. absurd (false≢true (sym (off_leaf r n past) ∙ is)), rest.0), rw (off_leaf r n past) (ap (λ (rows : List ValueRow). [] ∷ rows) rest.1))
 
 -- the words of relation k of these stand in their place
 has_one : (texts : List (List ℕ)) (r n k : ℕ) (relations : List RelationTree) (row : ValueRow) (own words : List ℤ) → n + k ≡ r → k < length relations
@@ -54,7 +51,7 @@ has_one texts r n (suc k) (relation ∷ relations) row own words at there long s
     drop-drop before (size relation) words ∙ ap (λ (n : ℕ). drop n words) (sym (sum_by-cons size relation (take k relations))) in
     let rest = has_one texts r (n + 1) k relations row own (drop (size relation) words) (omega (arith, at)) (omega (arith, there)) others
     (ap (take (size (relation_at relations k))) place ∙ stand) are seen in (
-      (fits, untrue (has_leaf (Scan r) n) (before_leaf r n k at), rest.0),
+      (fits, λ is. absurd (false≢true (sym (before_leaf r n k at) ∙ is)), rest.0),
       rw (before_leaf r n k at) (ap (λ (rows : List ValueRow). [] ∷ rows) rest.1),
     )
 

@@ -5,10 +5,9 @@ use Rattle.std.proofs.lemmas.Bool.{eqb-true}
 use Rattle.sql_values.specs.declared.op.Op.{Op}
 use Rattle.sql_values.specs.declared.op.Op.TheVariants.{Ge}
 use Rattle.sql_values.specs.declared.column.ColumnType.{ColumnType}
-use Rattle.sql_values.specs.declared.truth.Truth.{Truth}
 use Rattle.sql_values.specs.declared.value.Value.{Value}
 use Rattle.sql_values.specs.Stored.{ValueRow}
-use Rattle.sql_values.specs.Truth.{comparison, is_null, truth_and}
+use Rattle.sql_values.specs.Truth.{comparison, is_null}
 use Rattle.query_block.specs.declared.condition.Operand.{Operand}
 use Rattle.query_block.specs.declared.condition.Operand.TheVariants.{Column, Literal}
 use Rattle.query_block.specs.Conditions.{FilterTree, Compare, Between, OneOf, IsNull, Not, And, Or}
@@ -25,9 +24,6 @@ meets-part p (conjunct ∷ conjuncts) row is = grind (arith, meets-part p conjun
 compare-some : (op : Op) (a b : Value) → is_true (comparison op a b) ≡ true → (is_null a ≡ false) × (is_null b ≡ false)
 compare-some op a b is = (grind arith, grind arith)
 
-both-true : (a b : Truth) → is_true (truth_and a b) ≡ true → is_true a ≡ true
-both-true a b is = grind arith
-
 operand-some : (column : ℕ) (operand : Operand) (row : ValueRow) → is_column column operand ≡ true → is_null (operand_value row operand) ≡ false → is_null (value_at row column) ≡ false
 operand-some column (Column other) row same some = ap (λ n. is_null (value_at row n)) (eqb-true column other same) ∙ some
 operand-some column (Literal literal) row same some = cc
@@ -36,11 +32,9 @@ operand-some column (Literal literal) row same some = cc
 usable-some : (columns : List ColumnType) (column : ℕ) (conjunct : FilterTree) (row : ValueRow) → is_usable columns column conjunct ≡ true → is_true (truth_of conjunct row) ≡ true
     → is_null (value_at row column) ≡ false
 usable-some columns column (Compare op left right) row usable is =
-    let some = compare-some op (operand_value row left) (operand_value row right) is in
-    grind (arith, operand-some column left row, operand-some column right row)
+    grind (arith, compare-some op (operand_value row left) (operand_value row right) is, operand-some column left row, operand-some column right row)
 usable-some columns column (Between of low high) row usable is =
-    let some = compare-some Ge (operand_value row of) (operand_value row low) (both-true _ _ is) in
-    grind (arith, operand-some column of row)
+    grind (arith, compare-some Ge (operand_value row of) (operand_value row low), operand-some column of row)
 usable-some columns column (OneOf of operands) row usable is = cc
 usable-some columns column (IsNull of) row usable is = cc
 usable-some columns column (Not inner) row usable is = cc

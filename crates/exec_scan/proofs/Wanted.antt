@@ -22,9 +22,8 @@ use Rattle.exec_scan.specs.declared.range.WordRange.{WordRange}
 use Rattle.exec_scan.specs.Ranges.{Finds, IsOfKind}
 use Rattle.exec_scan.specs.EntryReading.{EntryReaderState, MovesReader, ReadsEntry, entries_ahead, entries_at, row_of_entry}
 use Rattle.exec_scan.specs.Reading.{AreNone, IsFirstRow, descent_due, entries_to_read, is_wanted, wanted_due, wanted_entries, wanted_rows}
-use Rattle.exec_scan.proofs.FirstRows.{first-of}
 use Rattle.exec_scan.proofs.IndexEntries.{filter-same, indexed}
-use Rattle.exec_scan.proofs.Relations.{relation_words, relation_values}
+use Rattle.exec_scan.proofs.Relations.{first-of, relation_words, relation_values}
 
 -- the text at a place is in the dictionary
 has-own : (texts : List (List ℕ)) (place : ℕ) → place < length texts → has_text texts (unwrap_or (slice_get texts place) []) ≡ true

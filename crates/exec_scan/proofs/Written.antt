@@ -52,9 +52,12 @@ written_of block relation number table columns offset row old new of same long w
       long = ap length parts ∙ simp (length-append, length-drop) (omega (arith, short, wide, columns_are, within, long));
     }
 
--- the first of the rows that a scan keeps, written so
-module _ (database : DatabaseState) (block : BlockTree) (scan : ScanState) (over : IsScanOver database block scan) (new : Way) (words : List ℤ)
+-- the first of the rows that a scan keeps, written so: the scan is known by its parts
+module _ (database : DatabaseState) (block : BlockTree) (scan known : ScanState) (is : scan ≡ known) (is_over : IsScanOver database block known) (new : Way) (words : List ℤ)
     (own : RelationTree) (seen : own ≡ relation_at block.relations scan.place.relation) (is_first : IsFirstRow database.texts own (kept_rows database own scan.way) (kept_rows database own new) words) where
+  over : IsScanOver database block scan
+  over = subst (IsScanOver database block) (sym is) is_over
+
   abbrev row : ValueRow
   row = values_of database.texts (relation_at block.relations scan.place.relation).columns words
 
@@ -64,17 +67,22 @@ module _ (database : DatabaseState) (block : BlockTree) (scan : ScanState) (over
   pub wide : length words ≡ scan.place.columns
   wide = length-words database.texts (relation_at block.relations scan.place.relation).columns words first.are ∙ sym over.numbers.columns_are
 
-  module _ (before after : List ℤ) (long : length before ≡ width_of block) (is : after ≡ take scan.place.offset before ++ (words ++ drop (scan.place.offset + scan.place.columns) before)) where
-    done : WrittenOf block scan.place.relation words before after
-    done = written_of block scan.place.relation scan.place.relation (table_of scan.way) scan.place.columns scan.place.offset words before after over.numbers refl long wide is
+  module _ (before after : List ℤ) (long : length before ≡ width_of block) where
+    pub fits : scan.place.offset + scan.place.columns ≤ length before
+    fits = omega (arith, inside block _ _ _ _ over.numbers, long)
 
-    pub others : KeepsOtherWords block (relation_of scan) before after
-    others = done.others
+    module _ (put : after ≡ take scan.place.offset before ++ (words ++ drop (scan.place.offset + scan.place.columns) before)) where
+      done : WrittenOf block scan.place.relation words before after
+      done = written_of block scan.place.relation scan.place.relation (table_of scan.way) scan.place.columns scan.place.offset words before after over.numbers refl long wide put
 
-    pub gives : GivesFirst (scan_left database block scan) (with_emits (find_left database block scan.place.relation new)) (IsPart database.texts block.relations (has_leaf (leaf_of scan)) after) true
-    gives = (
-      placed_row block.relations scan.place.relation row,
-      ap (map (placed_row block.relations scan.place.relation)) first.first,
-      subst (λ (set : RelationSet). IsPart database.texts block.relations set after (placed_row block.relations scan.place.relation row)) (sym (same-leaf scan.place.relation (column_of scan.way)))
-          (is-part database.texts scan.place.relation block.relations row words after over.numbers.exists done.long done.stand first.are refl),
-    )
+      pub others : KeepsOtherWords block (relation_of known) before after
+      others = subst (λ (s : ScanState). KeepsOtherWords block (relation_of s) before after) is done.others
+
+      pub gives : GivesFirst (scan_left database block known) (with_emits (find_left database block scan.place.relation new)) (IsPart database.texts block.relations (has_leaf (leaf_of known)) after) true
+      gives =
+          subst (λ (s : ScanState). GivesFirst (scan_left database block s) (with_emits (find_left database block scan.place.relation new)) (IsPart database.texts block.relations (has_leaf (leaf_of s)) after) true) is (
+            placed_row block.relations scan.place.relation row,
+            ap (map (placed_row block.relations scan.place.relation)) first.first,
+            subst (λ (set : RelationSet). IsPart database.texts block.relations set after (placed_row block.relations scan.place.relation row)) (sym (same-leaf scan.place.relation (column_of scan.way)))
+                (is-part database.texts scan.place.relation block.relations row words after over.numbers.exists done.long done.stand first.are refl),
+          )

@@ -1,4 +1,4 @@
-use Rattle.std.proofs.Common.{◌+◌, ◌&&◌, List, ◌∷◌, map, filter, drop, sym, ap, ◌∙◌}
+use Rattle.std.proofs.Common.{arith, ◌+◌, ◌&&◌, List, ◌∷◌, map, filter, drop, sym, ap, ◌∙◌}
 use Rattle.std.proofs.lemmas.List.{at_drop_all, at_drop_more}
 use Rattle.std.proofs.Math.Bool.{and-true}
 use Rattle.sql_values.specs.Words.{word_of}
@@ -13,9 +13,7 @@ use Rattle.exec_scan.proofs.Narrowing.{every-word, next-conjunct}
 use Rattle.exec_scan.proofs.range.range_of.Goals as goal
 
 pub loop-conjunct-init : goal.loop-conjunct-init
-loop-conjunct-init c = λ columns fit row stored.
-    ap (λ b. b && meets_filter (filter (is_usable columns c.args.column) (map filter_tree c.args.conjuncts.now)) row)
-    (every-word (word_of c.args.texts.now (value_at row c.args.column)) stored.fits)
+loop-conjunct-init c = λ columns fit row stored. grind (arith, every-word (word_of c.args.texts.now (value_at row c.args.column)) stored.fits)
 
 pub loop-conjunct-preserved : goal.loop-conjunct-preserved
 loop-conjunct-preserved c = λ columns fit row stored.

@@ -1,8 +1,5 @@
-use Rattle.std.proofs.Common.{◌≡◌, [], IfOk, MatchOption, subst}
 use Rattle.query_block.specs.Blocks.{relation_tree}
-use Rattle.db_catalog.specs.Database.{DatabaseState}
-use Rattle.exec_scan.specs.EntryReading.{ReadsEntry, entries_ahead}
-use Rattle.exec_scan.proofs.FirstRows.{found-weaker}
+use Rattle.exec_scan.proofs.Relations.{found-weaker}
 use Rattle.exec_scan.proofs.Wanted.{first-read, none-read}
 use Rattle.exec_scan.proofs.way.read_wanted.Goals as goal
 
@@ -15,8 +12,7 @@ returns-clause-row c =
     let new = c.read.new.self in
     let done = c.in_ok-descend_to_wanted.ensures in
     let still = c.read.ensures.descended done.descended in
-    let read = subst (λ (d : DatabaseState). IfOk c.read.result (λ found. MatchOption found ((entries_ahead d new ≡ []) × (new ≡ mid)) (λ words. ReadsEntry d mid new words.now)))
-    c.descend_to_wanted.ensures.database c.read.ensures.row in
+    let read = rw c.descend_to_wanted.ensures.database at c.read.ensures.row in
     found-weaker c.read.result
     (λ none. none-read database own c.requires.fits old mid new c.requires.table done.entries c.descend_to_wanted.ensures.moves c.read.ensures.moves done.descended still none)
     (λ words reads. first-read database own c.requires.fits old mid new c.requires.table done.entries c.descend_to_wanted.ensures.moves c.read.ensures.moves done.descended still words.now reads)
