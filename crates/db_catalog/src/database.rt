@@ -264,8 +264,8 @@ impl Database {
         self.append_batch(table, batch)
     }
 
-    /// Appends the rows of a batch to a table. The checks are those of `append_rows`. No word is copied where the table has
-    /// no rows yet.
+    /// Appends the rows of a batch to a table. The checks are those of `append_rows`. Each word is copied once, to the
+    /// table's pages.
     pub fn append_batch(&mut self, table: u32, batch: Batch) -> Result<(), DbFault>
         requires there { table < length self.old.tables }
         requires columns { batch.columns ≡ (table_at self.old table).columns }

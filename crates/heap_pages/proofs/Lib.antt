@@ -1,3 +1,5 @@
 pub mod CutRows
-pub mod Pages
+pub mod Packed
+pub mod PageStarts
+pub mod Reciprocal
 pub mod OfRows

@@ -1,12 +1,13 @@
-// The heap: all words in one vector, row after row. It relies on the ledger for each paid read, and never changes or
-// drops a row.
-ghost use Rattle.std.specs.Prelude.{◌≡◌, ◌+◌, ◌*◌, ◌^◌, ◌<◌, ◌≤◌, [], ◌∷◌, ◌++◌, take, drop, length, Some, slice_get, OnOk, OnErr, IfOk, vec_capacity};
+// The heap: rows in packed pages, as many whole rows on each as fit. It relies on the ledger for each paid read, and
+// never moves, changes or drops a row.
+ghost use Rattle.std.specs.Prelude.{◌≡◌, ◌+◌, ◌-◌, ◌*◌, ◌/◌, ◌^◌, ◌<◌, ◌≤◌, [], ◌∷◌, ◌++◌, take, drop, length, Some, slice_get, OnOk, OnErr, IfOk};
 ghost use Rattle.work_ledger.specs.Account.{Pays};
 ghost use Rattle.work_ledger.specs.Charges.{page_charge, row_charge, fetch_charge};
-ghost use Rattle.heap_pages.specs.Limits.{max_rows, max_columns};
+ghost use Rattle.heap_pages.specs.Limits.{page_words, max_rows, max_columns};
 ghost use Rattle.heap_pages.specs.Refused.{KeepsRowLimit};
 ghost use Rattle.heap_pages.specs.Rows.{cut_rows, rows_per_page, pages_of, rows_on_page, row_number};
 
+use crate::pages::Pages;
 use sql_values::MAX_ROWS;
 use std::alloc::{AllocError, Global};
 use std::marker::Model;
@@ -49,52 +50,40 @@ pub struct PageView {
 #[derive(Drop)]
 pub struct Heap {
     columns: usize,
-    // How many rows a full page has, so that no read divides.
+    // How many rows a full page has.
     per_page: usize,
-    words: Vec<i64>,
+    // The parts of 2^40 that a row of a page takes, rounded up: a product with it divides by `per_page`.
+    reciprocal: u64,
+    pages: Pages,
     rows: u64,
     spare: u64,
 }
 
 impl Model for Heap {
-    ghost use Rattle.std.specs.Prelude.{◌≡◌, ◌+◌, ◌*◌, ◌≤◌, vec_len, vec_capacity};
     ghost use Rattle.heap_pages.specs.Rows.{HeapState, cut_rows};
 
     ghost Value = { HeapState };
 
     ghost view = { λ h. record {
       columns = h.columns;
-      rows = cut_rows h.columns h.rows h.words.items;
+      rows = cut_rows h.columns h.rows h.pages.words;
       spare = h.spare;
     } };
 
     ghost use Rattle.heap_pages.specs.Layout.{IsLaidOut};
 
-    ghost invariant = { λ h.
-        IsLaidOut h.columns h.per_page h.rows h.spare
-        (vec_len h.words) (vec_capacity h.words) };
+    ghost invariant = { λ h. IsLaidOut h.columns h.per_page h.reciprocal h.rows h.spare h.pages };
 }
 
-// Puts words after those that are there. Where there are none they are taken over, not copied.
-fn join(words: &mut Vec<i64>, more: Vec<i64>) -> Result<(), AllocError>
-    ensures joined { OnOk result (words.new.items ≡ words.old.items ++ more.items) }
-    ensures unchanged { OnErr result (words.new.items ≡ words.old.items) }
-    ensures room { OnErr result (vec_capacity words.old ≤ vec_capacity words.new) }
+// How many pages so many rows take.
+fn pages_for(rows: u64, per_page: usize) -> u64
+    requires some { 1 ≤ per_page }
+    requires few { per_page ≤ page_words }
+    requires limit { rows ≤ max_rows }
+    ensures { result ≡ (rows + (per_page - 1)) / per_page }
 {
-    if words.is_empty() {
-        *words = more;
-        return Ok(());
-    }
-    words.extend_from_slice(&more)
-}
-
-// Lends the words of row i.
-fn words_of_row(words: &[i64], columns: usize, i: usize) -> &[i64]
-    requires { i * columns + columns ≤ length words.now }
-    ensures { result.now ≡ take columns (drop (i * columns) words.now) }
-{
-    let start = i * columns;
-    &words[start..start + columns]
+    let per_page = per_page as u64;
+    (rows + (per_page - 1)) / per_page
 }
 
 #[tactic(auto, using(crate::proofs::OfRows::of_rows))]
@@ -107,10 +96,12 @@ impl Heap {
         ensures rows { result.rows ≡ [] }
         ensures spare { result.spare ≡ 0 }
     {
+        let per_page = PAGE_WORDS / columns;
         Heap {
             columns,
-            per_page: PAGE_WORDS / columns,
-            words: Vec::new(alloc),
+            per_page,
+            reciprocal: (1 << 40) / per_page as u64 + 1,
+            pages: Pages::new(alloc, per_page * columns),
             rows: 0,
             spare: 0,
         }
@@ -129,8 +120,7 @@ impl Heap {
         ensures count { result ≡ pages_of self.now.columns (length self.now.rows) }
         ensures row_fits { 1 ≤ rows_per_page self.now.columns }
     {
-        let per_page = self.per_page as u64;
-        (self.rows + (per_page - 1)) / per_page
+        pages_for(self.rows, self.per_page)
     }
 
     /// How many rows stand on page `no`, from 0.
@@ -147,7 +137,26 @@ impl Heap {
         requires { i < length self.now.rows }
         ensures { slice_get self.now.rows i ≡ Some result.now }
     {
-        words_of_row(&self.words, self.columns, i as usize)
+        let number = self.page_of(i);
+        self.row_at(number, i as usize - number * self.per_page)
+    }
+
+    // The page of row `i`, which may be the next row.
+    fn page_of(&self, i: u64) -> usize
+        requires { i ≤ length self.now.rows }
+        ensures { result ≡ i / rows_per_page self.now.columns }
+    {
+        (i * self.reciprocal >> 40) as usize
+    }
+
+    // The row in this slot of page `number`.
+    fn row_at(&self, number: usize, slot: usize) -> &[i64]
+        requires on_page { slot < rows_per_page self.now.columns }
+        requires there { row_number self.now.columns number slot < length self.now.rows }
+        ensures { slice_get self.now.rows (row_number self.now.columns number slot) ≡ Some result.now }
+    {
+        self.pages
+            .words_at(number, slot * self.columns, self.columns)
     }
 
     /// Makes room for `n` more rows. A refusal leaves the rows and the room as they were.
@@ -165,7 +174,7 @@ impl Heap {
             return Err(HeapFault::RowLimit { value });
         }
         if n > self.spare {
-            self.words.reserve(n as usize * self.columns)?;
+            self.pages.reach(pages_for(value, self.per_page) as usize)?;
             self.spare = n;
         }
         Ok(())
@@ -180,17 +189,16 @@ impl Heap {
         ensures columns { self.new.columns ≡ self.old.columns }
         ensures spare { self.new.spare + 1 ≡ self.old.spare }
     {
-        let Ok(()) = self.words.extend_from_slice(row) else {
-            unreachable!()
-        };
         let place = self.rows;
+        let number = self.page_of(place);
+        self.pages.append(number, row);
         self.rows += 1;
         self.spare -= 1;
         place
     }
 
-    /// Appends `n` rows whose words follow one another, without use of the spare room, which is given up. Where there are no
-    /// rows yet the words are taken over, not copied. A refusal leaves the rows and the room as they were.
+    /// Appends `n` rows whose words follow one another, without use of the spare room, which is given up. A refusal leaves the
+    /// rows and the room as they were.
     pub fn append_rows(&mut self, words: Vec<i64>, n: u64) -> Result<(), HeapFault>
         requires some { n ≤ 2 ^ 62 }
         requires filled { length words.items ≡ n * self.old.columns }
@@ -206,8 +214,11 @@ impl Heap {
                 value: self.rows + n,
             });
         }
-        join(&mut self.words, words)?;
-        self.rows += n;
+        let value = self.rows + n;
+        let first = self.page_of(self.rows);
+        self.pages.reach(pages_for(value, self.per_page) as usize)?;
+        self.pages.append_all(first, &words);
+        self.rows = value;
         self.spare = 0;
         Ok(())
     }
@@ -236,7 +247,7 @@ impl Heap {
         ensures pays { Pays row_charge ledger.old ledger.new result }
     {
         ledger.pay(charge::ROW)?;
-        Ok(self.get(view.number * self.per_page as u64 + slot as u64))
+        Ok(self.row_at(view.number as usize, slot))
     }
 
     /// Row `i`, from 0, which pays for the look-up.

@@ -5,6 +5,7 @@
 #![tactic(auto)]
 
 mod heap;
+mod pages;
 
 pub use heap::{Heap, HeapFault, PageView};
 pub use sql_values::{MAX_COLUMNS, MAX_ROWS};
