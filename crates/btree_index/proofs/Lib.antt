@@ -1,3 +1,6 @@
 mod Least
+mod Height
 mod Ranges
+mod Nodes
+mod Pushed
 pub mod OfCursors

@@ -10,6 +10,7 @@ use Rattle.std.proofs.lemmas.Int.{ints}
 use Rattle.std.proofs.Math.Seq.{drop-cons}
 use Rattle.std.specs.declared.cmp.Ordering.TheVariants.{Less, Equal, Greater}
 use Rattle.btree_index.specs.Entries.{IndexEntry, IsInOrder, is_within}
+use Rattle.btree_index.specs.Nodes.{is_entry_below}
 
 -- between a place up to which all fail a test and one up to which all pass another lies what fails the first and passes the second
 pub between_points : {A : Type 0} (p q : A → Bool) (xs : List A) (i j : ℕ) → i ≤ length xs → j ≤ length xs
@@ -56,22 +57,20 @@ words_rise xs word sorted =
 below_kept : (x y bound : ℤ) → ordering_index (int_cmp x bound) ≤ ordering_index (int_cmp y bound) → int_lt y bound ≡ true → int_lt x bound ≡ true
 below_kept x y bound = grind (arith, ints)
 
-upto_kept : (x y bound : ℤ) → ordering_index (int_cmp x bound) ≤ ordering_index (int_cmp y bound) → int_le y bound ≡ true → int_le x bound ≡ true
-upto_kept x y bound = grind (arith, ints)
-
 within_is : (from to word : ℤ) → not (int_lt word from) && int_le word to ≡ int_le from word && int_le word to
 within_is from to word = grind (arith, ints)
 
+-- so the entries with lesser words come first
+pub entries_rise : (xs : List IndexEntry) (word : ℤ) → IsInOrder xs → IsPartitionedBy (is_entry_below word) xs
+entries_rise xs word sorted i j d l m = below_kept _ _ word (words_rise xs word sorted i j d l m)
+
 -- what lies between the entries below a range and those up to its end is the range
-pub between_words : (xs : List IndexEntry) (from to : ℤ) (i j : ℕ) → IsInOrder xs → i ≤ length xs → j ≤ length xs
-    → (IsPartitionedBy (λ e. int_lt e.0 from) xs → IsPartitionPoint (λ e. int_lt e.0 from ≡ true) (λ e. int_lt e.0 from ≡ false) xs i)
-    → (IsPartitionedBy (λ e. int_le e.0 to) xs → IsPartitionPoint (λ e. int_le e.0 to ≡ true) (λ e. int_le e.0 to ≡ false) xs j)
+pub between_words : (xs : List IndexEntry) (from to : ℤ) (i j : ℕ) → i ≤ length xs → j ≤ length xs
+    → IsPartitionPoint (λ e. is_entry_below from e ≡ true) (λ e. is_entry_below from e ≡ false) xs i
+    → IsPartitionPoint (λ e. int_le e.0 to ≡ true) (λ e. int_le e.0 to ≡ false) xs j
     → take (j - i) (drop i xs) ≡ filter (is_within from to) xs
-between_words xs from to i j sorted a b f g =
-    between_points (λ e. int_lt e.0 from) (λ e. int_le e.0 to) xs i j a b
-    (f (λ k m d l n. below_kept _ _ from (words_rise xs from sorted k m d l n)))
-    (g (λ k m d l n. upto_kept _ _ to (words_rise xs to sorted k m d l n)))
-    ∙ ap (λ p. filter p xs) (λ i e. within_is from to e.0 i)
+between_words xs from to i j a b f g =
+    between_points (is_entry_below from) (λ e. int_le e.0 to) xs i j a b f g ∙ ap (λ p. filter p xs) (λ i e. within_is from to e.0 i)
 
 -- the next entry of a cursor comes first of those that are left
 pub left_step : (xs : List IndexEntry) (next end : ℕ) (d : IndexEntry) → next < end → end ≤ length xs
@@ -84,3 +83,11 @@ left_step xs next end d some there =
 -- and where there is none, nothing is left
 pub left_none : (xs : List IndexEntry) (next end : ℕ) → end ≤ next → take (end - next) (drop next xs) ≡ []
 left_none xs next end none = let gone : end - next ≡ 0 = omega arith in rw gone refl
+
+outside : (from to word : ℤ) → int_lt to from ≡ true → int_le from word && int_le word to ≡ false
+outside from to word = grind (arith, ints)
+
+-- no entry is within a range that ends before it begins
+pub none_within : (xs : List IndexEntry) (from to : ℤ) → int_lt to from ≡ true → filter (is_within from to) xs ≡ []
+none_within [] from to less = refl
+none_within (x ∷ xs) from to less = rw (outside from to x.0 less) (none_within xs from to less)

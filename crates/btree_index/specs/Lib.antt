@@ -1,2 +1,3 @@
 pub mod Height
 pub mod Entries
+pub mod Nodes

@@ -1,18 +1,18 @@
-// The index: its entries in one sorted vector. A descent of a tree is two binary searches here, paid as the descent.
+// The index: a tree of nodes, whose leaves are its entries in order. A descent is paid by its levels.
 // It relies on the ledger for each paid read, and never changes what it was built of.
-ghost use Rattle.std.specs.Prelude.{◌≡◌, ◌*◌, ◌++◌, drop, filter, length, IfOk, OnOk, OnErr};
+ghost use Rattle.std.specs.Prelude.{◌≡◌, ◌*◌, ◌≤◌, ◌++◌, drop, filter, length, int_le, true, false, IfOk, OnOk, OnErr};
+ghost use Rattle.std.specs.List.{AllWithin};
 ghost use Rattle.std.specs.List.Sorted.{IsPermutation};
 ghost use Rattle.work_ledger.specs.Account.{Pays};
 ghost use Rattle.work_ledger.specs.Charges.{node_charge};
 ghost use Rattle.btree_index.specs.Height.{height_of};
 ghost use Rattle.btree_index.specs.Entries.{HaveWords, IsInOrder, IsOn, entries_left, first_row, is_within, next_charge};
+ghost use Rattle.btree_index.specs.Nodes.{AreSplitAt, is_entry_below, nodes_of};
 
+use crate::levels::{NODE_ENTRIES, first_in_leaf, first_near, first_of, inner_levels};
 use std::alloc::{AllocError, Global};
 use std::marker::Model;
 use work_ledger::{Exhausted, Ledger, charge};
-
-/// How many entries a node has at most.
-const NODE_ENTRIES: u128 = 64;
 
 /// A place in an index: the entries from `next` up to `end`, which it excludes, are left.
 #[derive(Clone, Copy, Debug, PartialEq, Eq)]
@@ -26,19 +26,23 @@ pub struct Cursor {
 /// The index of one column.
 #[derive(Drop)]
 pub struct Index {
+    // The leaves one after another, of `NODE_ENTRIES` entries each but the last.
     entries: Vec<(i64, u64)>,
+    // The levels above the leaves.
+    inner: Vec<i64>,
     height: u32,
 }
 
 impl Model for Index {
     ghost use Rattle.std.specs.Prelude.{List};
-    ghost use Rattle.btree_index.specs.Entries.{IndexEntry, IsSortedIndex};
+    ghost use Rattle.btree_index.specs.Entries.{IndexEntry};
+    ghost use Rattle.btree_index.specs.Nodes.{IsTree};
 
     ghost Value = { List IndexEntry };
 
     ghost view = { λ x. x.entries.items };
 
-    ghost invariant = { λ x. IsSortedIndex x.entries.items x.height };
+    ghost invariant = { λ x. IsTree x.entries.items x.inner.items x.height };
 }
 
 // The least height of at least 1 at which nodes of 64 have room for so many entries.
@@ -46,10 +50,10 @@ fn height_for(entries: u64) -> u32
     ensures { result ≡ height_of entries }
 {
     let mut height = 1;
-    let mut room = NODE_ENTRIES;
+    let mut room = NODE_ENTRIES as u128;
     while room < entries as u128 {
         height += 1;
-        room *= NODE_ENTRIES;
+        room *= NODE_ENTRIES as u128;
     }
     height
 }
@@ -72,12 +76,7 @@ impl Index {
     {
         let mut sorted = Vec::from_slice(alloc, entries)?;
         sorted.sort_unstable();
-        know_words(&sorted);
-        let height = height_for(sorted.len() as u64);
-        Ok(Index {
-            entries: sorted,
-            height,
-        })
+        Index::of_sorted(alloc, sorted)
     }
 
     /// The index of its entries and more of them. Those that are in order already aren't sorted anew.
@@ -88,10 +87,20 @@ impl Index {
         let mut sorted = Vec::from_slice(alloc, &self.entries)?;
         sorted.extend_from_slice(more)?;
         sorted.sort()?;
-        know_words(&sorted);
-        let height = height_for(sorted.len() as u64);
+        Index::of_sorted(alloc, sorted)
+    }
+
+    // The index whose leaves are these entries, in order already.
+    fn of_sorted(alloc: Global, entries: Vec<(i64, u64)>) -> Result<Index, AllocError>
+        requires { IsInOrder entries.items }
+        ensures { IfOk result (λ index. index ≡ entries.items) }
+    {
+        know_words(&entries);
+        let height = height_for(entries.len() as u64);
+        let inner = inner_levels(alloc, &entries, height)?;
         Ok(Index {
-            entries: sorted,
+            entries,
+            inner,
             height,
         })
     }
@@ -110,6 +119,53 @@ impl Index {
         self.height
     }
 
+    /// How many nodes there are.
+    pub fn nodes(&self) -> u64
+        ensures { result ≡ nodes_of (length self.now) }
+    {
+        self.inner.len() as u64 + 1
+    }
+
+    // The place of the first entry whose word is at least this one, or past the last entry, found from the root down.
+    fn first_from(&self, word: i64) -> usize
+        ensures within { result ≤ length self.now }
+        ensures first { AreSplitAt (is_entry_below word) self.now result }
+    {
+        let entries = self.entries.as_slice();
+        if self.height == 1 {
+            return first_in_leaf(entries, 0, word);
+        }
+        let (level, above) = self.inner.split_at(entries.len().div_ceil(NODE_ENTRIES));
+        let leaf = first_of(level, above, self.height - 2, word);
+        first_in_leaf(entries, leaf, word)
+    }
+
+    // The same place where all before `next` are less. It looks at the next few entries before it descends.
+    fn first_behind(&self, next: usize, word: i64) -> usize
+        requires there { next ≤ length self.now }
+        requires before { AllWithin (λ entry. is_entry_below word entry ≡ true) self.now 0 next }
+        ensures within { result ≤ length self.now }
+        ensures first { AreSplitAt (is_entry_below word) self.now result }
+    {
+        match first_near(&self.entries, next, word) {
+            Some(place) => place,
+            None => self.first_from(word),
+        }
+    }
+
+    // The place past the last entry whose word is at most this one. The words of all before `next` are.
+    fn end_of(&self, next: usize, word: i64) -> usize
+        requires there { next ≤ length self.now }
+        requires before { AllWithin (λ entry. int_le entry.0 word ≡ true) self.now 0 next }
+        ensures within { result ≤ length self.now }
+        ensures end { AreSplitAt (λ entry. int_le entry.0 word) self.now result }
+    {
+        match word.checked_add(1) {
+            Some(above) => self.first_behind(next, above),
+            None => self.entries.len(),
+        }
+    }
+
     /// Descends to the entries with words from `from` to `to`, both included, which pays for each level. There are none
     /// where `from` is greater than `to`.
     pub fn seek(&self, from: i64, to: i64, ledger: &mut Ledger) -> Result<Cursor, Exhausted>
@@ -120,9 +176,11 @@ impl Index {
         ensures pays { Pays (node_charge * height_of (length self.now)) ledger.old ledger.new result }
     {
         ledger.pay(charge::NODE * self.height as u128)?;
-        let entries = self.entries.as_slice();
-        let next = entries.partition_point(|entry| entry.0 < from);
-        let end = entries.partition_point(|entry| entry.0 <= to);
+        if to < from {
+            return Ok(Cursor { next: 0, end: 0 });
+        }
+        let next = self.first_from(from);
+        let end = self.end_of(next, to);
         Ok(Cursor { next, end })
     }
 

@@ -5,5 +5,6 @@
 #![tactic(auto)]
 
 mod index;
+mod levels;
 
 pub use index::{Cursor, Index};
