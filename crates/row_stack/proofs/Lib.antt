@@ -1,2 +1,5 @@
 pub mod RowsAmong
 pub mod Places
+pub mod Word
+pub mod Fields
+pub mod Heap

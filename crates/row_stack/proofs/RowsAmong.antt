@@ -7,6 +7,9 @@ use Rattle.std.proofs.lemmas.List.FromFn.{length-map-range_with_len, get_or-map-
 use Rattle.std.proofs.lemmas.List.Elements.{All-from_get_or}
 use Rattle.std.proofs.lemmas.Option.{slice_get-get_or}
 use Rattle.std.proofs.Math.Seq.{drop-append_seam}
+use Rattle.std.proofs.ptr.Rows.{add_times}
+use native.Mathlib.Nat.{one-mul}
+use lib.ListN.{length-append}
 use Rattle.row_stack.specs.Packed.{rows_among}
 use Rattle.row_stack.proofs.Places.{row_end, fewer_words, rows_in_words}
 
@@ -30,8 +33,8 @@ same_rows width n words others same =
     (λ i below. get_or-rows_among width n i words below ∙ same i below)
 
 -- a row at the end of the words is a row at the end of the rows
-pub rows_among-append : (width n : ℕ) (words row : List ℤ) → length words ≡ n * width → length row ≡ width → rows_among width (n + 1) (words ++ row) ≡ rows_among width n words ++ row ∷ []
-rows_among-append width n words row filled wide =
+append_row : (width n : ℕ) (words row : List ℤ) → length words ≡ n * width → length row ≡ width → rows_among width (n + 1) (words ++ row) ≡ rows_among width n words ++ row ∷ []
+append_row width n words row filled wide =
     map-range_with_len_more (slice_chunk (words ++ row) width) 0 n n (zero-add n)
     ∙ ap (λ rows. rows ++ slice_chunk (words ++ row) width n ∷ []) (same_rows width n (words ++ row) words before)
     ∙ ap (λ last. rows_among width n words ++ last ∷ []) at_end
@@ -48,20 +51,32 @@ rows_among-append width n words row filled wide =
         ∙ ap (take width) (drop-append_seam words row)
         ∙ take_all width row (omega (arith, wide))
 
--- the words up to a row's beginning have the rows up to that row
-pub rows_among-take : (width n to : ℕ) (words : List ℤ) → to ≤ n → rows_among width to (take (to * width) words) ≡ take to (rows_among width n words)
-rows_among-take width n to words few =
-    same_rows width to (take (to * width) words) words within
-    ∙ sym (take-map-range_with_len (slice_chunk words width) 0 n to few)
+-- the rows are those of the words up to their end
+pub rows_among-take : (width n : ℕ) (words : List ℤ) → rows_among width n (take (n * width) words) ≡ rows_among width n words
+rows_among-take width n words = same_rows width n (take (n * width) words) words within
   where
-    within : (i : ℕ) → i < to → slice_chunk (take (to * width) words) width i ≡ slice_chunk words width i
+    within : (i : ℕ) → i < n → slice_chunk (take (n * width) words) width i ≡ slice_chunk words width i
     within i below =
-        let more : ℕ = to * width - i * width in
-        let ends = row_end i to width below in
-        let whole : to * width ≡ i * width + more = omega (arith, ends) in
+        let more : ℕ = n * width - i * width in
+        let ends = row_end i n width below in
+        let whole : n * width ≡ i * width + more = omega (arith, ends) in
         ap (λ k. take width (drop (i * width) (take k words))) whole
         ∙ ap (take width) (drop-take (i * width) more words)
         ∙ take-take width more (drop (i * width) words) (omega (arith, ends))
+
+-- a row after the words of n rows is row n
+pub rows_among-append : (width n : ℕ) (words row : List ℤ) → n * width ≤ length words → length row ≡ width → rows_among width (n + 1) (take (n * width) words ++ row) ≡ rows_among width n words ++ row ∷ []
+rows_among-append width n words row filled wide =
+    append_row width n (take (n * width) words) row (length-take-le (n * width) words filled) wide
+    ∙ ap (λ rows. rows ++ row ∷ []) (rows_among-take width n words)
+
+-- the first rows
+pub take-rows_among : (width n to : ℕ) (words : List ℤ) → to ≤ n → rows_among width to words ≡ take to (rows_among width n words)
+take-rows_among width n to words few = sym (take-map-range_with_len (slice_chunk words width) 0 n to few)
+
+-- a row has the width
+pub length-row : (width n i : ℕ) (words : List ℤ) → i < n → n * width ≤ length words → length (take width (drop (i * width) words)) ≡ width
+length-row width n i words below filled = length-take-le width (drop (i * width) words) (simp length-drop (omega (arith, filled, row_end i n width below)))
 
 -- each row has the width
 pub All-rows_among : (width n : ℕ) (words : List ℤ) → n * width ≤ length words → All (λ row. length row ≡ width) (rows_among width n words)
@@ -71,11 +86,18 @@ All-rows_among width n words filled =
     one : (i : ℕ) → i < n → length (get_or (rows_among width n words) i []) ≡ width
     one i below =
         rw get_or-rows_among
-        (length-take-le width (drop (i * width) words) (simp length-drop (omega (arith, filled, row_end i n width below))))
+        (length-row width n i words below filled)
 
 -- rows and spare rows together are what the memory has room for
-pub length-rows_among-spare : (width n room capacity : ℕ) (words : List ℤ) → n ≤ room → room * width ≤ capacity → 1 ≤ width → capacity < 2 ^ 63 → length (rows_among width n words) + (room - n) < 2 ^ 63
+pub length-rows_among-spare : (width n room capacity : ℕ) (words : List ℤ) → n ≤ room → capacity ≡ room * width → 1 ≤ width → capacity < 2 ^ 63 → length (rows_among width n words) + (room - n) < 2 ^ 63
 length-rows_among-spare width n room capacity words there fits some small =
-    omega (arith, length-rows_among width n words, rows_in_words room width capacity fits some)
+    let all : room * width ≤ capacity = omega (arith, fits) in omega (arith, length-rows_among width n words, rows_in_words room width capacity all some)
 
-pub ruleset of_rows = (length-rows_among, slice_get-rows_among, rows_among-append, rows_among-take, All-rows_among, length-rows_among-spare, row_end, fewer_words, rows_in_words)
+-- the words of one row more are written
+pub with_row : (width n : ℕ) (words row : List ℤ) → n * width ≤ length words → length row ≡ width → (n + 1) * width ≤ length (take (n * width) words ++ row)
+with_row width n words row filled wide =
+    let long : length (take (n * width) words ++ row) ≡ n * width + width =
+    length-append (take (n * width) words) row ∙ (λ i. length-take-le (n * width) words filled i + wide i) in
+    omega (arith, long, add_times n 1 width, one-mul width)
+
+pub ruleset of_rows = (length-rows_among, slice_get-rows_among, rows_among-append, rows_among-take, take-rows_among, length-row, All-rows_among, length-rows_among-spare, with_row, row_end, fewer_words, rows_in_words)

@@ -1,3 +1,4 @@
 pub mod Limits
 pub mod Stack
 pub mod Packed
+pub mod Memory

@@ -6,6 +6,7 @@
 //! stands for.
 #![tactic(auto)]
 
+mod block;
 mod space;
 mod stack;
 

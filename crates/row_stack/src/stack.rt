@@ -1,8 +1,9 @@
-// The stack: the words of all rows in one vector, whose memory is kept when rows are released. It relies on nothing.
+// The stack: the words of all rows in one block, which is kept when rows are released.
 ghost use Rattle.std.specs.Prelude.{max, ◌≡◌, ◌+◌, ◌-◌, ◌*◌, ◌^◌, ◌<◌, ◌≤◌, [], ◌∷◌, ◌++◌, take, drop, length, Some, slice_get, IsOk, OnOk, OnErr, IfOk};
 ghost use Rattle.row_stack.specs.Limits.{max_width};
 ghost use Rattle.row_stack.specs.Stack.{room_of, new_stack, grown_by, IsRowStack};
 
+use crate::block::{Block, WORD_LIMIT};
 use std::alloc::{AllocError, Global};
 use std::marker::Model;
 
@@ -13,26 +14,27 @@ const FIRST_ROWS: u64 = 16;
 #[derive(Drop)]
 pub struct RowStack {
     width: usize,
-    words: Vec<i64>,
     rows: u64,
     room: u64,
+    alloc: Global,
+    block: Option<Block>,
 }
 
 impl Model for RowStack {
-    ghost use Rattle.std.specs.Prelude.{◌-◌, vec_len, vec_capacity};
+    ghost use Rattle.std.specs.Prelude.{◌-◌, length};
     ghost use Rattle.row_stack.specs.Stack.{RowStackState};
-    ghost use Rattle.row_stack.specs.Packed.{rows_among, IsPacked};
+    ghost use Rattle.row_stack.specs.Packed.{rows_among, block_words, block_capacity, IsPacked};
 
     ghost Value = { RowStackState };
 
     ghost view = { λ s. record {
       width = s.width;
-      rows = rows_among s.width s.rows s.words.items;
+      rows = rows_among s.width s.rows (block_words s.block);
       spare = s.room - s.rows;
     } };
 
     ghost invariant = { λ s.
-        IsPacked s.width s.rows s.room (vec_len s.words) (vec_capacity s.words) };
+        IsPacked s.width s.rows s.room (length (block_words s.block)) (block_capacity s.block) };
 }
 
 #[tactic(auto, using(crate::proofs::RowsAmong::of_rows))]
@@ -45,9 +47,10 @@ impl RowStack {
     {
         RowStack {
             width,
-            words: Vec::new(alloc),
             rows: 0,
             room: 0,
+            alloc,
+            block: None,
         }
     }
 
@@ -72,8 +75,10 @@ impl RowStack {
         ensures row { slice_get self.now.rows i ≡ Some result.now }
         ensures width { length result.now ≡ self.now.width }
     {
-        let start = i as usize * self.width;
-        &self.words[start..start + self.width]
+        let Some(block) = &self.block else {
+            unreachable!()
+        };
+        block.words(i as usize * self.width, self.width)
     }
 
     /// Puts a row at the end and returns its place, from 0. Where a row is spare it takes no memory and can't fail.
@@ -113,9 +118,10 @@ impl RowStack {
         ensures spare { self.new.spare + 1 ≡ self.old.spare }
         ensures stack { IsRowStack self.new }
     {
-        let Ok(()) = self.words.extend_from_slice(row) else {
+        let Some(block) = &mut self.block else {
             unreachable!()
         };
+        block.put(self.rows as usize * self.width, row);
         let place = self.rows;
         self.rows += 1;
         place
@@ -135,7 +141,7 @@ impl RowStack {
     }
 
     /// Makes sure that `n` rows can be pushed without taking memory. Where so many are spare it takes none and can't
-    /// fail. Out of memory the stack is as it was.
+    /// fail, else it takes memory for no more than that. Out of memory the stack is as it was.
     pub fn reserve(&mut self, n: u64) -> Result<(), AllocError>
         ensures rows { self.new.rows ≡ self.old.rows }
         ensures width { self.new.width ≡ self.old.width }
@@ -146,9 +152,25 @@ impl RowStack {
         if n <= self.room - self.rows {
             return Ok(());
         }
-        let words = (n as usize).checked_mul(self.width).ok_or(AllocError)?;
-        self.words.reserve(words)?;
-        self.room = self.rows + n;
+        let room = self.rows.checked_add(n).ok_or(AllocError)?;
+        self.move_to(room)
+    }
+
+    // Moves the rows to a block with room for `room` rows. Out of memory they stay where they are.
+    fn move_to(&mut self, room: u64) -> Result<(), AllocError>
+        requires { room_of self.old ≤ room }
+        ensures rows { self.new.rows ≡ self.old.rows }
+        ensures width { self.new.width ≡ self.old.width }
+        ensures room { OnOk result (room_of self.new ≡ room) }
+        ensures unchanged { OnErr result (self.new ≡ self.old) }
+    {
+        let words = self.rows as usize * self.width;
+        let capacity = (room as usize).checked_mul(self.width).ok_or(AllocError)?;
+        if WORD_LIMIT <= capacity {
+            return Err(AllocError);
+        }
+        Block::make_room(&mut self.block, self.alloc, words, capacity)?;
+        self.room = room;
         Ok(())
     }
 
@@ -159,7 +181,6 @@ impl RowStack {
         ensures spare { self.new.spare ≡ self.old.spare + (length self.old.rows - to) }
         ensures width { self.new.width ≡ self.old.width }
     {
-        self.words.truncate(to as usize * self.width);
         self.rows = to;
     }
 }
