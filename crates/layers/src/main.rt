@@ -11,6 +11,7 @@ mod costs;
 mod fixture;
 mod rules;
 mod runs;
+mod stores;
 mod written;
 mod wrong;
 
@@ -32,9 +33,11 @@ enum Question {
     UsableIndex,
     Bouquet,
     BouquetRun,
+    Stack,
+    Index,
 }
 
-const FILES: [(&str, Question); 10] = [
+const FILES: [(&str, Question); 12] = [
     ("canonical.txt", Question::CanonicalText),
     ("runs.txt", Question::Run),
     ("large.txt", Question::Run),
@@ -45,6 +48,8 @@ const FILES: [(&str, Question); 10] = [
     ("conditions.txt", Question::UsableIndex),
     ("bouquets.txt", Question::Bouquet),
     ("bouquet_runs.txt", Question::BouquetRun),
+    ("stacks.txt", Question::Stack),
+    ("indexes.txt", Question::Index),
 ];
 
 // How many lines agree, and how many don't.
@@ -71,6 +76,8 @@ fn answered(
         Question::UsableIndex => rules::usable_line(alloc, db, line),
         Question::Bouquet => bouquets::bouquet_line(alloc, db, line),
         Question::BouquetRun => bouquet_runs::bouquet_run_line(alloc, db, line),
+        Question::Stack => stores::stack_line(alloc, line),
+        Question::Index => stores::index_line(alloc, line),
     }
 }
 
