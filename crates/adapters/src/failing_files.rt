@@ -19,6 +19,8 @@ pub(crate) enum Wrong {
     Rename,
     /// Whatever is looked at by its name is said to be a regular file.
     Look,
+    /// It can't be told whether a link stands under a name.
+    Link,
     /// The system is out of memory where a file is opened.
     Open,
 }
@@ -133,10 +135,11 @@ impl<'a, R: Files> Files for FailingFiles<'a, R> {
     }
 
     fn symlink_metadata(&self, path: &str) -> io::Result<Metadata> {
-        if self.wrong == Wrong::Look {
-            return Ok(Metadata::of_file(0));
+        match self.wrong {
+            Wrong::Look => Ok(Metadata::of_file(0)),
+            Wrong::Link => Err(failure()),
+            _ => self.files.symlink_metadata(path),
         }
-        self.files.symlink_metadata(path)
     }
 
     fn copy(&self, from: &str, to: &str) -> io::Result<u64> {

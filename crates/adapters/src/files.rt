@@ -183,7 +183,7 @@ fn a_write_takes_no_name_that_is_there(rt: HostRuntime) -> Result<(), Fail> {
 
 // What goes wrong, a name that is written then, and another name. What is no regular file isn't even opened; where another
 // file takes the place of a regular one before it is opened, as with `Look`, it is closed again.
-static FAILING: [(Wrong, &str, &str); 8] = [
+static FAILING: [(Wrong, &str, &str); 9] = [
     (Wrong::Open, "t.csv", "t.csv"),
     (Wrong::Open, "null", "null"),
     (Wrong::Look, "null", "null"),
@@ -192,6 +192,7 @@ static FAILING: [(Wrong, &str, &str); 8] = [
     (Wrong::Sync, "t.csv", "t.csv"),
     (Wrong::Rename, "t.csv", "t.csv"),
     (Wrong::Rename, "t.csv", "t.csv.part"),
+    (Wrong::Link, "link", "link"),
 ];
 
 fn failing_lines(rt: &HostRuntime) -> Result<String, Fail> {
@@ -221,6 +222,7 @@ fn a_write_that_fails_leaves_the_old_file(rt: HostRuntime) -> Result<(), Fail> {
     let directory = enter_directory(&rt)?;
     fs::write(&rt, "t.csv", "old")?;
     symlink(&rt, "/dev/null", "null")?;
+    symlink(&rt, "t.csv", "link")?;
     let failing = failing_lines(&rt)?;
     let long = long_name_lines(&rt)?;
     fs::remove_dir_all(&rt, &directory)?;
@@ -228,7 +230,8 @@ fn a_write_that_fails_leaves_the_old_file(rt: HostRuntime) -> Result<(), Fail> {
     assert_eq!(rt;
         failing.as_str(),
         "no memory, no memory\nfailed, failed\nfailed, failed\n\
-         failed, old\nfailed, old\nfailed, old\nfailed, old\nfailed, absent\n"
+         failed, old\nfailed, old\nfailed, old\nfailed, old\nfailed, absent\n\
+         failed, old\n"
     );
     Ok(())
 }

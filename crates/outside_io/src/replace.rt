@@ -31,12 +31,21 @@ struct Part<R: Files + Alloc> {
     rights: Option<Permissions>,
 }
 
+// Whether a link stands under the name. Where that can't be told, nothing may be put in its place.
+fn is_link<R: Files>(files: &R, name: &str) -> io::Result<bool> {
+    match fs::symlink_metadata(files, name) {
+        Ok(found) => Ok(found.is_symlink()),
+        Err(error) if error.kind() == ErrorKind::NotFound => Ok(false),
+        Err(error) => Err(error),
+    }
+}
+
 // The name of what is to be replaced: where a link stands, of what that leads to.
 fn place_of<R: Files + Alloc>(rt: &R, name: &str) -> io::Result<String<R::A>> {
-    match fs::symlink_metadata(rt, name) {
-        Ok(found) if found.is_symlink() => Ok(fs::canonicalize(rt, name)?.into_string()),
-        _ => Ok(String::from_str(rt.alloc(), name)?),
+    if is_link(rt, name)? {
+        return Ok(fs::canonicalize(rt, name)?.into_string());
     }
+    Ok(String::from_str(rt.alloc(), name)?)
 }
 
 // The rights of a regular file, which has to be one that may be written.
