@@ -1,6 +1,6 @@
 -- What a search in the nodes of a tree finds.
 use Rattle.std.proofs.Common.{◌≡◌, ℕ, zero, suc, ◌+◌, ◌-◌, ◌*◌, ◌/◌, ◌<◌, ◌≤◌, ◌∙◌, List, length, take, drop, map, refl, sym, ap, subst, arith, get_or, min}
-use Rattle.std.specs.Prelude.{ℤ, Bool, true, false}
+use Rattle.std.specs.Prelude.{ℤ, Bool, true, false, if◌then◌else◌}
 use Rattle.std.specs.List.{AllWithin}
 use Rattle.std.specs.List.Sorted.{IsPartitionPoint, IsPartitionedBy}
 use Rattle.std.proofs.Math.Logic.{⊎_elim}
@@ -31,7 +31,7 @@ counted_fail passes below count here so = record {
 }
 
 -- what a test says of an element, it says at each default
-at_default : {A : Type 0} (p : A → Bool) (xs : List A) (k : ℕ) (d e : A) (b : Bool) → k < length xs
+pub at_default : {A : Type 0} (p : A → Bool) (xs : List A) (k : ℕ) (d e : A) (b : Bool) → k < length xs
     → p (get_or xs k e) ≡ b → p (get_or xs k d) ≡ b
 at_default p xs k d e b l h = ap p (get_or_default xs k d e l) ∙ h
 
@@ -115,21 +115,18 @@ line_before p xs e begin wide lines (suc m) some so more =
     let same : begin + (wide - 1) + m * wide ≡ begin + suc m * wide - 1 = omega arith in
     subst (λ n. p (get_or xs n e) ≡ true) same (so.before m (omega arith))
 
--- a search in a node: the lines are counted whose last element passes, then so many elements as a line has, from the next
--- line on or up to the node's end
-pub point_in_node : {A : Type 0} (p : A → Bool) (xs : List A) (e : A) (node begin end wide lines line size from below : ℕ)
-    → IsPartitionedBy p xs → IsAround p xs node → begin ≡ min (node * 64) (length xs) → end ≡ min (begin + 64) (length xs)
-    → 0 < wide → lines * wide ≤ end - begin → end - begin < lines * wide + wide
+-- a search in a stretch: the lines but the last are counted whose last element passes, then so many elements as a line
+-- has, from the next line on or up to the stretch's end
+pub point_between : {A : Type 0} (p : A → Bool) (xs : List A) (e : A) (begin end wide lines line size from below : ℕ)
+    → IsPartitionedBy p xs → begin ≤ end → end ≤ length xs → AllWithin (λ x. p x ≡ true) xs 0 begin → AllWithin (λ x. p x ≡ false) xs end (length xs)
+    → 0 < wide → lines * wide ≤ end - begin → end - begin ≤ lines * wide + wide
     → IsCounted (λ i. p (get_or xs (begin + (wide - 1) + i * wide) e)) line lines
     → size ≡ min wide (end - begin) → from ≡ min (begin + line * wide) (end - size)
     → IsCounted (λ i. p (get_or xs (from + i * 1) e)) below size
     → IsPartitionPoint (λ x. p x ≡ true) (λ x. p x ≡ false) xs (from + below)
-point_in_node p xs e node begin end wide lines line size from below rising around b n some low high so s f last =
+point_between p xs e begin end wide lines line size from below rising up there none_before none_behind some low high so s f last =
     let most = mul-le-mul_right wide so.most in
     let inside : begin + line * wide ≤ end = omega arith in
-    let there : end ≤ length xs = omega arith in
-    let none_before : AllWithin (λ x. p x ≡ true) xs 0 begin = λ k d l m. around.before k d l (omega arith) in
-    let none_behind : AllWithin (λ x. p x ≡ false) xs end (length xs) = λ k d l m. around.behind k d (omega arith) m in
     let passed = before_place p xs e begin (begin + line * wide) rising (omega arith) none_before (line_before p xs e begin wide lines line some so) in
     point_of_counted p xs e from size below (omega arith) (λ k d l m. passed k d l (omega arith))
     (behind_place p xs e (from + size) end rising there none_behind (λ less.
@@ -138,6 +135,19 @@ point_in_node p xs e node begin end wide lines line size from below rising aroun
     let same : begin + (wide - 1) + line * wide ≡ from + size - 1 = omega arith in
     subst (λ k. p (get_or xs k e) ≡ false) same (so.behind line (omega arith) l))
     (λ (l : lines ≤ line). let all = mul-le-mul_right wide l in absurd (omega arith)) (cases_lt line lines))) last
+
+-- the count of those that pass, among all, is the first that fails
+pub point_of_all : {A : Type 0} (p : A → Bool) (xs : List A) (e : A) (below : ℕ) → IsCounted (λ i. p (get_or xs i e)) below (length xs)
+    → IsPartitionPoint (λ x. p x ≡ true) (λ x. p x ≡ false) xs below
+point_of_all p xs e below so =
+    (λ k d l m. at_default p xs k d e true (omega (arith, so.most)) (so.before k m), λ k d l m. at_default p xs k d e false m (so.behind k l m))
+
+-- a count goes on by one where the next place passes
+pub counted_next : {A : Type 0} (p : A → Bool) (xs : List A) (e : A) (below count : ℕ) → IsPartitionedBy p xs → count < length xs
+    → IsCounted (λ i. p (get_or xs i e)) below count → IsCounted (λ i. p (get_or xs i e)) (if p (get_or xs count e) then below + 1 else below) (count + 1)
+counted_next p xs e below count rising there so =
+    ⊎_elim (λ t. rw t (counted_pass (λ i. p (get_or xs i e)) below count (λ i l. rising i count e l there t) so))
+    (λ f. rw f (counted_fail (λ i. p (get_or xs i e)) below count f so)) (cases_Bool (p (get_or xs count e)))
 
 -- the next level above one, and the levels above that
 pub levels_above : (more : ℕ) (words above level rest : List ℤ) (count : ℕ) → (more ≡ 0 → ⊥) → AreLevels more words above

@@ -57,12 +57,19 @@ words_rise xs word sorted =
 below_kept : (x y bound : ℤ) → ordering_index (int_cmp x bound) ≤ ordering_index (int_cmp y bound) → int_lt y bound ≡ true → int_lt x bound ≡ true
 below_kept x y bound = grind (arith, ints)
 
+most_kept : (x y bound : ℤ) → ordering_index (int_cmp x bound) ≤ ordering_index (int_cmp y bound) → int_le y bound ≡ true → int_le x bound ≡ true
+most_kept x y bound = grind (arith, ints)
+
 within_is : (from to word : ℤ) → not (int_lt word from) && int_le word to ≡ int_le from word && int_le word to
 within_is from to word = grind (arith, ints)
 
 -- so the entries with lesser words come first
 pub entries_rise : (xs : List IndexEntry) (word : ℤ) → IsInOrder xs → IsPartitionedBy (is_entry_below word) xs
 entries_rise xs word sorted i j d l m = below_kept _ _ word (words_rise xs word sorted i j d l m)
+
+-- and so do those with words up to one
+pub entries_rise_to : (xs : List IndexEntry) (word : ℤ) → IsInOrder xs → IsPartitionedBy (λ e. int_le e.0 word) xs
+entries_rise_to xs word sorted i j d l m = most_kept _ _ word (words_rise xs word sorted i j d l m)
 
 -- what lies between the entries below a range and those up to its end is the range
 pub between_words : (xs : List IndexEntry) (from to : ℤ) (i j : ℕ) → i ≤ length xs → j ≤ length xs

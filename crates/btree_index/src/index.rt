@@ -1,6 +1,6 @@
 // The index: a tree of nodes, whose leaves are its entries in order. A descent is paid by its levels.
 // It relies on the ledger for each paid read, and never changes what it was built of.
-ghost use Rattle.std.specs.Prelude.{◌≡◌, ◌*◌, ◌≤◌, ◌++◌, drop, filter, length, int_le, true, false, IfOk, OnOk, OnErr};
+ghost use Rattle.std.specs.Prelude.{◌≡◌, ◌+◌, ◌*◌, ◌^◌, ◌<◌, ◌≤◌, ◌++◌, if◌then◌else◌, drop, filter, length, int_le, true, IfOk, OnOk, OnErr};
 ghost use Rattle.std.specs.List.{AllWithin};
 ghost use Rattle.std.specs.List.Sorted.{IsPermutation};
 ghost use Rattle.work_ledger.specs.Account.{Pays};
@@ -9,10 +9,14 @@ ghost use Rattle.btree_index.specs.Height.{height_of};
 ghost use Rattle.btree_index.specs.Entries.{HaveWords, IsInOrder, IsOn, entries_left, first_row, is_within, next_charge};
 ghost use Rattle.btree_index.specs.Nodes.{AreSplitAt, is_entry_below, nodes_of};
 
-use crate::levels::{NODE_ENTRIES, first_in_leaf, first_near, first_of, inner_levels};
+use crate::levels::{first_of, inner_levels};
+use crate::node::{LINE_ENTRIES, NODE_ENTRIES, first_in_node, first_near};
 use std::alloc::{AllocError, Global};
 use std::marker::Model;
 use work_ledger::{Exhausted, Ledger, charge};
+
+// How many entries are few, so that one look at each finds a range.
+const FEW_ENTRIES: usize = 8;
 
 /// A place in an index: the entries from `next` up to `end`, which it excludes, are left.
 #[derive(Clone, Copy, Debug, PartialEq, Eq)]
@@ -65,6 +69,30 @@ fn know_words(entries: &[(i64, u64)])
     for place in 0..entries.len() {
         let _word = entries[place].0;
     }
+}
+
+// One more, where a test is passed.
+fn one_more(count: usize, passes: bool) -> usize
+    requires { count < 2 ^ 63 }
+    ensures { result ≡ if passes then count + 1 else count }
+{
+    if passes { count + 1 } else { count }
+}
+
+// The cursor of the entries with words from `from` to `to`, found by one look at each entry.
+fn cursor_among_few(entries: &[(i64, u64)], from: i64, to: i64) -> Cursor
+    requires { IsInOrder entries.now }
+    ensures range { entries_left entries.now result ≡ filter (is_within from to) entries.now }
+    ensures placed { IsOn entries.now result }
+{
+    let mut next = 0;
+    let mut end = 0;
+    for place in 0..entries.len() {
+        let word = entries[place].0;
+        next = one_more(next, word < from);
+        end = one_more(end, word <= to);
+    }
+    Cursor { next, end }
 }
 
 #[tactic(auto, using(crate::proofs::OfCursors::of_cursors))]
@@ -133,11 +161,11 @@ impl Index {
     {
         let entries = self.entries.as_slice();
         if self.height == 1 {
-            return first_in_leaf(entries, 0, word);
+            return first_in_node(entries, LINE_ENTRIES, 0, word);
         }
         let (level, above) = self.inner.split_at(entries.len().div_ceil(NODE_ENTRIES));
         let leaf = first_of(level, above, self.height - 2, word);
-        first_in_leaf(entries, leaf, word)
+        first_in_node(entries, LINE_ENTRIES, leaf, word)
     }
 
     // The same place where all before `next` are less. It looks at the next few entries before it descends.
@@ -176,6 +204,9 @@ impl Index {
         ensures pays { Pays (node_charge * height_of (length self.now)) ledger.old ledger.new result }
     {
         ledger.pay(charge::NODE * self.height as u128)?;
+        if self.entries.len() <= FEW_ENTRIES {
+            return Ok(cursor_among_few(&self.entries, from, to));
+        }
         if to < from {
             return Ok(Cursor { next: 0, end: 0 });
         }

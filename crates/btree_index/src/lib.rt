@@ -6,5 +6,6 @@
 
 mod index;
 mod levels;
+mod node;
 
 pub use index::{Cursor, Index};

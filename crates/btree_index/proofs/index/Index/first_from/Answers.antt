@@ -6,8 +6,8 @@ use Rattle.btree_index.proofs.Nodes.{around_mapped, around_node, level_above_lea
 use Rattle.btree_index.proofs.Ranges.{entries_rise}
 use Rattle.btree_index.proofs.index.Index.first_from.Goals as goal
 
-pub first_in_leaf-requires-clause-rising : goal.first_in_leaf-requires-clause-rising
-first_in_leaf-requires-clause-rising c =
+pub first_in_node-requires-clause-rising : goal.first_in_node-requires-clause-rising
+first_in_node-requires-clause-rising c =
     let word : ℤ = to_z w64 (of_z w64 c.args.word) in
     subst (λ xs. IsPartitionedBy (is_entry_below word) xs) (sym c.as_slice-entries.ensures.value) (entries_rise c.self.inside.entries.items word c.self.invariant.sorted.in_order)
 
@@ -28,13 +28,13 @@ first_of-leaf-requires-clause-rising c =
     c.deref.ensures.value c.if-self-eq1.false c.div_ceil.ensures c.split_at.ensures.front c.split_at.ensures.back).0
     (rising_mapped entry_word (is_below word) entries (pos 0, 0) rise)
 
-pub first_in_leaf-requires-2-clause-rising : goal.first_in_leaf-requires-2-clause-rising
-first_in_leaf-requires-2-clause-rising c =
+pub first_in_node-requires-2-clause-rising : goal.first_in_node-requires-2-clause-rising
+first_in_node-requires-2-clause-rising c =
     let word : ℤ = to_z w64 (of_z w64 c.args.word) in
     subst (λ xs. IsPartitionedBy (is_entry_below word) xs) (sym c.as_slice-entries.ensures.value) (entries_rise c.self.inside.entries.items word c.self.invariant.sorted.in_order)
 
-pub first_in_leaf-requires-2-clause-around : goal.first_in_leaf-requires-2-clause-around
-first_in_leaf-requires-2-clause-around c =
+pub first_in_node-requires-2-clause-around : goal.first_in_node-requires-2-clause-around
+first_in_node-requires-2-clause-around c =
     let word : ℤ = to_z w64 (of_z w64 c.args.word) in
     let entries = c.as_slice-entries.result.now in
     let rise = subst (λ xs. IsPartitionedBy (is_entry_below word) xs) (sym c.as_slice-entries.ensures.value) (entries_rise c.self.inside.entries.items word c.self.invariant.sorted.in_order) in
