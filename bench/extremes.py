@@ -5,7 +5,7 @@
 
 The proved program is the one that `rt run` left in crates/bouquet/out. Without a name all extremes are run, one after
 another. Inputs are made in a temporary folder, each removed before the next is made, with what the program wrote.
-Each trial has the answer and the status that are due, and a sentence of docs/FORMATS.md or README.md that says so;
+Each trial has the answer and the status that are due, and a sentence of a document in docs/ that says so;
 `--rules` prints the sentences. Seconds are those of the processor. Where a trial has a size it is run with half of it
 too: `times half` is how many times longer the whole takes. The peak memory is never less than this script's own, some
 20 MB; `input MB` are those of the script and the files. `--part N` makes what has a size N times smaller; figures are
@@ -20,6 +20,7 @@ trial is left out.
 import argparse
 import contextlib
 import dataclasses
+import glob
 import itertools
 import os
 import resource
@@ -34,7 +35,7 @@ from typing import Any, Callable
 
 HERE = os.path.dirname(os.path.abspath(__file__))
 PROGRAM = os.path.join(HERE, "..", "crates", "bouquet", "out", "bouquet")
-DOCUMENTS = [os.path.join(HERE, "..", *it) for it in (("docs", "FORMATS.md"), ("README.md",))]
+DOCUMENTS = sorted(glob.glob(os.path.join(HERE, "..", "docs", "*.md")))
 
 SCRIPT_BYTES = 16 * 1024 * 1024
 FILE_BYTES = 256 * 1024 * 1024
@@ -66,42 +67,43 @@ RULES = {
     "empty": "An empty piece means nothing.",
     "comment": "A comment begins with `--` and ends before the next line feed or at the end of the script.",
     "rows": "It is printed where the condition of WHERE is true on it, and not where it is false or, by NULL, unknown",
-    "kinds": "predicate P of WHERE, from 1 in written order, compares a number with a text",
+    "kinds": "predicate P of WHERE compares a number with a text",
     "conjunct": "conjunct C of WHERE is neither on columns of one table nor an equality of columns of two",
-    "axes": "how many equalities of columns of two tables are conjuncts, past 6",
-    "relations": "how many tables are in FROM, past 6; how many columns are named, past 256",
+    "axes": "how many conjuncts are equalities of columns of two tables, more than 6",
+    "relations": "how many tables are in FROM, more than 6",
+    "projection": "how many columns are named, more than 256",
     "columns": "how many columns are written",
     "depth": "Parentheses round conditions nest at most 32 deep.",
-    "header": "field F, from 1, is the first of the header that differs from the columns' names",
-    "entries": "F is 1 for a file without entries: one of no bytes, of blank lines, or of a byte order mark alone",
+    "header": "field F of the header is the first that isn't its column's name, is missing or too many",
+    "entries": "1 for a file without entries: one of no bytes, of blank lines, or of a byte order mark alone",
     "blank": "Blank lines are no entries, and an entry may have any number of fields.",
-    "fields": "entry E, from 1 without the header, has FOUND fields, and the table has WANTED columns",
+    "fields": "entry E has FOUND fields, and the table has WANTED columns",
     "quote": "A quote that never closes runs to the end of the file.",
     "long": "it is a text of more characters than its column allows",
-    "zeros": "with any number of leading zeros and no white space",
+    "zeros": "It may have any number of leading zeros, and no white space.",
     "range": "it is an integer that no INTEGER is",
-    "totals": "words, different texts, or bytes of these, of the whole database, as they would be after it",
-    "file": "A file has at most 268435456 bytes.",
+    "totals": "The last four are numbers as they would be after the LOAD, and are looked at when all entries are good.",
+    "file": "It has at most 268435456 bytes.",
     "order": "Rows are in ascending order, the leftmost column first: NULL, then numbers by value",
     "work": "a query whose work is past N is refused with `error E16 work N`",
-    "product": "the product of the tables' numbers of rows, from left to right as far as it first passes 2^100",
+    "product": "is multiplied from left to right, as far as it first passes the limit",
     "table": "there is no table NAME",
-    "compile": "COMPILE prints one line, `-- compile points=P contours=M r=R`",
+    "compile": "COMPILE and OPEN print how many points the grid has, how many contours the bouquet has",
     "json": "The file is JSON: path `json`.",
     "object": "It is an object, and `bouquet` is an unsigned number: path `bouquet`.",
-    "open": "OPEN prints `-- open points=P contours=M r=R`.",
-    "plans": "The path is that of the first that isn't or doesn't;",
-    "last": "or 0 for the last plan, which is executed without a budget where no other one came to its end",
-    "upper": "Names are compared in upper case, and kept and printed so;",
-    "regular": "so is what is no regular file, as a directory, a pipe or a device.",
-    "read": "standard input, or a file at a read, failed.",
-    "absent": "A file that isn't there is E09, at an empty name too.",
+    "open": "COMPILE and OPEN print how many points the grid has, how many contours the bouquet has",
+    "plans": "The path is that of the first value that isn't there or doesn't fit;",
+    "last": "the last plan is executed once more without a budget, and the contour is 0.",
+    "upper": "Names are compared in upper case, and kept and printed so.",
+    "regular": "What is no regular file, as a directory, a pipe or a device, is a failure of the folder.",
+    "read": "standard input, or a file at a read, failed",
+    "absent": "A file that isn't there is `E09`. So is a LOAD or an OPEN of the empty name.",
     "write": "standard output, or a file at a SAVE, failed",
     "beside": "that a write which fails leaves the old file",
     "done": "every statement was carried out",
     "script": "16777217, for a script of more than 16777216 bytes",
-    "most": "A script is any bytes, at most 16777216 of them.",
-    "words": "Where the arguments aren't, the status is 2, nothing is read, and printed is",
+    "most": "It has at most 16777216 bytes.",
+    "words": "Where the arguments aren't, nothing is read, the status is 2, and this is printed:",
 }
 
 
@@ -251,7 +253,7 @@ def operands(part):
     yield Trial("equalities of two tables", joined(table(), "SELECT P.A FROM T P, T Q WHERE ", edges),
                 f"{loaded}error E12 limit axes {count}\n", "axes", **refused)
     yield Trial("columns named", joined(table(), "SELECT ", separated(",", itertools.repeat("A", count)), " FROM T"),
-                f"{loaded}error E12 limit projection {count}\n", "relations", **refused)
+                f"{loaded}error E12 limit projection {count}\n", "projection", **refused)
     yield Trial("tables of FROM", joined(table(), "SELECT * FROM ", separated(",", itertools.repeat("T", count))),
                 f"{loaded}error E12 limit relations {count}\n", "relations", **refused)
     columns = separated(",", (f"C{i} INT" for i in range(count)))
@@ -493,8 +495,8 @@ def colliding_texts(count, bits):
 
 
 def collisions(part):
-    """Keys that fall into one chain of a hash join, and texts that fall into one group of the dictionary, beside as
-    many that don't."""
+    """Keys that fall into one chain of a hash join, many or two that stand there many times, and texts that fall into
+    one group of the dictionary, beside as many that don't."""
     count = 100_000 // part
     # the scans of both work more than 4 units a row, a hash join 3 more, and every other plan more than that
     most = 7 * count
@@ -502,13 +504,17 @@ def collisions(part):
     script = f"{table()}{table(file='u.csv', name='U')}SELECT T.A FROM T, U WHERE T.A = U.A;\n"
     answer = f"-- load rows={count}\n" * 2 + f"error E16 work {most}\n"
 
-    def keys(start, factor):
-        for i in range(start, start + count):
-            word = i * factor & WORD
-            yield f"{word - WORD - 1 if word > WORD // 2 else word}\n"
+    def key(i, factor):
+        word = i * factor & WORD
+        return f"{word - WORD - 1 if word > WORD // 2 else word}\n"
 
-    for name, factor in (("keys of all chains", 7919), ("keys of one chain", inverse)):
-        files = {"t.csv": joined("A\n", keys(0, factor)), "u.csv": joined("A\n", keys(count, factor))}
+    def keys(side, factor):
+        return (key(i, factor) for i in range(side * count, (side + 1) * count))
+
+    for name, of in {"keys of all chains": lambda side: keys(side, 7919),
+                     "keys of one chain": lambda side: keys(side, inverse),
+                     "two keys of one chain": lambda side: repeated(key(side, inverse), count)}.items():
+        files = {"t.csv": joined("A\n", of(0)), "u.csv": joined("A\n", of(1))}
         yield Trial(name, script, answer, "work", REFUSED, files, ("--max-work", str(most)), sized=True)
     some = 20_000 // part
     for name, bits in (("texts of all groups", 0), ("texts of one group", (some // 9).bit_length())):
