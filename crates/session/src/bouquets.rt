@@ -103,6 +103,7 @@ pub(crate) fn answer(
     ensures sound { let tree = bouquet_tree bouquet.now in
         OnOk result (IsCompiled tree → IsSound tree) }
     ensures within { book.new ≤ book.old + max_work }
+    ensures never_falls { book.old ≤ book.new }
     ensures no_fault { IsErrAnd result IsFault → ⊥ }
 {
     let block = bouquet.block();

@@ -46,6 +46,7 @@ impl Session {
             result (world_of self.now) book.old book.new }
         ensures bounded { OnOk result (IsAnsweredWithin (world_of self.now) (Run name.now)) }
         ensures within { book.new ≤ book.old + max_work }
+        ensures never_falls { book.old ≤ book.new }
         ensures no_fault { IsErrAnd result IsFault → ⊥ }
     {
         let Some(kept) = self.bouquets.get(name.bytes()) else {

@@ -38,6 +38,7 @@ impl Session {
         ensures bounded { OnOk result
             (IsAnsweredWithin (world_of self.now) (Select (query_tree query.now))) }
         ensures within { book.new ≤ book.old + max_work }
+        ensures never_falls { book.old ≤ book.new }
         ensures no_fault { IsErrAnd result IsFault → ⊥ }
     {
         let block = bind(alloc, &self.database, query)?;

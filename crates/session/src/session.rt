@@ -72,6 +72,7 @@ impl Session {
         ensures bounded { OnOk result
             (IsAnsweredWithin (world_of self.old) (statement_tree statement.now)) }
         ensures within { book.new ≤ book.old + max_work }
+        ensures never_falls { book.old ≤ book.new }
         ensures folder { UsesFolder result (F.state folder.old) (F.state folder.new) }
     {
         match statement {
