@@ -16,10 +16,6 @@ whole_begins old new text put =
 abbrev pub IsUnput : Status → Type 0
 IsUnput ended = (ended ≡ status.WriteFault) ⊎ (ended ≡ status.NoMemory)
 
-pub unput_not_read : (ended : Status) → IsUnput ended → ended ≡ status.ReadFault → ⊥
-unput_not_read ended (inl fault) is = cc (fault, is)
-unput_not_read ended (inr memory) is = cc (memory, is)
-
 -- the line of a refusal was put, or not whole
 abbrev pub IsRefused : Status → Type 0
 IsRefused ended = (ended ≡ status.Refused) ⊎ IsUnput ended
@@ -28,10 +24,6 @@ pub refused_not_done : (ended : Status) → IsRefused ended → ended ≡ status
 refused_not_done ended (inl refused) is = cc (refused, is)
 refused_not_done ended (inr (inl fault)) is = cc (fault, is)
 refused_not_done ended (inr (inr memory)) is = cc (memory, is)
-
-pub refused_not_read : (ended : Status) → IsRefused ended → ended ≡ status.ReadFault → ⊥
-refused_not_read ended (inl refused) is = cc (refused, is)
-refused_not_read ended (inr unput) is = unput_not_read ended unput is
 
 not_bad_words : (ended : Status) → IsUnput ended → ended ≡ status.BadWords → ⊥
 not_bad_words ended (inl fault) is = cc (fault, is)

@@ -1,37 +1,30 @@
 -- What the statements of a script did, as far as they were carried out.
 use Rattle.std.proofs.Common.{◌≡◌, ◌⊎◌, inl, inr, ℕ, ◌+◌, ◌<◌, ◌≤◌, min, true, false, List, [], ◌∷◌, ◌++◌, length, take, drop, get_or, Option, Some, None, refl, sym, ap, ◌∙◌, subst, arith, append_assoc}
-use Rattle.std.specs.Prelude.{IfSome, IsSomeAnd}
+use Rattle.std.specs.Prelude.{IfSome}
 use Rattle.std.specs.Option.{option_and_then, option_map_or}
 use Rattle.std.specs.Io.KnownBytes.{Appends}
 use Rattle.std.proofs.Math.Seq.{take-append-add}
 use Rattle.std.proofs.lemmas.List.{append-nil, take_min, take_all, take-append-le, map-append, take_more, take-append-drop}
+use Rattle.std.proofs.KnownBytes.{Appends-nil, Appends-trans}
 use Rattle.outside_io.specs.Count.{Rose}
 use Rattle.outside_io.specs.Files.{FolderState}
 use Rattle.sql_parse.specs.Trees.{StatementTree}
 use Rattle.session.specs.Bounds.{IsAnsweredWithin}
 use Rattle.session.specs.Given.{IsGivenFor}
-use Rattle.session.specs.Outcome.{Outcome, Refuses}
-use Rattle.session.specs.Returns.{FailsToWrite}
-use Rattle.session.specs.Statements.{AsksForFile, statement_outcome}
+use Rattle.session.specs.Outcome.{Outcome, Refuses, refused_work}
+use Rattle.session.specs.Refusal.{line_of}
+use Rattle.session.specs.Statements.{statement_outcome}
 use Rattle.session.specs.World.{World, nothing_made}
 use Rattle.session.specs.declared.refusal.Refusal.{Refusal}
 use Rattle.shell.specs.declared.status.Status.{Status}
 use Rattle.shell.specs.declared.status.Status.TheVariants as status
-use Rattle.shell.specs.Due.{CarriesAll}
+use Rattle.shell.specs.Due.{CarriesAll, EndsAt, LeadsOn, state_of}
+use Rattle.shell.specs.Due.EndsAt.{refuses, breaks}
 use Rattle.shell.specs.Script.{Answer, AreAnsweredWithin, AreGiven, ScriptState, Step, and_then, at_start, files_after, left_by, printed_by, script_answer, state_after}
-use Rattle.shell.specs.Serve.{AsksThere, EndsAtFolder, EndsAtWrite, FailsThere, IsFailedAt, LeavesPart, NeverFalls, statements_of_steps}
+use Rattle.shell.specs.Serve.{BreaksBefore, EndsAsDue, NeverFalls, next_text, statements_of_steps}
+use Rattle.shell.specs.Serve.BreaksBefore.{no_read, no_write, no_put, no_memory}
 use Rattle.shell.proofs.Beginning.{whole_begins}
 use Rattle.shell.proofs.Steps.{StepsFrom, given_for_wider, steps_behind}
-
-pub appends_none : (old : Option (List ℕ)) → Appends old old []
-appends_none None = tt
-appends_none (Some xs) = sym (append-nil xs)
-
-appends_on : (old mid new : Option (List ℕ)) (a b : List ℕ) → Appends old mid a → Appends mid new b → Appends old new (a ++ b)
-appends_on None mid new a b first next = tt
-appends_on (Some x) None new a b first next = absurd first
-appends_on (Some x) (Some y) None a b first next = absurd next
-appends_on (Some x) (Some y) (Some z) a b first next = next ∙ ap (λ (l : List ℕ). l ++ b) first ∙ append_assoc x a b
 
 -- an answer after a text and its work
 abbrev after : List ℕ → ℕ → Answer → Answer
@@ -58,34 +51,57 @@ nothing_after text work =
 pub rose_in : {before low high last : ℕ} → before ≤ low → high ≤ last → Rose low high → Rose before last
 rose_in {before} {low} {high} {last} first past rose = omega (arith, first, past, rose)
 
--- the state of a script between two statements
-abbrev pub state_of : World → FolderState → ScriptState
-state_of world folder = record { world = world; files = folder.files }
+-- what went out when a run broke off is a beginning of the next text, and the run didn't end as its text does
+breaks_part : {max_work : ℕ} {sink_failed : Type 0} {old new : FolderState} {state : ScriptState} {later : List Step} {ended : Status} {part : List ℕ}
+    → BreaksBefore max_work sink_failed old new state later ended part → (n : ℕ) × (part ≡ take n (next_text max_work state later))
+breaks_part (no_read rose asks kept) = (0, refl)
+breaks_part (no_write rose fails) = (0, refl)
+breaks_part (no_put failed some kept n) = (n, refl)
+breaks_part (no_memory kept) = (0, refl)
+
+breaks_not_due : {max_work : ℕ} {sink_failed : Type 0} {old new : FolderState} {state : ScriptState} {later : List Step} {ended : Status} {part : List ℕ}
+    → BreaksBefore max_work sink_failed old new state later ended part → ¬ EndsAsDue ended
+breaks_not_due (no_read rose asks kept) due = elim due [ inl is ↦ cc is | inr is ↦ cc is ]
+breaks_not_due (no_write rose fails) due = elim due [ inl is ↦ cc is | inr is ↦ cc is ]
+breaks_not_due (no_put failed some kept n) due = elim due [ inl is ↦ cc is | inr is ↦ cc is ]
+breaks_not_due (no_memory kept) due = elim due [ inl is ↦ cc is | inr is ↦ cc is ]
+
+-- nor did it break off without a cause
+pub breaks_cause : {max_work : ℕ} {sink_failed : Type 0} {old new : FolderState} {state : ScriptState} {later : List Step} {ended : Status} {part : List ℕ} → BreaksBefore max_work sink_failed old new state later ended part
+    → (ended ≡ status.ReadFault → Rose old.read_faults new.read_faults) × (ended ≡ status.WriteFault → sink_failed ⊎ Rose old.write_faults new.write_faults)
+breaks_cause (no_read rose asks kept) = (λ is. rose, λ is. cc is)
+breaks_cause (no_write rose fails) = (λ is. cc is, λ is. inr rose)
+breaks_cause (no_put failed some kept n) = (λ is. cc is, λ is. inl failed)
+breaks_cause (no_memory kept) = (λ is. cc is, λ is. cc is)
+
+-- a cause in a part of a run is one in the run
+breaks_in : {max_work : ℕ} {failed sink_failed : Type 0} {before mid now : FolderState} {state : ScriptState} {later : List Step} {ended : Status} {part : List ℕ} → (failed → sink_failed) → NeverFalls before mid
+    → BreaksBefore max_work failed mid now state later ended part → BreaksBefore max_work sink_failed before now state later ended part
+breaks_in sinks first (no_read rose asks kept) = no_read (rose_in first.read_faults (omega arith) rose) asks kept
+breaks_in sinks first (no_write rose fails) = no_write (rose_in first.write_faults (omega arith) rose) fails
+breaks_in sinks first (no_put failed some kept n) = no_put (sinks failed) some kept n
+breaks_in sinks first (no_memory kept) = no_memory kept
 
 -- the text so far is there and paid; and whatever the statements from i on do, in the state that the ones before leave, is what
 -- the whole does behind them
-pub record IsCarried (max_work : ℕ) (all : List StatementTree) (i : ℕ) (before now : FolderState) (world : World) (had got : Option (List ℕ)) (old paid : ℕ) : Type 0 where
+pub record IsCarried (max_work : ℕ) (all : List StatementTree) (i : ℕ) (before now : FolderState) (world : World) (had got : Option (List ℕ)) (paid : ℕ) : Type 0 where
   pub steps : List Step
   pub are : statements_of_steps steps ≡ take i all
   pub printed : List ℕ
-  pub work : ℕ
   pub put : Appends had got printed
-  pub spent : paid ≡ old + work
-  pub whole : (rest : List Step) → script_answer max_work (at_start before.files) (steps ++ rest) ≡ after printed work (script_answer max_work (state_of world now) rest)
+  pub whole : (rest : List Step) → script_answer max_work (at_start before.files) (steps ++ rest) ≡ after printed paid (script_answer max_work (state_of world now) rest)
   pub leaves : (rest : List Step) → state_after max_work (at_start before.files) (steps ++ rest) ≡ state_after max_work (state_of world now) rest
   pub files : (rest : List Step) → files_after max_work (at_start before.files) (steps ++ rest) ≡ files_after max_work (state_of world now) rest
   pub given : (last : ℕ) → now.misses ≤ last → (rest : List Step) → AreGiven (Rose before.misses last) max_work (state_of world now) rest
       → AreGiven (Rose before.misses last) max_work (at_start before.files) (steps ++ rest)
   pub answered : (rest : List Step) → AreAnsweredWithin max_work (state_of world now) rest → AreAnsweredWithin max_work (at_start before.files) (steps ++ rest)
 
-pub carried_none : (max_work : ℕ) (all : List StatementTree) (before : FolderState) (had : Option (List ℕ)) (old : ℕ) → IsCarried max_work all 0 before before nothing_made had had old old
-carried_none max_work all before had old = record {
+pub carried_none : (max_work : ℕ) (all : List StatementTree) (before : FolderState) (had : Option (List ℕ)) → IsCarried max_work all 0 before before nothing_made had had 0
+carried_none max_work all before had = record {
   steps = [];
   are = refl;
   printed = [];
-  work = 0;
-  put = appends_none had;
-  spent = omega arith;
+  put = Appends-nil had;
   whole = λ rest. after_nothing (script_answer max_work (at_start before.files) rest);
   leaves = λ rest. refl;
   files = λ rest. refl;
@@ -102,32 +118,6 @@ are_on : (all : List StatementTree) (i : ℕ) (steps : List Step) (step : Step) 
 are_on all i steps step below is are =
     map-append (λ (s : Step). s.statement) steps (step ∷ []) ∙ ap (λ (l : List StatementTree). l ++ step.statement ∷ []) are ∙ sym (next_statement all i step.statement below is)
 
--- an outcome behind which the run goes on: it prints this text and leaves this state
-pub record GoesOn (due : Outcome) (state next : ScriptState) (text : List ℕ) (old new : ℕ) : Type 0 where
-  pub work : ℕ
-  pub prints : printed_by due ≡ record { text = text; work = work; refused = false }
-  pub leaves : left_by due state ≡ Some next
-  pub spent : new ≡ old + work
-
--- what a run that ends at a statement leaves in the folder: what was there, or that without the file which couldn't be written,
--- or what the statement leaves, where only its text didn't go out whole
-pub data LeavesThere (due : Outcome) (statement : StatementTree) (mid now : FolderState) (world : World) (ended : Status) : Type 0 where
-  as_before : now.files ≡ mid.files → LeavesThere due statement mid now world ended
-  but_one : EndsAtWrite ended mid now → FailsToWrite world statement mid.files now.files → LeavesThere due statement mid now world ended
-  as_due : (next : World) → left_by due (state_of world mid) ≡ Some (state_of next now) → LeavesThere due statement mid now world ended
-
--- a run that ends at a statement: refused where that is due, with the whole line, and else for another cause; by a fault of the
--- folder where it uses a file so, and then nothing was put
-pub record EndsAt (due : Outcome) (sink_failed : Type 0) (statement : StatementTree) (mid now : FolderState) (world : World) (ended : Status) (had got : Option (List ℕ)) (old new : ℕ) : Type 0 where
-  pub refused : ended ≡ status.Refused → ((why : Refusal) × (due ≡ Refuses why)) × Appends had got (printed_by due).text
-  pub paid : ended ≡ status.Refused → new ≡ old + (printed_by due).work
-  pub kept : ended ≡ status.Refused → now.files ≡ mid.files
-  pub not_done : ended ≡ status.Done → ⊥
-  pub read_fault : ended ≡ status.ReadFault → AsksForFile world statement × (got ≡ had)
-  pub write_fault : ended ≡ status.WriteFault → sink_failed ⊎ (Rose mid.write_faults now.write_faults × FailsToWrite world statement mid.files now.files × (got ≡ had))
-  pub leaves : LeavesThere due statement mid now world ended
-  pub beginning : (n : ℕ) × Appends had got (take n (printed_by due).text)
-
 cut : (n : ℕ) (front text rest : List ℕ) → take (length front + min n (length text)) (front ++ (text ++ rest)) ≡ front ++ take n text
 cut n front text rest =
     let within : min n (length text) ≤ length text = omega arith in
@@ -142,26 +132,48 @@ answer_on : (here : Answer) (left : Option ScriptState) (text : List ℕ) (work 
 answer_on here left text work next go prints leaves =
     ap (λ (a : Answer). and_then a left go) prints ∙ ap (λ (o : Option ScriptState). and_then (record { text = text; work = work; refused = false }) o go) leaves
 
-refused_whole : (due : Outcome) (state : ScriptState) (go : ScriptState → Answer) → ((why : Refusal) × (due ≡ Refuses why))
-    → and_then (printed_by due) (left_by due state) go ≡ record { text = (printed_by due).text; work = (printed_by due).work; refused = true }
-refused_whole due state go (why, is) = rw is refl
+refused_whole : (due : Outcome) (state : ScriptState) (go : ScriptState → Answer) (why : Refusal) → due ≡ Refuses why
+    → and_then (printed_by due) (left_by due state) go ≡ record { text = line_of why; work = refused_work why; refused = true }
+refused_whole due state go why is = rw is refl
 
-none_left : (due : Outcome) (state : ScriptState) → ((why : Refusal) × (due ≡ Refuses why)) → left_by due state ≡ None
-none_left due state (why, is) = ap (λ (o : Outcome). left_by o state) is
+-- the steps so far alone: their answer, the state that they leave, and their bounds
+module _ (max_work : ℕ) (all : List StatementTree) (i : ℕ) (before now : FolderState) (world : World) (had got : Option (List ℕ)) (paid : ℕ) (carried : IsCarried max_work all i before now world had got paid) where
+  abbrev alone : carried.steps ++ [] ≡ carried.steps
+  alone = append-nil carried.steps
 
--- the answer to the steps so far, and the state that they leave
-answer_so_far : (max_work : ℕ) (all : List StatementTree) (i : ℕ) (before now : FolderState) (world : World) (had got : Option (List ℕ)) (old paid : ℕ) (carried : IsCarried max_work all i before now world had got old paid)
-    → script_answer max_work (at_start before.files) carried.steps ≡ record { text = carried.printed; work = carried.work; refused = false }
-answer_so_far max_work all i before now world had got old paid carried =
-    ap (script_answer max_work (at_start before.files)) (sym (append-nil carried.steps)) ∙ carried.whole [] ∙ nothing_after carried.printed carried.work
+  answer_so_far : script_answer max_work (at_start before.files) carried.steps ≡ record { text = carried.printed; work = paid; refused = false }
+  answer_so_far = ap (script_answer max_work (at_start before.files)) (sym alone) ∙ carried.whole [] ∙ nothing_after carried.printed paid
 
-state_so_far : (max_work : ℕ) (all : List StatementTree) (i : ℕ) (before now : FolderState) (world : World) (had got : Option (List ℕ)) (old paid : ℕ) (carried : IsCarried max_work all i before now world had got old paid)
-    → state_after max_work (at_start before.files) carried.steps ≡ Some (state_of world now)
-state_so_far max_work all i before now world had got old paid carried = ap (state_after max_work (at_start before.files)) (sym (append-nil carried.steps)) ∙ carried.leaves []
+  state_so_far : state_after max_work (at_start before.files) carried.steps ≡ Some (state_of world now)
+  state_so_far = ap (state_after max_work (at_start before.files)) (sym alone) ∙ carried.leaves []
 
-module _ (max_work : ℕ) (all : List StatementTree) (i : ℕ) (before mid now : FolderState) (world : World) (statement : StatementTree) (file : Option (List ℕ)) (had got : Option (List ℕ)) (old paid : ℕ)
+  within_so_far : AreAnsweredWithin max_work (at_start before.files) carried.steps
+  within_so_far = subst (AreAnsweredWithin max_work (at_start before.files)) alone (carried.answered [] tt)
+
+  -- after the last statement the whole text is there
+  pub carried_all : (sink_failed : Type 0) → length all ≤ i → CarriesAll max_work sink_failed all before now status.Done had got paid
+  carried_all sink_failed past =
+      let whole : Appends had got (script_answer max_work (at_start before.files) carried.steps).text = rw answer_so_far carried.put in
+      record {
+        steps = carried.steps;
+        are = carried.are ∙ take_all i all past;
+        given = subst (AreGiven (Rose before.misses now.misses) max_work (at_start before.files)) alone (carried.given now.misses (omega arith) [] tt);
+        carries = record {
+          done = λ _. (ap (λ (a : Answer). a.refused) answer_so_far, whole);
+          refused = λ ended. cc ended;
+          beginning = whole_begins had got (script_answer max_work (at_start before.files) carried.steps).text whole;
+        };
+        whole = λ _. record {
+          files = sym (ap (files_after max_work (at_start before.files)) (sym alone) ∙ carried.files []);
+          pays = sym (ap (λ (a : Answer). a.work) answer_so_far);
+          bounds = within_so_far;
+        };
+        broken = λ other. absurd (other (inl refl));
+      }
+
+module _ (max_work : ℕ) (all : List StatementTree) (i : ℕ) (before mid now : FolderState) (world : World) (statement : StatementTree) (file : Option (List ℕ)) (had got new : Option (List ℕ)) (paid due : ℕ)
     (below : i < length all) (is : get_or all i statement ≡ statement) (first : NeverFalls before mid) (last_misses : mid.misses ≤ now.misses)
-    (carried : IsCarried max_work all i before mid world had got old paid) (given : IsGivenFor mid.files (Rose mid.misses now.misses) statement file) where
+    (carried : IsCarried max_work all i before mid world had got paid) (given : IsGivenFor mid.files (Rose mid.misses now.misses) statement file) where
   abbrev start : ScriptState
   start = at_start before.files
 
@@ -185,21 +197,19 @@ module _ (max_work : ℕ) (all : List StatementTree) (i : ℕ) (before mid now :
       carried.given last until (here ∷ rest) (given_for_wider mid.files statement file (rose_in first.misses past) given, others)
 
   -- a statement behind which the run goes on
-  pub carried_on : (next : World) (new : Option (List ℕ)) (due : ℕ) (text : List ℕ) → GoesOn what state (state_of next now) text paid due → Appends got new text → IsAnsweredWithin world statement
-      → IsCarried max_work all (i + 1) before now next had new old due
-  carried_on next new due text goes put within =
+  pub carried_on : (next : World) → LeadsOn what state (state_of next now) got new paid due → IsAnsweredWithin world statement → IsCarried max_work all (i + 1) before now next had new due
+  carried_on next goes within =
       let there = state_of next now in
       record {
         steps = carried.steps ++ here ∷ [];
         are = are_on all i carried.steps here below is carried.are;
-        printed = carried.printed ++ text;
-        work = carried.work + goes.work;
-        put = appends_on had got new carried.printed text carried.put put;
-        spent = omega (arith, goes.spent, carried.spent);
+        printed = carried.printed ++ goes.text;
+        put = Appends-trans had got new carried.printed goes.text carried.put goes.put;
         whole = λ rest.
             ap (script_answer max_work start) (one_more rest) ∙ carried.whole (here ∷ rest)
-            ∙ ap (after carried.printed carried.work) (answer_on (printed_by what) (left_by what state) text goes.work there (λ s. script_answer max_work s rest) goes.prints goes.leaves)
-            ∙ after_after carried.printed text carried.work goes.work (script_answer max_work there rest);
+            ∙ ap (after carried.printed paid) (answer_on (printed_by what) (left_by what state) goes.text goes.work there (λ s. script_answer max_work s rest) goes.prints goes.leaves)
+            ∙ after_after carried.printed goes.text paid goes.work (script_answer max_work there rest)
+            ∙ ap (λ (n : ℕ). after (carried.printed ++ goes.text) n (script_answer max_work there rest)) (sym goes.spent);
         leaves = λ rest.
             ap (state_after max_work start) (one_more rest) ∙ carried.leaves (here ∷ rest)
             ∙ ap (λ (o : Option ScriptState). option_and_then (λ s. state_after max_work s rest) o) goes.leaves;
@@ -230,127 +240,67 @@ module _ (max_work : ℕ) (all : List StatementTree) (i : ℕ) (before mid now :
       ∙ ap (λ (l : List StatementTree). l ++ drop (i + 1) all) (sym (next_statement all i statement below is))
       ∙ take-append-drop (i + 1) all
 
-  -- the state in which this statement was carried out
-  state_here : (P : ScriptState → Type 0) → P state → IsSomeAnd (state_after max_work start carried.steps) P
-  state_here P holds = subst (λ (o : Option ScriptState). IsSomeAnd o P) (sym (state_so_far max_work all i before mid world had got old paid carried)) holds
-
-  -- the run ended at this statement, which used the folder so
-  ended_here : (uses : ScriptState → StatementTree → Type 0) (new : Option (List ℕ)) → new ≡ got → uses state statement → EndsAtFolder uses max_work before.files all_steps had new
-  ended_here uses new same used = record {
-    earlier = carried.steps;
-    step = here;
-    later = others.0;
-    are = refl;
-    put = rw (answer_so_far max_work all i before mid world had got old paid carried, same) carried.put;
-    used = state_here (λ s. uses s statement) used;
-  }
-
-  part_left : (ended : Status) → LeavesThere what statement mid now world ended → LeavesPart max_work ended before now all_steps
-  part_left ended (as_before kept) = record {
-    earlier = carried.steps;
-    later = here ∷ others.0;
-    are = refl;
-    files = state_here (λ s. (now.files ≡ s.files) ⊎ (EndsAtWrite ended before now × IsFailedAt now.files s (here ∷ others.0))) (inl kept);
-  }
-  part_left ended (but_one at there) = record {
-    earlier = carried.steps;
-    later = here ∷ others.0;
-    are = refl;
-    files = state_here (λ s. (now.files ≡ s.files) ⊎ (EndsAtWrite ended before now × IsFailedAt now.files s (here ∷ others.0))) (inr ((at.0, rose_in first.write_faults (omega arith) at.1), there));
-  }
-  part_left ended (as_due next leaves) = record {
-    earlier = carried.steps ++ here ∷ [];
-    later = others.0;
-    are = sym (one_more others.0);
-    files =
-        subst (λ (o : Option ScriptState). IsSomeAnd o (λ s. (now.files ≡ s.files) ⊎ (EndsAtWrite ended before now × IsFailedAt now.files s others.0)))
-        (sym (carried.leaves (here ∷ []) ∙ ap (λ (o : Option ScriptState). option_and_then (λ s. state_after max_work s []) o) leaves)) (inl refl);
-  }
+  -- the answer to all of them begins with what is printed so far
+  answer_here : script_answer max_work start all_steps ≡ after carried.printed paid (and_then (printed_by what) (left_by what state) (λ s. script_answer max_work s others.0))
+  answer_here = carried.whole (here ∷ others.0)
 
   -- a run that ends at this statement
-  pub carried_to : (sink_failed : Type 0) (new : Option (List ℕ)) (due : ℕ) (ended : Status) → EndsAt what sink_failed statement mid now world ended got new paid due
-      → CarriesAll max_work sink_failed all before now ended had new old due
-  carried_to sink_failed new due ended ends =
-      let go : ScriptState → Answer = λ s. script_answer max_work s others.0 in
-      let there = printed_by what in
-      let whole : script_answer max_work start all_steps ≡ after carried.printed carried.work (and_then there (left_by what state) go) = carried.whole (here ∷ others.0) in
-      let more = begins there (left_by what state) go in
-      let text : (script_answer max_work start all_steps).text ≡ carried.printed ++ (there.text ++ more.0) = ap (λ (a : Answer). a.text) whole ∙ ap (λ (l : List ℕ). carried.printed ++ l) more.1 in
+  pub carried_to : (failed sink_failed : Type 0) (ended : Status) → (failed → sink_failed) → paid ≤ due → due ≤ paid + max_work → EndsAt max_work failed here state mid now got new paid due ended
+      → CarriesAll max_work sink_failed all before now ended had new due
+  carried_to failed sink_failed ended sinks least most (refuses why is_refused put spent kept) =
+      let whole : script_answer max_work start all_steps ≡ record { text = carried.printed ++ line_of why; work = paid + refused_work why; refused = true } =
+      answer_here ∙ ap (after carried.printed paid) (refused_whole what state (λ s. script_answer max_work s others.0) why is_refused) in
+      let none : left_by what state ≡ None = ap (λ (o : Outcome). left_by o state) is_refused in
+      let text : Appends had new (script_answer max_work start all_steps).text = rw whole (Appends-trans had got new carried.printed (line_of why) carried.put put) in
       record {
         steps = all_steps;
         are = all_are;
         given = given_here now.misses (omega arith) others.0 others.2;
         carries = record {
-          done = λ e. absurd (ends.not_done e);
-          refused = λ e.
-              let due_whole : script_answer max_work start all_steps ≡ record { text = carried.printed ++ there.text; work = carried.work + there.work; refused = true } =
-              whole ∙ ap (after carried.printed carried.work) (refused_whole what state go (ends.refused e).0) in
-              (ap (λ (a : Answer). a.refused) due_whole, rw due_whole (appends_on had got new carried.printed there.text carried.put (ends.refused e).1));
+          done = λ e. cc e;
+          refused = λ _. (ap (λ (a : Answer). a.refused) whole, text);
+          beginning = whole_begins had new (script_answer max_work start all_steps).text text;
+        };
+        whole = λ _. record {
+          files = kept ∙ sym (carried.files (here ∷ others.0) ∙ ap (λ (o : Option ScriptState). option_map_or (λ s. files_after max_work s others.0) o mid.files) none);
+          pays = spent ∙ sym (ap (λ (a : Answer). a.work) whole);
+          bounds = carried.answered (here ∷ others.0) (subst (λ (o : Option ScriptState). IfSome o (λ s. IsAnsweredWithin world statement × AreAnsweredWithin max_work s others.0)) (sym none) tt);
+        };
+        broken = λ other. absurd (other (inr refl));
+      }
+  carried_to failed sink_failed ended sinks least most (breaks _ part put cause) =
+      let there = printed_by what in
+      let more = begins there (left_by what state) (λ s. script_answer max_work s others.0) in
+      let text : (script_answer max_work start all_steps).text ≡ carried.printed ++ (there.text ++ more.0) = ap (λ (a : Answer). a.text) answer_here ∙ ap (λ (l : List ℕ). carried.printed ++ l) more.1 in
+      let here_is = cause others.0 in
+      let of_next = breaks_part here_is in
+      let out : Appends had new (carried.printed ++ part) = Appends-trans had got new carried.printed part carried.put put in
+      let so_far = answer_so_far max_work all i before mid world had got paid carried in
+      let work : (script_answer max_work start carried.steps).work ≡ paid = ap (λ (a : Answer). a.work) so_far in
+      record {
+        steps = all_steps;
+        are = all_are;
+        given = given_here now.misses (omega arith) others.0 others.2;
+        carries = record {
+          done = λ e. absurd (breaks_not_due here_is (inl e));
+          refused = λ e. absurd (breaks_not_due here_is (inr e));
           beginning = (
-            length carried.printed + min ends.beginning.0 (length there.text),
-            rw (text, cut ends.beginning.0 carried.printed there.text more.0) (appends_on had got new carried.printed (take ends.beginning.0 there.text) carried.put ends.beginning.1),
+            length carried.printed + min of_next.0 (length there.text),
+            rw (text, cut of_next.0 carried.printed there.text more.0, ← of_next.1) out,
           );
         };
-        read_fault = λ e. ended_here AsksThere new (ends.read_fault e).1 (ends.read_fault e).0;
-        write_fault = λ e. elim (ends.write_fault e) [
-          | inl sink ↦ inl sink
-          | inr folder ↦ inr (rose_in first.write_faults (omega arith) folder.0, ended_here (FailsThere now.files) new folder.2 folder.1)
-        ];
-        files = record {
-          due = λ e. elim e [
-            | inl done ↦ absurd (ends.not_done done)
-            | inr refused ↦
-                ends.kept refused
-                ∙ sym (carried.files (here ∷ others.0) ∙ ap (λ (o : Option ScriptState). option_map_or (λ s. files_after max_work s others.0) o mid.files) (none_left what state (ends.refused refused).0))
-          ];
-          part = part_left ended ends.leaves;
-        };
-        pays = record {
-          done = λ e. absurd (ends.not_done e);
-          refused = λ e.
-              let work : (script_answer max_work start all_steps).work ≡ carried.work + there.work =
-              ap (λ (a : Answer). a.work) (whole ∙ ap (after carried.printed carried.work) (refused_whole what state go (ends.refused e).0)) in
-              omega (arith, work, carried.spent, ends.paid e);
-        };
-        bounds = λ e. elim e [
-          | inl done ↦ absurd (ends.not_done done)
-          | inr refused ↦
-              carried.answered (here ∷ others.0)
-              (subst (λ (o : Option ScriptState). IfSome o (λ s. IsAnsweredWithin world statement × AreAnsweredWithin max_work s others.0)) (sym (none_left what state (ends.refused refused).0)) tt)
-        ];
-      }
-
--- after the last statement the whole text is there
-pub carried_all : (max_work : ℕ) (sink_failed : Type 0) (all : List StatementTree) (i : ℕ) (before now : FolderState) (world : World) (had got : Option (List ℕ)) (old paid : ℕ) → length all ≤ i
-    → IsCarried max_work all i before now world had got old paid → CarriesAll max_work sink_failed all before now status.Done had got old paid
-carried_all max_work sink_failed all i before now world had got old paid past carried =
-    let start = at_start before.files in
-    let is = answer_so_far max_work all i before now world had got old paid carried in
-    let whole : Appends had got (script_answer max_work start carried.steps).text = rw is carried.put in
-    let last = append-nil carried.steps in
-    record {
-      steps = carried.steps;
-      are = carried.are ∙ take_all i all past;
-      given = subst (AreGiven (Rose before.misses now.misses) max_work start) last (carried.given now.misses (omega arith) [] tt);
-      carries = record {
-        done = λ _. (ap (λ (a : Answer). a.refused) is, whole);
-        refused = λ ended. cc ended;
-        beginning = whole_begins had got (script_answer max_work start carried.steps).text whole;
-      };
-      read_fault = λ ended. cc ended;
-      write_fault = λ ended. cc ended;
-      files = record {
-        due = λ _. sym (ap (files_after max_work start) (sym last) ∙ carried.files []);
-        part = record {
+        whole = λ e. absurd (breaks_not_due here_is e);
+        broken = λ _. record {
           earlier = carried.steps;
-          later = [];
-          are = sym last;
-          files = subst (λ (o : Option ScriptState). IsSomeAnd o (λ s. (now.files ≡ s.files) ⊎ (EndsAtWrite status.Done before now × ⊥))) (sym (state_so_far max_work all i before now world had got old paid carried)) (inl refl);
+          later = here ∷ others.0;
+          are = refl;
+          state = state;
+          reached = state_so_far max_work all i before mid world had got paid carried;
+          part = part;
+          cause = breaks_in sinks first here_is;
+          put = rw so_far out;
+          least = omega (arith, work, least);
+          most = omega (arith, work, most);
+          bounds = within_so_far max_work all i before mid world had got paid carried;
         };
-      };
-      pays = record {
-        done = λ _. let work : (script_answer max_work start carried.steps).work ≡ carried.work = ap (λ (a : Answer). a.work) is in omega (arith, work, carried.spent);
-        refused = λ ended. cc ended;
-      };
-      bounds = λ _. subst (AreAnsweredWithin max_work start) last (carried.answered [] tt);
-    }
+      }

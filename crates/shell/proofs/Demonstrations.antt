@@ -27,7 +27,7 @@ module _ (max_work number : ℕ) (sink_failed : Type 0) (ended : Status) (had go
   }
 
 -- there was no memory for its folder
-pub demonstrates_nothing : (max_work number : ℕ) (sink_failed : Type 0) (had : Option (List ℕ)) (paid : ℕ) → Demonstrates max_work number sink_failed status.NoMemory had had paid
-demonstrates_nothing max_work number sink_failed had paid =
+pub demonstrates_nothing : (max_work number : ℕ) (sink_failed : Type 0) (had : Option (List ℕ)) (paid : ℕ) → paid ≡ 0 → Demonstrates max_work number sink_failed status.NoMemory had had paid
+demonstrates_nothing max_work number sink_failed had paid unpaid =
     demonstrates_by max_work number sink_failed status.NoMemory had had paid (demo_folder number) refl refl (λ is. cc is) (λ is. cc is) (λ is. cc is)
-    (serves_nothing max_work ⊥ sink_failed demo_script (demo_folder number) status.NoMemory had paid (inr refl) (λ is. cc is))
+    (serves_nothing max_work ⊥ sink_failed demo_script (demo_folder number) status.NoMemory had paid unpaid (inr refl))

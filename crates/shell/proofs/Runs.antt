@@ -1,7 +1,8 @@
 -- What is said of a whole run of the program.
 use Rattle.std.proofs.Common.{◌≡◌, ◌⊎◌, inl, inr, ℕ, ◌≤◌, List, [], length, take, drop, Option, Some, None, refl, sym, ap, ◌∙◌, subst, arith}
 use Rattle.std.specs.Prelude.{IfSome, IsSome, Result, Ok, Err, IfOk}
-use Rattle.std.specs.Io.KnownBytes.{Appends}
+use Rattle.std.specs.Io.KnownBytes.{Appends, Keeps}
+use Rattle.std.proofs.KnownBytes.{Appends-nil}
 use Rattle.std.proofs.lemmas.List.{drop_all, length-take}
 use Rattle.outside_io.specs.Count.{Rose}
 use Rattle.outside_io.specs.Files.{FolderState}
@@ -12,37 +13,21 @@ use Rattle.session.specs.Refusal.{line_of}
 use Rattle.shell.specs.declared.status.Status.{Status}
 use Rattle.shell.specs.declared.status.Status.TheVariants as status
 use Rattle.shell.specs.Script.{Answer, AreGiven, Step, answer_of, at_start}
-use Rattle.shell.specs.Serve.{IsScript, IsAnswer, LeavesFiles, Serves, IsDecided, HasReadCause, statements_read}
+use Rattle.shell.specs.Serve.{BreaksOffLine, EndsAsDue, IsScript, IsAnswer, Serves, IsDecided, statements_read}
 use Rattle.shell.specs.Due.{CarriesAll}
 use Rattle.shell.specs.Source.{TakesAtMost}
-use Rattle.shell.proofs.Beginning.{IsRefused, refused_not_done, refused_not_read}
-use Rattle.shell.proofs.Carrying.{appends_none}
+use Rattle.shell.proofs.Beginning.{IsRefused, refused_not_done}
+use Rattle.shell.proofs.Carrying.{breaks_cause}
 use Rattle.shell.proofs.Steps.{any_steps, one_script_answer}
 use Rattle.shell.proofs.Scripts.{enough, some_reading, one_reading, reads_whole, reads_cut}
 
--- the run ended before anything was carried out
-abbrev pub EndsBefore : Status → Type 0
-EndsBefore ended = (ended ≡ status.ReadFault) ⊎ (ended ≡ status.NoMemory)
+-- the source failed, or memory was out, before the script was read
+abbrev pub EndsUnread : (source_failed : Type 0) → Status → Type 0
+EndsUnread source_failed ended = ((ended ≡ status.ReadFault) × source_failed) ⊎ (ended ≡ status.NoMemory)
 
-not_done : (ended : Status) → EndsBefore ended → ended ≡ status.Done → ⊥
-not_done ended (inl fault) is = cc (fault, is)
-not_done ended (inr memory) is = cc (memory, is)
-
-not_refused : (ended : Status) → EndsBefore ended → ended ≡ status.Refused → ⊥
-not_refused ended (inl fault) is = cc (fault, is)
-not_refused ended (inr memory) is = cc (memory, is)
-
-not_write : (ended : Status) → EndsBefore ended → ended ≡ status.WriteFault → ⊥
-not_write ended (inl fault) is = cc (fault, is)
-not_write ended (inr memory) is = cc (memory, is)
-
--- no step was carried out, and the folder holds what it held
-leaves_all : (max_work : ℕ) (folder : FolderState) (ended : Status) → EndsBefore ended → (steps : Result (List Step) Refusal) → IfOk steps (LeavesFiles max_work ended folder folder)
-leaves_all max_work folder ended before (Err why) = tt
-leaves_all max_work folder ended before (Ok steps) = record {
-  due = λ e. elim e [ inl is ↦ absurd (not_done ended before is) | inr is ↦ absurd (not_refused ended before is) ];
-  part = record { earlier = []; later = steps; are = refl; files = inl refl };
-}
+unread_not_due : (source_failed : Type 0) (ended : Status) → EndsUnread source_failed ended → ¬ EndsAsDue ended
+unread_not_due source_failed ended (inl fault) due = elim due [ inl done ↦ cc (fault.0, done) | inr refused ↦ cc (fault.0, refused) ]
+unread_not_due source_failed ended (inr memory) due = elim due [ inl done ↦ cc (memory, done) | inr refused ↦ cc (memory, refused) ]
 
 -- an answer is due to each script
 answer_for : (max_work : ℕ) (script : List ℕ) (before after : FolderState) (read : Result (List StatementTree) Refusal) → IsScript script read → (answer : Answer) × IsAnswer max_work script before after answer
@@ -51,50 +36,58 @@ answer_for max_work script before after (Ok statements) reads =
     let steps = any_steps (Rose before.misses after.misses) max_work statements (at_start before.files) in
     (answer_of max_work before.files (Ok steps.0), record { steps = Ok steps.0; reads = subst (λ (l : List StatementTree). IsScript script (Ok l)) (sym steps.1) reads; given = steps.2; is = refl })
 
-pub serves_nothing : (max_work : ℕ) (source_failed sink_failed : Type 0) (script : List ℕ) (folder : FolderState) (ended : Status) (had : Option (List ℕ)) (paid : ℕ) → EndsBefore ended → (ended ≡ status.ReadFault → source_failed)
+pub serves_nothing : (max_work : ℕ) (source_failed sink_failed : Type 0) (script : List ℕ) (folder : FolderState) (ended : Status) (had : Option (List ℕ)) (paid : ℕ) → paid ≡ 0 → EndsUnread source_failed ended
     → Serves max_work source_failed sink_failed script folder folder ended had had paid
-serves_nothing max_work source_failed sink_failed script folder ended had paid before fault =
+serves_nothing max_work source_failed sink_failed script folder ended had paid unpaid cause =
     let read = some_reading script in
     let due = answer_for max_work script folder folder read.0 read.1 in
+    let other = unread_not_due source_failed ended cause in
     record {
       answer = due.0;
       due = due.1;
-      carries = record {
-        done = λ is. absurd (not_done ended before is);
-        refused = λ is. absurd (not_refused ended before is);
-        beginning = (0, appends_none had);
-      };
-      read_fault = λ is. inl (fault is, refl, refl);
-      write_fault = λ is. absurd (not_write ended before is);
-      files = leaves_all max_work folder ended before due.1.steps;
-      pays = record { done = λ is. absurd (not_done ended before is); refused = λ is. absurd (not_refused ended before is) };
-      bounds = λ e. elim e [ inl is ↦ absurd (not_done ended before is) | inr is ↦ absurd (not_refused ended before is) ];
+      carries = record { done = λ is. absurd (other (inl is)); refused = λ is. absurd (other (inr is)); beginning = (0, Appends-nil had) };
+      whole = λ is. absurd (other is);
+      broken = λ _. inl (record { cause = cause; folder = refl; sink = refl; unpaid = unpaid });
     }
 
-pub known_nothing : (max_work : ℕ) (source_failed sink_failed : Type 0) (source : Option (List ℕ)) (folder : FolderState) (ended : Status) (had : Option (List ℕ)) (paid : ℕ) → EndsBefore ended → (ended ≡ status.ReadFault → source_failed)
+pub known_nothing : (max_work : ℕ) (source_failed sink_failed : Type 0) (source : Option (List ℕ)) (folder : FolderState) (ended : Status) (had : Option (List ℕ)) (paid : ℕ) → paid ≡ 0 → EndsUnread source_failed ended
     → IfSome source (λ script. Serves max_work source_failed sink_failed script folder folder ended had had paid)
-known_nothing max_work source_failed sink_failed None folder ended had paid before fault = tt
-known_nothing max_work source_failed sink_failed (Some script) folder ended had paid before fault = serves_nothing max_work source_failed sink_failed script folder ended had paid before fault
+known_nothing max_work source_failed sink_failed None folder ended had paid unpaid cause = tt
+known_nothing max_work source_failed sink_failed (Some script) folder ended had paid unpaid cause = serves_nothing max_work source_failed sink_failed script folder ended had paid unpaid cause
 
 -- statements that were carried out are those of the script
 pub serves_statements : (max_work : ℕ) (sink_failed : Type 0) (script : List ℕ) (statements : List StatementTree) (before after : FolderState) (ended : Status) (had got : Option (List ℕ)) (paid : ℕ) → IsScript script (Ok statements)
-    → CarriesAll max_work sink_failed statements before after ended had got 0 paid → (ended ≡ status.ReadFault → Rose before.read_faults after.read_faults) → Serves max_work ⊥ sink_failed script before after ended had got paid
-serves_statements max_work sink_failed script statements before after ended had got paid reads carried rose = record {
+    → CarriesAll max_work sink_failed statements before after ended had got paid → Serves max_work ⊥ sink_failed script before after ended had got paid
+serves_statements max_work sink_failed script statements before after ended had got paid reads carried = record {
   answer = answer_of max_work before.files (Ok carried.steps);
   due = record { steps = Ok carried.steps; reads = subst (λ (l : List StatementTree). IsScript script (Ok l)) (sym carried.are) reads; given = carried.given; is = refl };
   carries = carried.carries;
-  read_fault = λ is. inr (rose is, carried.read_fault is);
-  write_fault = carried.write_fault;
-  files = carried.files;
-  pays = carried.pays;
-  bounds = carried.bounds;
+  whole = carried.whole;
+  broken = λ other. inr (carried.broken other, tt);
 }
 
--- the line of a script that is refused whole, for which nothing is paid
+-- a fault has its cause
+pub cause_read : (max_work : ℕ) (sink_failed : Type 0) (statements : List StatementTree) (before after : FolderState) (ended : Status) (had got : Option (List ℕ)) (paid : ℕ) → CarriesAll max_work sink_failed statements before after ended had got paid
+    → ended ≡ status.ReadFault → Rose before.read_faults after.read_faults
+cause_read max_work sink_failed statements before after ended had got paid carried is =
+    (breaks_cause (carried.broken (λ due. elim due [ inl done ↦ cc (is, done) | inr refused ↦ cc (is, refused) ])).cause).0 is
+
+pub cause_write : (max_work : ℕ) (sink_failed : Type 0) (statements : List StatementTree) (before after : FolderState) (ended : Status) (had got : Option (List ℕ)) (paid : ℕ) → CarriesAll max_work sink_failed statements before after ended had got paid
+    → ended ≡ status.WriteFault → sink_failed ⊎ Rose before.write_faults after.write_faults
+cause_write max_work sink_failed statements before after ended had got paid carried is =
+    (breaks_cause (carried.broken (λ due. elim due [ inl done ↦ cc (is, done) | inr refused ↦ cc (is, refused) ])).cause).1 is
+
+-- the line of a script that is refused whole was put, whole or in part
+line_broke : (sink_failed : Type 0) (line : List ℕ) (folder : FolderState) (ended : Status) (had got : Option (List ℕ)) (paid : ℕ) → paid ≡ 0 → IsRefused ended → ((n : ℕ) × Appends had got (take n line)) → (ended ≡ status.NoMemory → Keeps had got)
+    → (ended ≡ status.WriteFault → sink_failed) → ¬ EndsAsDue ended → BreaksOffLine sink_failed ended folder folder had got paid line
+line_broke sink_failed line folder ended had got paid unpaid (inl refused) part nothing sink other = absurd (other (inr refused))
+line_broke sink_failed line folder ended had got paid unpaid (inr (inl fault)) part nothing sink other = record { put = inl (fault, sink fault, part); folder = refl; unpaid = unpaid }
+line_broke sink_failed line folder ended had got paid unpaid (inr (inr memory)) part nothing sink other = record { put = inr (memory, nothing memory); folder = refl; unpaid = unpaid }
+
 pub serves_refusal : (max_work : ℕ) (sink_failed : Type 0) (script : List ℕ) (why : Refusal) (folder : FolderState) (ended : Status) (had got : Option (List ℕ)) (paid : ℕ) → paid ≡ 0 → IsScript script (Err why)
-    → (ended ≡ status.Refused → Appends had got (line_of why)) → ((n : ℕ) × Appends had got (take n (line_of why))) → IsRefused ended → (ended ≡ status.WriteFault → sink_failed)
+    → (ended ≡ status.Refused → Appends had got (line_of why)) → ((n : ℕ) × Appends had got (take n (line_of why))) → (ended ≡ status.NoMemory → Keeps had got) → IsRefused ended → (ended ≡ status.WriteFault → sink_failed)
     → Serves max_work ⊥ sink_failed script folder folder ended had got paid
-serves_refusal max_work sink_failed script why folder ended had got paid unpaid reads whole part kinds sink = record {
+serves_refusal max_work sink_failed script why folder ended had got paid unpaid reads whole part nothing kinds sink = record {
   answer = answer_of max_work folder.files (Err why);
   due = record { steps = Err why; reads = reads; given = tt; is = refl };
   carries = record {
@@ -102,17 +95,14 @@ serves_refusal max_work sink_failed script why folder ended had got paid unpaid 
     refused = λ is. (refl, whole is);
     beginning = part;
   };
-  read_fault = λ is. absurd (refused_not_read ended kinds is);
-  write_fault = λ is. inl (sink is);
-  files = tt;
-  pays = record { done = λ is. absurd (refused_not_done ended kinds is); refused = λ _. omega (arith, unpaid) };
-  bounds = λ _. tt;
+  whole = λ _. record { files = tt; pays = unpaid; bounds = tt };
+  broken = λ other. inr (tt, line_broke sink_failed (line_of why) folder ended had got paid unpaid kinds part nothing sink other);
 }
 
--- what caused a fault where the source didn't fail
-from_folder : (max_work : ℕ) (source_failed : Type 0) (steps : Result (List Step) Refusal) (before after : FolderState) (had got : Option (List ℕ)) → HasReadCause max_work ⊥ steps before after had got → HasReadCause max_work source_failed steps before after had got
-from_folder max_work source_failed steps before after had got (inl none) = absurd none.0
-from_folder max_work source_failed steps before after had got (inr read) = inr read
+-- a source that never fails fails as another does
+unread_of : (source_failed : Type 0) (ended : Status) → EndsUnread ⊥ ended → EndsUnread source_failed ended
+unread_of source_failed ended (inl none) = absurd none.1
+unread_of source_failed ended (inr memory) = inr memory
 
 -- a run over what was read is a run over the whole
 pub known_whole : (max_work : ℕ) (source_failed sink_failed : Type 0) (source : Option (List ℕ)) (before after : FolderState) (bytes : List ℕ) (ended : Status) (had got : Option (List ℕ)) (paid : ℕ) → IfSome source (λ left. bytes ≡ take enough left)
@@ -124,11 +114,11 @@ known_whole max_work source_failed sink_failed (Some left) before after bytes en
       answer = on.answer;
       due = record { steps = on.due.steps; reads = reads_whole left (statements_read on.due.steps) on.due.reads; given = on.due.given; is = on.due.is };
       carries = on.carries;
-      read_fault = λ is. from_folder max_work source_failed on.due.steps before after had got (on.read_fault is);
-      write_fault = on.write_fault;
-      files = on.files;
-      pays = on.pays;
-      bounds = on.bounds;
+      whole = on.whole;
+      broken = λ other. elim (on.broken other) [
+        | inl unread ↦ inl (record { cause = unread_of source_failed ended unread.cause; folder = unread.folder; sink = unread.sink; unpaid = unread.unpaid })
+        | inr off ↦ inr off
+      ];
     }
 
 -- what holds where what was read is refused whole holds where the script is

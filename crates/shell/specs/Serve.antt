@@ -1,6 +1,6 @@
 -- What is due to a script, and what a run of the program did of it.
-use Rattle.std.specs.Prelude.{◌≡◌, ◌⊎◌, ℕ, ◌+◌, ◌<◌, ◌≤◌, true, false, List, [], ◌∷◌, ◌++◌, take, length, map, codes, Option, Some, Result, Ok, Err, IfOk, IsOkAnd, IsSomeAnd, if◌then◌else◌}
-use Rattle.std.specs.Io.KnownBytes.{Appends}
+use Rattle.std.specs.Prelude.{◌≡◌, ◌≢◌, ◌⊎◌, ℕ, ◌+◌, ◌<◌, ◌≤◌, true, false, List, [], ◌∷◌, ◌++◌, take, length, map, codes, Option, Some, Result, Ok, Err, IfOk, IfErr, if◌then◌else◌}
+use Rattle.std.specs.Io.KnownBytes.{Appends, Keeps}
 use Rattle.outside_io.specs.Count.{Rose}
 use Rattle.outside_io.specs.Files.{Files, FolderState}
 use Rattle.sql_lex.specs.declared.token.Token.{Token}
@@ -10,12 +10,13 @@ use Rattle.sql_parse.specs.Trees.{StatementTree}
 use Rattle.sql_parse.specs.Script.{AreStatements, IsFirstRefused}
 use Rattle.sql_values.specs.Limits.{max_script_bytes}
 use Rattle.sql_values.specs.declared.limit.LimitName.TheVariants as limit
+use Rattle.session.specs.Refusal.{line_of}
 use Rattle.session.specs.Returns.{FailsToWrite}
 use Rattle.session.specs.Statements.{AsksForFile}
 use Rattle.session.specs.declared.refusal.Refusal.{Refusal}
 use Rattle.session.specs.declared.refusal.Refusal.TheVariants as refusal
 use Rattle.demo_data.specs.Demo.{demo_files, demo_script}
-use Rattle.shell.specs.Script.{Answer, AreAnsweredWithin, AreGiven, ScriptState, Step, answer_of, at_start, files_after, script_answer, state_after}
+use Rattle.shell.specs.Script.{Answer, AreAnsweredWithin, AreGiven, ScriptState, Step, answer_of, at_start, files_after, printed_by, script_answer, state_after, step_outcome}
 use Rattle.shell.specs.declared.status.Status.{Status}
 use Rattle.shell.specs.declared.status.Status.TheVariants as status
 
@@ -68,73 +69,80 @@ pub record Carries (answer : Answer) (ended : Status) (old new : Option (List �
 abbrev pub EndsAsDue : Status → Type 0
 EndsAsDue ended = (ended ≡ status.Done) ⊎ (ended ≡ status.Refused)
 
--- where it did, exactly the work that the text prints was paid
-pub record PaysFor (answer : Answer) (ended : Status) (old new : ℕ) : Type 0 where
-  pub done : ended ≡ status.Done → new ≡ old + answer.work
-  pub refused : ended ≡ status.Refused → new ≡ old + answer.work
+-- a run that ended so: the folder holds what the steps leave, exactly the work that the text prints was paid, and each query
+-- was answered within its bound
+pub record EndsWhole (max_work : ℕ) (old new : FolderState) (answer : Answer) (paid : ℕ) (steps : Result (List Step) Refusal) : Type 0 where
+  pub files : IfOk steps (λ these. new.files ≡ files_after max_work (at_start old.files) these)
+  pub pays : paid ≡ answer.work
+  pub bounds : IfOk steps (AreAnsweredWithin max_work (at_start old.files))
 
--- a run of these steps that ended at the folder: the text of those before one of them went out whole and nothing more, and
--- in the state that they leave this one is such as to use the folder so
-pub record EndsAtFolder (uses : ScriptState → StatementTree → Type 0) (max_work : ℕ) (files : Option Files) (steps : List Step) (old new : Option (List ℕ)) : Type 0 where
-  pub earlier : List Step
-  pub step : Step
-  pub later : List Step
-  pub are : steps ≡ earlier ++ step ∷ later
-  pub put : Appends old new (script_answer max_work (at_start files) earlier).text
-  pub used : IsSomeAnd (state_after max_work (at_start files) earlier) (λ state. uses state step.statement)
+-- a run that broke off before the script was read: the source failed, or memory was out; nothing was done
+pub record IsUnread (source_failed : Type 0) (ended : Status) (old new : FolderState) (before after : Option (List ℕ)) (paid : ℕ) : Type 0 where
+  pub cause : ((ended ≡ status.ReadFault) × source_failed) ⊎ (ended ≡ status.NoMemory)
+  pub folder : new ≡ old
+  pub sink : after ≡ before
+  pub unpaid : paid ≡ 0
 
--- it asks for a file; it writes a file, which may hold anything now, and the folder holds what it held otherwise
-abbrev pub AsksThere : ScriptState → StatementTree → Type 0
-AsksThere state statement = AsksForFile state.world statement
+-- the text that the first of these steps puts in this state: what it prints, or the line of its refusal
+abbrev pub next_text : (max_work : ℕ) → ScriptState → List Step → List ℕ
+next_text max_work state [] = []
+next_text max_work state (step ∷ later) = (printed_by (step_outcome max_work state step)).text
 
-abbrev pub FailsThere : (left : Option Files) → ScriptState → StatementTree → Type 0
-FailsThere left state statement = FailsToWrite state.world statement state.files left
+-- it asks for a file
+abbrev pub AsksNext : ScriptState → List Step → Type 0
+AsksNext state [] = ⊥
+AsksNext state (step ∷ later) = AsksForFile state.world step.statement
 
--- what a fault of reading came from: the source failed, before anything was carried out; or a read of the folder did
-abbrev pub HasReadCause : (max_work : ℕ) (source_failed : Type 0) → Result (List Step) Refusal → (old new : FolderState) → (before after : Option (List ℕ)) → Type 0
-HasReadCause max_work source_failed steps old new before after =
-    (source_failed × (new ≡ old) × (after ≡ before))
-    ⊎ (Rose old.read_faults new.read_faults × IsOkAnd steps (λ these. EndsAtFolder AsksThere max_work old.files these before after))
+-- it writes a file, which may hold anything now, and the folder holds what it held otherwise
+abbrev pub FailsNext : (left : Option Files) → ScriptState → List Step → Type 0
+FailsNext left state [] = ⊥
+FailsNext left state (step ∷ later) = FailsToWrite state.world step.statement state.files left
 
--- what a fault of writing came from: the sink failed; or a write of the folder did
-abbrev pub HasWriteCause : (max_work : ℕ) (sink_failed : Type 0) → Result (List Step) Refusal → (old new : FolderState) → (before after : Option (List ℕ)) → Type 0
-HasWriteCause max_work sink_failed steps old new before after =
-    sink_failed
-    ⊎ (Rose old.write_faults new.write_faults × IsOkAnd steps (λ these. EndsAtFolder (FailsThere new.files) max_work old.files these before after))
+-- why a run broke off in front of these steps, how it ended, and which part of the next one's text went out: a beginning where
+-- the sink failed, and else nothing. The folder holds what the steps before leave, but for a file that couldn't be written
+pub data BreaksBefore (max_work : ℕ) (sink_failed : Type 0) (old new : FolderState) (state : ScriptState) (later : List Step) : Status → (part : List ℕ) → Type 0 where
+  no_read : Rose old.read_faults new.read_faults → AsksNext state later → new.files ≡ state.files
+      → BreaksBefore max_work sink_failed old new state later status.ReadFault []
+  no_write : Rose old.write_faults new.write_faults → FailsNext new.files state later
+      → BreaksBefore max_work sink_failed old new state later status.WriteFault []
+  no_put : sink_failed → next_text max_work state later ≢ [] → new.files ≡ state.files → (n : ℕ)
+      → BreaksBefore max_work sink_failed old new state later status.WriteFault (take n (next_text max_work state later))
+  no_memory : new.files ≡ state.files
+      → BreaksBefore max_work sink_failed old new state later status.NoMemory []
 
--- the next step is one whose file could not be written
-abbrev pub IsFailedAt : (left : Option Files) → ScriptState → List Step → Type 0
-IsFailedAt left state [] = ⊥
-IsFailedAt left state (step ∷ later) = FailsThere left state step.statement
-
--- a write of the folder failed, and the run ended there
-abbrev pub EndsAtWrite : (ended : Status) → (old new : FolderState) → Type 0
-EndsAtWrite ended old new = (ended ≡ status.WriteFault) × Rose old.write_faults new.write_faults
-
--- the folder holds what some of the steps leave, the first ones; or, where a write of it failed, all but the file of the next
-pub record LeavesPart (max_work : ℕ) (ended : Status) (old new : FolderState) (steps : List Step) : Type 0 where
+-- a run that broke off among these steps: the texts of the earlier ones, none of which is refused, went out whole, and that part
+-- behind them; what was paid is at least their work, and at most that of one query more; each query among them was answered
+-- within its bound
+pub record BreaksOff (max_work : ℕ) (sink_failed : Type 0) (ended : Status) (old new : FolderState) (before after : Option (List ℕ)) (paid : ℕ) (steps : List Step) : Type 0 where
   pub earlier : List Step
   pub later : List Step
   pub are : steps ≡ earlier ++ later
-  pub files : IsSomeAnd (state_after max_work (at_start old.files) earlier) (λ state. (new.files ≡ state.files) ⊎ (EndsAtWrite ended old new × IsFailedAt new.files state later))
+  pub state : ScriptState
+  pub reached : state_after max_work (at_start old.files) earlier ≡ Some state
+  pub part : List ℕ
+  pub cause : BreaksBefore max_work sink_failed old new state later ended part
+  pub put : Appends before after ((script_answer max_work (at_start old.files) earlier).text ++ part)
+  pub least : (script_answer max_work (at_start old.files) earlier).work ≤ paid
+  pub most : paid ≤ (script_answer max_work (at_start old.files) earlier).work + max_work
+  pub bounds : AreAnsweredWithin max_work (at_start old.files) earlier
 
--- what a run left in the folder: what the steps leave, where it ended as the text does; what a part of them leaves, in any case
-pub record LeavesFiles (max_work : ℕ) (ended : Status) (old new : FolderState) (steps : List Step) : Type 0 where
-  pub due : EndsAsDue ended → new.files ≡ files_after max_work (at_start old.files) steps
-  pub part : LeavesPart max_work ended old new steps
+-- a run that broke off at the line of a script that is refused whole: a beginning of it went out where the sink failed, and
+-- else nothing; nothing else was done
+pub record BreaksOffLine (sink_failed : Type 0) (ended : Status) (old new : FolderState) (before after : Option (List ℕ)) (paid : ℕ) (line : List ℕ) : Type 0 where
+  pub put : ((ended ≡ status.WriteFault) × sink_failed × ((n : ℕ) × Appends before after (take n line))) ⊎ ((ended ≡ status.NoMemory) × Keeps before after)
+  pub folder : new ≡ old
+  pub unpaid : paid ≡ 0
 
--- the run carried out the script's statements, up to and with the first refusal, or a part of them; each fault has its cause;
--- the folder holds what they leave; and where the run ended as the text does, exactly the work that is printed was paid, and
--- each query was answered within its bound
+-- an answer is due to the script; a run that ended as its text does did all of it, and every other broke off before the script
+-- was read, among its steps or at the line that refuses it
 pub record Serves (max_work : ℕ) (source_failed sink_failed : Type 0) (script : List ℕ) (old new : FolderState) (ended : Status) (before after : Option (List ℕ)) (paid : ℕ) : Type 0 where
   pub answer : Answer
   pub due : IsAnswer max_work script old new answer
   pub carries : Carries answer ended before after
-  pub read_fault : ended ≡ status.ReadFault → HasReadCause max_work source_failed due.steps old new before after
-  pub write_fault : ended ≡ status.WriteFault → HasWriteCause max_work sink_failed due.steps old new before after
-  pub files : IfOk due.steps (LeavesFiles max_work ended old new)
-  pub pays : PaysFor answer ended 0 paid
-  pub bounds : EndsAsDue ended → IfOk due.steps (AreAnsweredWithin max_work (at_start old.files))
+  pub whole : EndsAsDue ended → EndsWhole max_work old new answer paid due.steps
+  pub broken : ¬ EndsAsDue ended → IsUnread source_failed ended old new before after paid
+      ⊎ (IfOk due.steps (BreaksOff max_work sink_failed ended old new before after paid)
+      × IfErr due.steps (λ why. BreaksOffLine sink_failed ended old new before after paid (line_of why)))
 
 -- the run ended as the script's text does, or out of memory
 pub record IsDecided (max_work : ℕ) (script : List ℕ) (old new : FolderState) (ended : Status) : Type 0 where

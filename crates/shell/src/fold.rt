@@ -38,6 +38,7 @@ fn carry_out_one<F: Folder, K: Sink>(
         book.old book.new result (K.got sink.old) (K.got sink.new) }
     ensures kinds { IfErr result (λ ended. ended ≢ Status.BadWords) }
     ensures within { book.new ≤ book.old + max_work }
+    ensures never_falls { book.old ≤ book.new }
     ensures sink { K.faults sink.old ≤ K.faults sink.new }
 {
     match session.carry_out(alloc, max_work, statement, folder, book) {
@@ -68,11 +69,9 @@ fn carry_out_each<F: Folder, K: Sink>(
     requires most { max_work ≤ 2 ^ 62 }
     ensures carries { CarriesAll max_work (Rose (K.faults sink.old) (K.faults sink.new))
         (map statement_tree statements.now) (F.state folder.old) (F.state folder.new) result
-        (K.got sink.old) (K.got sink.new) book.old book.new }
+        (K.got sink.old) (K.got sink.new) book.new }
     ensures kinds { result ≢ Status.BadWords }
     ensures folder { NeverFalls (F.state folder.old) (F.state folder.new) }
-    ensures read_fault { result ≡ Status.ReadFault →
-        Rose (F.state folder.old).read_faults (F.state folder.new).read_faults }
     ensures sink { K.faults sink.old ≤ K.faults sink.new }
 {
     for statement in statements {
@@ -101,11 +100,9 @@ pub(crate) fn carry_out_all<F: Folder, K: Sink>(
     requires most { max_work ≤ 2 ^ 62 }
     ensures carries { CarriesAll max_work (Rose (K.faults sink.old) (K.faults sink.new))
         (map statement_tree statements.now) (F.state folder.old) (F.state folder.new) result
-        (K.got sink.old) (K.got sink.new) book.old book.new }
+        (K.got sink.old) (K.got sink.new) book.new }
     ensures kinds { result ≢ Status.BadWords }
     ensures folder { NeverFalls (F.state folder.old) (F.state folder.new) }
-    ensures read_fault { result ≡ Status.ReadFault →
-        Rose (F.state folder.old).read_faults (F.state folder.new).read_faults }
     ensures sink { K.faults sink.old ≤ K.faults sink.new }
 {
     let mut session = Session::new(alloc);

@@ -57,10 +57,11 @@ pub fn serve<S: Source, F: Folder, K: Sink>(
     ensures untaken { ¬ (RunsSource (word_texts words.now)) → source.new ≡ source.old }
     ensures unread { ¬ (RunsSource (word_texts words.now)) → folder.new ≡ folder.old }
 
-    // Else the text of the script goes out, whole or, after a fault and out of memory, its beginning. ReadFault comes where
-    // the source failed, or the folder for a statement that asks for a file; WriteFault where the sink failed, or the folder
-    // for one that writes a file. Under Done and Refused the folder holds what the statements leave, exactly the work that is
-    // printed was entered in the book, and each query was answered within its bouquet's bound.
+    // Else the text of the script goes out. Under Done and Refused all of it does, the folder holds what the statements leave,
+    // exactly the work that is printed was entered in the book, and each query was answered within its bouquet's bound. Under
+    // every other status the run broke off in front of a statement, and all that holds of those before it: ReadFault comes where
+    // the source failed, or the folder for a statement that asks for a file; WriteFault where the sink failed, which got a
+    // beginning of the next text, or the folder for a statement that writes a file, which may hold anything.
     ensures serves { IfSome (options_of (word_texts words.now)) (λ options. options.demo ≡ None →
         IfSome (S.left source.old) (λ script.
         Serves options.max_work (Rose (S.faults source.old) (S.faults source.new))

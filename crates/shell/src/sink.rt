@@ -1,6 +1,6 @@
 // What goes out: a text in one put, the line of a refusal. A text of no bytes isn't put.
-ghost use Rattle.std.specs.Prelude.{◌≡◌, ◌⊎◌, ℕ, [], take, OnOk, OnErr, IfErr, IsErrOf};
-ghost use Rattle.std.specs.Io.KnownBytes.{Appends};
+ghost use Rattle.std.specs.Prelude.{◌≡◌, ◌≢◌, ◌⊎◌, ℕ, [], take, OnOk, OnErr, IfErr, IsErrOf};
+ghost use Rattle.std.specs.Io.KnownBytes.{Appends, Keeps};
 ghost use Rattle.outside_io.specs.Count.{HasCause};
 ghost use Rattle.session.specs.Refusal.{line_of};
 
@@ -14,7 +14,9 @@ pub(crate) fn put_text<K: Sink>(sink: &mut K, text: &[u8]) -> Result<(), Status>
     ensures whole { OnOk result (Appends (K.got sink.old) (K.got sink.new) text.now) }
     ensures part { OnErr result
         ((n : ℕ) × Appends (K.got sink.old) (K.got sink.new) (take n text.now)) }
+    ensures nothing { IsErrOf result Status.NoMemory → Keeps (K.got sink.old) (K.got sink.new) }
     ensures untouched { text.now ≡ [] → sink.new ≡ sink.old }
+    ensures some { OnErr result (text.now ≢ []) }
     ensures kinds { IfErr result
         (λ ended. (ended ≡ Status.WriteFault) ⊎ (ended ≡ Status.NoMemory)) }
     ensures sink { HasCause (IsErrOf result Status.WriteFault)
@@ -37,6 +39,8 @@ pub(crate) fn put_refusal<K: Sink>(alloc: Global, sink: &mut K, refusal: &Refusa
         Appends (K.got sink.old) (K.got sink.new) (line_of refusal.now) }
     ensures part { (n : ℕ)
         × Appends (K.got sink.old) (K.got sink.new) (take n (line_of refusal.now)) }
+    ensures nothing { result ≡ Status.NoMemory → Keeps (K.got sink.old) (K.got sink.new) }
+    ensures some { result ≡ Status.WriteFault → line_of refusal.now ≢ [] }
     ensures kinds { (result ≡ Status.Refused)
         ⊎ ((result ≡ Status.WriteFault) ⊎ (result ≡ Status.NoMemory)) }
     ensures sink { HasCause (result ≡ Status.WriteFault) (K.faults sink.old) (K.faults sink.new) }

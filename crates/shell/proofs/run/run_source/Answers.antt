@@ -6,11 +6,11 @@ use Rattle.shell.proofs.run.run_source.Goals as goal
 
 pub returns-in-Err-Failed-clause-serves : goal.returns-in-Err-Failed-clause-serves
 returns-in-Err-Failed-clause-serves g c =
-    known_nothing c.args.max_work _ _ (g.S.Source.left c.args.source.now) (g.F.Folder.state c.args.folder.now) status.ReadFault (g.K.Sink.got c.args.sink.now) c.args.book.now (inl refl) (λ _. c.in-Err-Failed.ensures.faults.rose (ap Err c.in-Err-Failed.field-0-is))
+    known_nothing c.args.max_work _ _ (g.S.Source.left c.args.source.now) (g.F.Folder.state c.args.folder.now) status.ReadFault (g.K.Sink.got c.args.sink.now) c.args.book.now c.requires.unpaid (inl (refl, c.in-Err-Failed.ensures.faults.rose (ap Err c.in-Err-Failed.field-0-is)))
 
 pub returns-in-Err-NoMemory-clause-serves : goal.returns-in-Err-NoMemory-clause-serves
 returns-in-Err-NoMemory-clause-serves g c =
-    known_nothing c.args.max_work _ _ (g.S.Source.left c.args.source.now) (g.F.Folder.state c.args.folder.now) status.NoMemory (g.K.Sink.got c.args.sink.now) c.args.book.now (inr refl) (λ is. cc is)
+    known_nothing c.args.max_work _ _ (g.S.Source.left c.args.source.now) (g.F.Folder.state c.args.folder.now) status.NoMemory (g.K.Sink.got c.args.sink.now) c.args.book.now c.requires.unpaid (inr refl)
 
 pub returns-in-Err-NoMemory-clause-decided : goal.returns-in-Err-NoMemory-clause-decided
 returns-in-Err-NoMemory-clause-decided g c = λ source_quiet reads_quiet writes_quiet sink_quiet.
