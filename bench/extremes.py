@@ -92,18 +92,18 @@ RULES = {
     "json": "The file is JSON: path `json`.",
     "object": "It is an object, and `bouquet` is an unsigned number: path `bouquet`.",
     "open": "COMPILE and OPEN print how many points the grid has, how many contours the bouquet has",
-    "plans": "The path is that of the first value that isn't there or doesn't fit;",
+    "plans": "The path leads to the first value that isn't there or doesn't fit.",
     "last": "the last plan is executed once more without a budget, and the contour is 0.",
     "upper": "Names are compared in upper case, and kept and printed so.",
-    "regular": "What is no regular file, as a directory, a pipe or a device, is a failure of the folder.",
+    "regular": "A directory, a pipe, a device or whatever else is no regular file is a failure of the folder.",
     "read": "standard input, or a file at a read, failed",
-    "absent": "A file that isn't there is `E09`. So is a LOAD or an OPEN of the empty name.",
+    "absent": "A file that isn't there is `E09`. A LOAD or an OPEN of the empty name is `E09` too.",
     "write": "standard output, or a file at a SAVE, failed",
     "beside": "that a write which fails leaves the old file",
     "done": "every statement was carried out",
     "script": "16777217, for a script of more than 16777216 bytes",
     "most": "It has at most 16777216 bytes.",
-    "words": "Where the arguments aren't, nothing is read, the status is 2, and this is printed:",
+    "words": "Where the arguments are none, nothing is read, the status is 2, and this is printed:",
 }
 
 
@@ -941,13 +941,13 @@ def main():
     unknown = set(given.names) - set(EXTREMES)
     if unknown:
         sys.exit(f"extremes: no extreme {', '.join(sorted(unknown))}; there are {', '.join(EXTREMES)}")
-    if given.list:
-        print("\n".join(EXTREMES))
-        return
     documents = " ".join(" ".join(open(path).read().split()) for path in DOCUMENTS)
     for name, rule in RULES.items():
         if rule not in documents:
             sys.exit(f"extremes: the rule {name} stands in no document: {rule}")
+    if given.list:
+        print("\n".join(EXTREMES))
+        return
     program = os.path.abspath(given.program)
     findings = 0
     print("extreme | trial | status due | seconds | times half | peak | input MB | found")
