@@ -32,8 +32,8 @@ free_does due (Err (stop.Refused why)) world next before after paid free returns
     let none : refused_work why ≡ 0 = subst IsFree returns free in
     let nothing : paid ≡ paid + refused_work why = omega (arith, none) in
     (returns, nothing)
-free_does due (Err stop.ReadFault) world next before after paid free returns same = tt
-free_does due (Err stop.WriteFault) world next before after paid free returns same = tt
+free_does due (Err stop.ReadFault) world next before after paid free returns same = refl
+free_does due (Err stop.WriteFault) world next before after paid free returns same = refl
 free_does due (Err stop.NoMemory) world next before after paid free returns same = tt
 
 module _ (max_work : ℕ) (world : World) (statement : StatementTree) (result : Result (Vec ℕ Global) Stop) where

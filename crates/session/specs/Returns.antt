@@ -75,12 +75,13 @@ DoesDue (Saves name bytes) text world next before after old new =
     (text ≡ []) × (next ≡ world) × (new ≡ old) × (after ≡ with_saved name bytes before)
 DoesDue (Refuses why) text world next before after old new = ⊥
 
--- or it was refused as is due, for the work that the refusal prints; or it stopped otherwise
+-- or it was refused as is due, for the work that the refusal prints; or a fault stopped it, and nothing was paid; or memory
+-- ran out
 abbrev pub CarriesDue : Outcome → Result (Vec ℕ Global) Stop → (world next : World) → (before after : Option Files) → (old new : ℕ) → Type 0
 CarriesDue due (Ok text) world next before after old new = DoesDue due text.items world next before after old new
 CarriesDue due (Err (stop.Refused why)) world next before after old new = (due ≡ Refuses why) × (new ≡ old + refused_work why)
-CarriesDue due (Err stop.ReadFault) world next before after old new = ⊤
-CarriesDue due (Err stop.WriteFault) world next before after old new = ⊤
+CarriesDue due (Err stop.ReadFault) world next before after old new = new ≡ old
+CarriesDue due (Err stop.WriteFault) world next before after old new = new ≡ old
 CarriesDue due (Err stop.NoMemory) world next before after old new = ⊤
 
 -- the file that a statement writes may hold anything, and every other is as it was
