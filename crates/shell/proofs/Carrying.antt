@@ -52,35 +52,35 @@ pub rose_in : {before low high last : ℕ} → before ≤ low → high ≤ last 
 rose_in {before} {low} {high} {last} first past rose = omega (arith, first, past, rose)
 
 -- what went out when a run broke off is a beginning of the next text, and the run didn't end as its text does
-breaks_part : {max_work : ℕ} {sink_failed : Type 0} {old new : FolderState} {state : ScriptState} {later : List Step} {ended : Status} {part : List ℕ}
-    → BreaksBefore max_work sink_failed old new state later ended part → (n : ℕ) × (part ≡ take n (next_text max_work state later))
+breaks_part : {max_work : ℕ} {sink_failed : Type 0} {old new : FolderState} {state : ScriptState} {later : List Step} {ended : Status} {part : List ℕ} {spent : ℕ}
+    → BreaksBefore max_work sink_failed old new state later ended part spent → (n : ℕ) × (part ≡ take n (next_text max_work state later))
 breaks_part (no_read rose asks kept) = (0, refl)
 breaks_part (no_write rose fails) = (0, refl)
 breaks_part (no_put failed some kept n) = (n, refl)
-breaks_part (no_memory kept) = (0, refl)
+breaks_part (no_memory spent within kept) = (0, refl)
 
-breaks_not_due : {max_work : ℕ} {sink_failed : Type 0} {old new : FolderState} {state : ScriptState} {later : List Step} {ended : Status} {part : List ℕ}
-    → BreaksBefore max_work sink_failed old new state later ended part → ¬ EndsAsDue ended
+breaks_not_due : {max_work : ℕ} {sink_failed : Type 0} {old new : FolderState} {state : ScriptState} {later : List Step} {ended : Status} {part : List ℕ} {spent : ℕ}
+    → BreaksBefore max_work sink_failed old new state later ended part spent → ¬ EndsAsDue ended
 breaks_not_due (no_read rose asks kept) due = elim due [ inl is ↦ cc is | inr is ↦ cc is ]
 breaks_not_due (no_write rose fails) due = elim due [ inl is ↦ cc is | inr is ↦ cc is ]
 breaks_not_due (no_put failed some kept n) due = elim due [ inl is ↦ cc is | inr is ↦ cc is ]
-breaks_not_due (no_memory kept) due = elim due [ inl is ↦ cc is | inr is ↦ cc is ]
+breaks_not_due (no_memory spent within kept) due = elim due [ inl is ↦ cc is | inr is ↦ cc is ]
 
 -- nor did it break off without a cause
-pub breaks_cause : {max_work : ℕ} {sink_failed : Type 0} {old new : FolderState} {state : ScriptState} {later : List Step} {ended : Status} {part : List ℕ} → BreaksBefore max_work sink_failed old new state later ended part
+pub breaks_cause : {max_work : ℕ} {sink_failed : Type 0} {old new : FolderState} {state : ScriptState} {later : List Step} {ended : Status} {part : List ℕ} {spent : ℕ} → BreaksBefore max_work sink_failed old new state later ended part spent
     → (ended ≡ status.ReadFault → Rose old.read_faults new.read_faults) × (ended ≡ status.WriteFault → sink_failed ⊎ Rose old.write_faults new.write_faults)
 breaks_cause (no_read rose asks kept) = (λ is. rose, λ is. cc is)
 breaks_cause (no_write rose fails) = (λ is. cc is, λ is. inr rose)
 breaks_cause (no_put failed some kept n) = (λ is. cc is, λ is. inl failed)
-breaks_cause (no_memory kept) = (λ is. cc is, λ is. cc is)
+breaks_cause (no_memory spent within kept) = (λ is. cc is, λ is. cc is)
 
 -- a cause in a part of a run is one in the run
-breaks_in : {max_work : ℕ} {failed sink_failed : Type 0} {before mid now : FolderState} {state : ScriptState} {later : List Step} {ended : Status} {part : List ℕ} → (failed → sink_failed) → NeverFalls before mid
-    → BreaksBefore max_work failed mid now state later ended part → BreaksBefore max_work sink_failed before now state later ended part
+breaks_in : {max_work : ℕ} {failed sink_failed : Type 0} {before mid now : FolderState} {state : ScriptState} {later : List Step} {ended : Status} {part : List ℕ} {spent : ℕ} → (failed → sink_failed) → NeverFalls before mid
+    → BreaksBefore max_work failed mid now state later ended part spent → BreaksBefore max_work sink_failed before now state later ended part spent
 breaks_in sinks first (no_read rose asks kept) = no_read (rose_in first.read_faults (omega arith) rose) asks kept
 breaks_in sinks first (no_write rose fails) = no_write (rose_in first.write_faults (omega arith) rose) fails
 breaks_in sinks first (no_put failed some kept n) = no_put (sinks failed) some kept n
-breaks_in sinks first (no_memory kept) = no_memory kept
+breaks_in sinks first (no_memory spent within kept) = no_memory spent within kept
 
 -- the text so far is there and paid; and whatever the statements from i on do, in the state that the ones before leave, is what
 -- the whole does behind them
@@ -245,9 +245,9 @@ module _ (max_work : ℕ) (all : List StatementTree) (i : ℕ) (before mid now :
   answer_here = carried.whole (here ∷ others.0)
 
   -- a run that ends at this statement
-  pub carried_to : (failed sink_failed : Type 0) (ended : Status) → (failed → sink_failed) → paid ≤ due → due ≤ paid + max_work → EndsAt max_work failed here state mid now got new paid due ended
+  pub carried_to : (failed sink_failed : Type 0) (ended : Status) → (failed → sink_failed) → EndsAt max_work failed here state mid now got new paid due ended
       → CarriesAll max_work sink_failed all before now ended had new due
-  carried_to failed sink_failed ended sinks least most (refuses why is_refused put spent kept) =
+  carried_to failed sink_failed ended sinks (refuses why is_refused put spent kept) =
       let whole : script_answer max_work start all_steps ≡ record { text = carried.printed ++ line_of why; work = paid + refused_work why; refused = true } =
       answer_here ∙ ap (after carried.printed paid) (refused_whole what state (λ s. script_answer max_work s others.0) why is_refused) in
       let none : left_by what state ≡ None = ap (λ (o : Outcome). left_by o state) is_refused in
@@ -268,7 +268,7 @@ module _ (max_work : ℕ) (all : List StatementTree) (i : ℕ) (before mid now :
         };
         broken = λ other. absurd (other (inr refl));
       }
-  carried_to failed sink_failed ended sinks least most (breaks _ part put cause) =
+  carried_to failed sink_failed ended sinks (breaks _ part spent put pays cause) =
       let there = printed_by what in
       let more = begins there (left_by what state) (λ s. script_answer max_work s others.0) in
       let text : (script_answer max_work start all_steps).text ≡ carried.printed ++ (there.text ++ more.0) = ap (λ (a : Answer). a.text) answer_here ∙ ap (λ (l : List ℕ). carried.printed ++ l) more.1 in
@@ -297,10 +297,10 @@ module _ (max_work : ℕ) (all : List StatementTree) (i : ℕ) (before mid now :
           state = state;
           reached = state_so_far max_work all i before mid world had got paid carried;
           part = part;
+          spent = spent;
           cause = breaks_in sinks first here_is;
           put = rw so_far out;
-          least = omega (arith, work, least);
-          most = omega (arith, work, most);
+          pays = omega (arith, work, pays);
           bounds = within_so_far max_work all i before mid world had got paid carried;
         };
       }

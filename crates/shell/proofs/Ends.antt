@@ -1,5 +1,5 @@
 -- What one statement returned and put: the run goes on behind it, or ends there.
-use Rattle.std.proofs.Common.{◌≡◌, inl, inr, ℕ, ◌+◌, ◌<◌, ◌≤◌, List, [], length, map, take, get_or, false, Option, Some, None, sym, ap, ◌∙◌, arith}
+use Rattle.std.proofs.Common.{◌≡◌, inl, inr, ℕ, ◌+◌, ◌-◌, ◌<◌, ◌≤◌, List, [], length, map, take, get_or, false, Option, Some, None, sym, ap, ◌∙◌, arith}
 use Rattle.std.specs.Prelude.{◌≢◌, Vec, Result, Ok, Err, OnOk, OnErr, IfErr, IsErrOf}
 use Rattle.std.specs.declared.alloc.Global.{Global}
 use Rattle.std.specs.Io.KnownBytes.{Appends, Keeps}
@@ -65,11 +65,16 @@ goes_on (Saves name bytes) text world next before after old new had got does put
 }
 goes_on (Refuses why) text world next before after old new had got does put = absurd does
 
--- one that has a text to put left the files as they were
-printed_kept : (due : Outcome) (text : List ℕ) (world next : World) (before after : Option Files) (old new : ℕ) → DoesDue due text world next before after old new → text ≢ [] → ((printed_by due).text ≡ text) × (after ≡ before)
-printed_kept (Prints printed work made) text world next before after old new does some = (sym does.0, does.3)
+-- one that has a text to put paid the work that it prints, and left the files as they were
+printed_kept : (due : Outcome) (text : List ℕ) (world next : World) (before after : Option Files) (old new : ℕ) → DoesDue due text world next before after old new → text ≢ []
+    → ((printed_by due).text ≡ text) × (new ≡ old + (printed_by due).work) × (after ≡ before)
+printed_kept (Prints printed work made) text world next before after old new does some = (sym does.0, does.2, does.3)
 printed_kept (Saves name bytes) text world next before after old new does some = absurd (some does.0)
 printed_kept (Refuses why) text world next before after old new does some = absurd does
+
+-- what was paid between the two, and it is at most the most
+pub paid_more : (old new most : ℕ) → old ≤ new → new ≤ old + most → (spent : ℕ) × (spent ≤ most) × (new ≡ old + spent)
+paid_more old new most least within = (new - old, omega (arith, within), omega (arith, least))
 
 keeps_nothing : (had got : Option (List ℕ)) → Keeps had got → Appends had got []
 keeps_nothing None got kept = tt
@@ -84,22 +89,27 @@ module _ (max_work : ℕ) (sink_failed : Type 0) (statement : StatementTree) (fi
   Ends ended = EndsAt max_work sink_failed (record { statement = statement; file = file }) (state_of world before) before after had got old new ended
 
   -- the text that was due was put in part, or not at all
-  ends_in_part : (text : List ℕ) (ended : Status) → IsUnput ended → (printed_by due).text ≡ text → after.files ≡ before.files → ((n : ℕ) × Appends had got (take n text)) → (ended ≡ status.NoMemory → Keeps had got)
+  ends_in_part : (text : List ℕ) (ended : Status) → IsUnput ended → (printed_by due).text ≡ text → new ≡ old + (printed_by due).work → new ≤ old + max_work → after.files ≡ before.files → ((n : ℕ) × Appends had got (take n text)) → (ended ≡ status.NoMemory → Keeps had got)
       → (ended ≡ status.WriteFault → sink_failed) → (ended ≡ status.WriteFault → text ≢ []) → Ends ended
-  ends_in_part text ended (inl fault) is kept part nothing sink some = rw fault (breaks status.WriteFault (take part.0 (printed_by due).text) (rw is part.1) (λ later. no_put (sink fault) (rw is (some fault)) kept part.0))
-  ends_in_part text ended (inr memory) is kept part nothing sink some = rw memory (breaks status.NoMemory [] (keeps_nothing had got (nothing memory)) (λ later. no_memory kept))
+  ends_in_part text ended (inl fault) is pays within kept part nothing sink some =
+      rw fault (breaks status.WriteFault (take part.0 (printed_by due).text) (printed_by due).work (rw is part.1) pays (λ later. no_put (sink fault) (rw is (some fault)) kept part.0))
+  ends_in_part text ended (inr memory) is pays within kept part nothing sink some =
+      let most : (printed_by due).work ≤ max_work = omega (arith, pays, within) in
+      rw memory (breaks status.NoMemory [] (printed_by due).work (keeps_nothing had got (nothing memory)) pays (λ later. no_memory (printed_by due).work most kept))
 
   -- the line of the refusal that is due was put, whole or in part
-  pub ends_refused : (why : Refusal) (ended : Status) → due ≡ Refuses why → new ≡ old + refused_work why → after.files ≡ before.files → IsRefused ended → (ended ≡ status.Refused → Appends had got (line_of why))
+  pub ends_refused : (why : Refusal) (ended : Status) → due ≡ Refuses why → new ≡ old + refused_work why → new ≤ old + max_work → after.files ≡ before.files → IsRefused ended → (ended ≡ status.Refused → Appends had got (line_of why))
       → ((n : ℕ) × Appends had got (take n (line_of why))) → (ended ≡ status.NoMemory → Keeps had got) → (ended ≡ status.WriteFault → sink_failed) → (ended ≡ status.WriteFault → line_of why ≢ []) → Ends ended
-  ends_refused why ended is spent kept (inl refused) whole part nothing sink some = rw refused (refuses why is (whole refused) spent kept)
-  ends_refused why ended is spent kept (inr unput) whole part nothing sink some = ends_in_part (line_of why) ended unput (ap (λ (o : Outcome). (printed_by o).text) is) kept part nothing sink some
+  ends_refused why ended is spent within kept (inl refused) whole part nothing sink some = rw refused (refuses why is (whole refused) spent kept)
+  ends_refused why ended is spent within kept (inr unput) whole part nothing sink some =
+      let work : (printed_by due).work ≡ refused_work why = ap (λ (o : Outcome). (printed_by o).work) is in
+      ends_in_part (line_of why) ended unput (ap (λ (o : Outcome). (printed_by o).text) is) (omega (arith, work, spent)) within kept part nothing sink some
 
 -- a statement that returned its text, which was put, or not whole
 pub returned_text : {T : Type 0} (max_work : ℕ) (sink_failed : Type 0) (statement : StatementTree) (before after : FolderState) (world next : World) (old new : ℕ) (had got : Option (List ℕ)) (text : Vec ℕ Global) (result : Result T Status)
-    → IsCarriedOut max_work statement before after world next old new (Ok text) → NeverFalls before after → IsAnsweredWithin world statement → OnOk result (Appends had got text.items) → OnErr result ((n : ℕ) × Appends had got (take n text.items))
+    → IsCarriedOut max_work statement before after world next old new (Ok text) → NeverFalls before after → new ≤ old + max_work → IsAnsweredWithin world statement → OnOk result (Appends had got text.items) → OnErr result ((n : ℕ) × Appends had got (take n text.items))
     → (IsErrOf result status.NoMemory → Keeps had got) → OnErr result (text.items ≢ []) → IfErr result IsUnput → (IsErrOf result status.WriteFault → sink_failed) → CarriesOne max_work sink_failed statement before after world next old new result had got
-returned_text max_work sink_failed statement before after world next old new had got text (Ok done) out falls within whole part nothing some kinds sink = record {
+returned_text max_work sink_failed statement before after world next old new had got text (Ok done) out falls most within whole part nothing some kinds sink = record {
   file = out.file;
   given = out.given;
   falls = falls;
@@ -107,7 +117,7 @@ returned_text max_work sink_failed statement before after world next old new had
   goes = goes_on (statement_outcome max_work world statement out.file) text.items world next before after old new had got out.does whole;
   ends = tt;
 }
-returned_text max_work sink_failed statement before after world next old new had got text (Err ended) out falls within whole part nothing some kinds sink =
+returned_text max_work sink_failed statement before after world next old new had got text (Err ended) out falls most within whole part nothing some kinds sink =
     let shown = printed_kept (statement_outcome max_work world statement out.file) text.items world next before.files after.files old new out.does some in
     record {
       file = out.file;
@@ -115,8 +125,21 @@ returned_text max_work sink_failed statement before after world next old new had
       falls = falls;
       bounded = tt;
       goes = tt;
-      ends = ends_in_part max_work sink_failed statement out.file before after world had got old new text.items ended kinds shown.0 shown.1 part (λ is. nothing (ap Err is)) (λ is. sink (ap Err is)) (λ _. some);
+      ends = ends_in_part max_work sink_failed statement out.file before after world had got old new text.items ended kinds shown.0 shown.1 most shown.2 part (λ is. nothing (ap Err is)) (λ is. sink (ap Err is)) (λ _. some);
     }
+
+-- a statement that stopped, at which the run ends
+pub stopped_at : {T : Type 0} (max_work : ℕ) (sink_failed : Type 0) (statement : StatementTree) (before after : FolderState) (world next : World) (old new : ℕ) (had got : Option (List ℕ)) (why : Stop) (ended : Status)
+    → (out : IsCarriedOut max_work statement before after world next old new (Err why)) → UsesFolder (Err why) before after → EndsAt max_work sink_failed (record { statement = statement; file = out.file }) (state_of world before) before after had got old new ended
+    → CarriesOne {T = T} max_work sink_failed statement before after world next old new (Err ended) had got
+stopped_at max_work sink_failed statement before after world next old new had got why ended out uses ends = record {
+  file = out.file;
+  given = out.given;
+  falls = falls_by before after uses;
+  bounded = tt;
+  goes = tt;
+  ends = ends;
+}
 
 -- the tree of the statement in this place
 tree_at : (statements : List Statement) (i : ℕ) (statement : Statement) → statement ≡ get_or statements i statement → get_or (map statement_tree statements) i (statement_tree statement) ≡ statement_tree statement
@@ -128,11 +151,11 @@ inside statements i below = omega (arith, below, length-map statements statement
 module _ (max_work : ℕ) (statements : List Statement) (i : ℕ) (before mid now : FolderState) (world next : World) (statement : Statement) (had got new : Option (List ℕ)) (paid due : ℕ) (failed : Type 0)
     (below : i < length statements) (is : statement ≡ get_or statements i statement) (first : NeverFalls before mid) (carried : IsCarried max_work (map statement_tree statements) i before mid world had got paid) where
   -- the run ended there
-  pub ended_at : {T : Type 0} (sink_failed : Type 0) (ended : Status) → (failed → sink_failed) → paid ≤ due → due ≤ paid + max_work
+  pub ended_at : {T : Type 0} (sink_failed : Type 0) (ended : Status) → (failed → sink_failed)
       → CarriesOne {T = T} max_work failed (statement_tree statement) mid now world next paid due (Err ended) got new → CarriesAll max_work sink_failed (map statement_tree statements) before now ended had new due
-  ended_at sink_failed ended sinks least most one =
+  ended_at sink_failed ended sinks one =
       carried_to max_work (map statement_tree statements) i before mid now world (statement_tree statement) one.file had got new paid due (inside statements i below) (tree_at statements i statement is) first one.falls.misses carried one.given
-      failed sink_failed ended sinks least most one.ends
+      failed sink_failed ended sinks one.ends
 
   -- the run goes on behind it
   pub on_at : {T : Type 0} (done : T) → CarriesOne max_work failed (statement_tree statement) mid now world next paid due (Ok done) got new → IsCarried max_work (map statement_tree statements) (i + 1) before now next had new due

@@ -36,11 +36,12 @@ pub record LeadsOn (due : Outcome) (state next : ScriptState) (had got : Option 
   pub put : Appends had got text
   pub spent : new ≡ old + work
 
--- a step at which it ends: it is refused, and the whole line was put; or the run broke off in front of it
+-- a step at which it ends: it is refused, and the whole line was put; or the run broke off in front of it, with this part of its
+-- text put and this much paid for it
 pub data EndsAt (max_work : ℕ) (sink_failed : Type 0) (step : Step) (state : ScriptState) (before after : FolderState) (had got : Option (List ℕ)) (old new : ℕ) : Status → Type 0 where
   refuses : (why : Refusal) → step_outcome max_work state step ≡ Refuses why → Appends had got (line_of why) → new ≡ old + refused_work why → after.files ≡ before.files
       → EndsAt max_work sink_failed step state before after had got old new status.Refused
-  breaks : (ended : Status) (part : List ℕ) → Appends had got part → ((later : List Step) → BreaksBefore max_work sink_failed before after state (step ∷ later) ended part)
+  breaks : (ended : Status) (part : List ℕ) (spent : ℕ) → Appends had got part → new ≡ old + spent → ((later : List Step) → BreaksBefore max_work sink_failed before after state (step ∷ later) ended part spent)
       → EndsAt max_work sink_failed step state before after had got old new ended
 
 -- what came of a statement, with the file that the folder gave for it: the run goes on, an answer being within its bound, or ends

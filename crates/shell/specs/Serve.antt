@@ -88,6 +88,11 @@ abbrev pub next_text : (max_work : ℕ) → ScriptState → List Step → List �
 next_text max_work state [] = []
 next_text max_work state (step ∷ later) = (printed_by (step_outcome max_work state step)).text
 
+-- what the first of these steps costs in this state
+abbrev pub next_work : (max_work : ℕ) → ScriptState → List Step → ℕ
+next_work max_work state [] = 0
+next_work max_work state (step ∷ later) = (printed_by (step_outcome max_work state step)).work
+
 -- it asks for a file
 abbrev pub AsksNext : ScriptState → List Step → Type 0
 AsksNext state [] = ⊥
@@ -98,21 +103,23 @@ abbrev pub FailsNext : (left : Option Files) → ScriptState → List Step → T
 FailsNext left state [] = ⊥
 FailsNext left state (step ∷ later) = FailsToWrite state.world step.statement state.files left
 
--- why a run broke off in front of these steps, how it ended, and which part of the next one's text went out: a beginning where
--- the sink failed, and else nothing. The folder holds what the steps before leave, but for a file that couldn't be written
-pub data BreaksBefore (max_work : ℕ) (sink_failed : Type 0) (old new : FolderState) (state : ScriptState) (later : List Step) : Status → (part : List ℕ) → Type 0 where
+-- why a run broke off in front of these steps, how it ended, which part of the next one's text went out, and what was paid for
+-- it. Where the sink failed, a beginning went out, and all that the step costs was paid. Where the folder failed, nothing went
+-- out, and nothing was paid. Where memory ran out, nothing went out, and at most what a query may cost was paid. The folder holds
+-- what the steps before leave, but for a file that couldn't be written
+pub data BreaksBefore (max_work : ℕ) (sink_failed : Type 0) (old new : FolderState) (state : ScriptState) (later : List Step) : Status → (part : List ℕ) → (spent : ℕ) → Type 0 where
   no_read : Rose old.read_faults new.read_faults → AsksNext state later → new.files ≡ state.files
-      → BreaksBefore max_work sink_failed old new state later status.ReadFault []
+      → BreaksBefore max_work sink_failed old new state later status.ReadFault [] 0
   no_write : Rose old.write_faults new.write_faults → FailsNext new.files state later
-      → BreaksBefore max_work sink_failed old new state later status.WriteFault []
+      → BreaksBefore max_work sink_failed old new state later status.WriteFault [] 0
   no_put : sink_failed → next_text max_work state later ≢ [] → new.files ≡ state.files → (n : ℕ)
-      → BreaksBefore max_work sink_failed old new state later status.WriteFault (take n (next_text max_work state later))
-  no_memory : new.files ≡ state.files
-      → BreaksBefore max_work sink_failed old new state later status.NoMemory []
+      → BreaksBefore max_work sink_failed old new state later status.WriteFault (take n (next_text max_work state later)) (next_work max_work state later)
+  no_memory : (spent : ℕ) → spent ≤ max_work → new.files ≡ state.files
+      → BreaksBefore max_work sink_failed old new state later status.NoMemory [] spent
 
 -- a run that broke off among these steps: the texts of the earlier ones, none of which is refused, went out whole, and that part
--- behind them; what was paid is at least their work, and at most that of one query more; each query among them was answered
--- within its bound
+-- behind them; what was paid is exactly their work and what was paid for the next; each query among them was answered within its
+-- bound
 pub record BreaksOff (max_work : ℕ) (sink_failed : Type 0) (ended : Status) (old new : FolderState) (before after : Option (List ℕ)) (paid : ℕ) (steps : List Step) : Type 0 where
   pub earlier : List Step
   pub later : List Step
@@ -120,10 +127,10 @@ pub record BreaksOff (max_work : ℕ) (sink_failed : Type 0) (ended : Status) (o
   pub state : ScriptState
   pub reached : state_after max_work (at_start old.files) earlier ≡ Some state
   pub part : List ℕ
-  pub cause : BreaksBefore max_work sink_failed old new state later ended part
+  pub spent : ℕ
+  pub cause : BreaksBefore max_work sink_failed old new state later ended part spent
   pub put : Appends before after ((script_answer max_work (at_start old.files) earlier).text ++ part)
-  pub least : (script_answer max_work (at_start old.files) earlier).work ≤ paid
-  pub most : paid ≤ (script_answer max_work (at_start old.files) earlier).work + max_work
+  pub pays : paid ≡ (script_answer max_work (at_start old.files) earlier).work + spent
   pub bounds : AreAnsweredWithin max_work (at_start old.files) earlier
 
 -- a run that broke off at the line of a script that is refused whole: a beginning of it went out where the sink failed, and

@@ -38,7 +38,6 @@ fn carry_out_one<F: Folder, K: Sink>(
         book.old book.new result (K.got sink.old) (K.got sink.new) }
     ensures kinds { IfErr result (λ ended. ended ≢ Status.BadWords) }
     ensures within { book.new ≤ book.old + max_work }
-    ensures never_falls { book.old ≤ book.new }
     ensures sink { K.faults sink.old ≤ K.faults sink.new }
 {
     match session.carry_out(alloc, max_work, statement, folder, book) {

@@ -21,7 +21,7 @@ returns-in-Err-clause-carries g c =
     (world_of c.loop-statement.session) (world_of c.carry_out_one.new.session) c.statement-item.result (g.K.Sink.got c.args.sink.now) (g.K.Sink.got c.loop-statement.sink) (g.K.Sink.got c.carry_out_one.new.sink)
     c.loop-statement.book c.carry_out_one.new.book _
     (omega arith) c.statement-item.is c.loop-statement.invariant.folder c.loop-statement.invariant.carried
-    _ c.in-Err.ended (rose_in c.loop-statement.invariant.sink (omega arith)) c.in-Err.ensures.never_falls c.in-Err.ensures.within c.in-Err.ensures.carries
+    _ c.in-Err.ended (rose_in c.loop-statement.invariant.sink (omega arith)) c.in-Err.ensures.carries
 
 pub returns-in-Err-clause-folder : goal.returns-in-Err-clause-folder
 returns-in-Err-clause-folder g c =
