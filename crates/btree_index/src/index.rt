@@ -194,8 +194,35 @@ impl Index {
         }
     }
 
-    /// Descends to the entries with words from `from` to `to`, both included, which pays for each level. There are none
-    /// where `from` is greater than `to`.
+    /// The place of the entries with words from `from` to `to`, both included. There are none where `from` is greater than
+    /// `to`. It isn't paid, and takes as long as two descents at most.
+    pub fn place(&self, from: i64, to: i64) -> Cursor
+        ensures range { entries_left self.now result ≡ filter (is_within from to) self.now }
+        ensures placed { IsOn self.now result }
+        ensures words { HaveWords self.now }
+    {
+        if self.entries.len() <= FEW_ENTRIES {
+            return cursor_among_few(&self.entries, from, to);
+        }
+        if to < from {
+            return Cursor { next: 0, end: 0 };
+        }
+        let next = self.first_from(from);
+        let end = self.end_of(next, to);
+        Cursor { next, end }
+    }
+
+    /// These entries. They aren't paid.
+    pub fn within(&self, from: i64, to: i64) -> &[(i64, u64)]
+        ensures entries { result.now ≡ filter (is_within from to) self.now }
+        ensures words { HaveWords self.now }
+    {
+        let Cursor { next, end } = self.place(from, to);
+        let entries = self.entries.as_slice();
+        &entries[next.min(end)..end]
+    }
+
+    /// Descends to these entries, which pays for each level.
     pub fn seek(&self, from: i64, to: i64, ledger: &mut Ledger) -> Result<Cursor, Exhausted>
         ensures range { IfOk result
             (λ cursor. entries_left self.now cursor ≡ filter (is_within from to) self.now) }
@@ -204,15 +231,7 @@ impl Index {
         ensures pays { Pays (node_charge * height_of (length self.now)) ledger.old ledger.new result }
     {
         ledger.pay(charge::NODE * self.height as u128)?;
-        if self.entries.len() <= FEW_ENTRIES {
-            return Ok(cursor_among_few(&self.entries, from, to));
-        }
-        if to < from {
-            return Ok(Cursor { next: 0, end: 0 });
-        }
-        let next = self.first_from(from);
-        let end = self.end_of(next, to);
-        Ok(Cursor { next, end })
+        Ok(self.place(from, to))
     }
 
     /// The row of the cursor's next entry, which pays for the entry and moves the cursor past it. Past the last entry

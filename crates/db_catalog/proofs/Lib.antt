@@ -7,3 +7,7 @@ pub mod Appended
 pub mod Growth
 pub mod EntryOrder
 pub mod OfIndexes
+pub mod Permutations
+pub mod IndexEntries
+pub mod OfRelations
+pub mod Picked

@@ -7,7 +7,7 @@ use Rattle.sql_values.specs.Words.{null_word, word_of}
 use Rattle.sql_values.specs.Stored.{ValueRow}
 use Rattle.btree_index.specs.Entries.{IndexEntry, entry_order}
 use Rattle.btree_index.specs.Height.{height_of}
-use Rattle.db_catalog.specs.Database.{DatabaseState, table_at}
+use Rattle.db_catalog.specs.Database.{DatabaseState, table_at, row_at}
 
 -- the entry of a value in the row of this number: the value's word and that number; NULL has none
 abbrev pub value_entry : List (List ℕ) → (number : ℕ) → Value → List IndexEntry
@@ -43,6 +43,10 @@ index_at database number column = ordered (column_entries database number column
 -- how many levels it has
 abbrev pub index_height : DatabaseState → (number column : ℕ) → ℕ
 index_height database number column = height_of (length (column_entries database number column))
+
+-- the row of an entry
+abbrev pub row_of_entry : DatabaseState → (table : ℕ) → IndexEntry → ValueRow
+row_of_entry database table entry = row_at (table_at database table) entry.1
 
 -- the entry of a word in the row of this number; NULL's word has none
 abbrev pub word_entry : (number : ℕ) → ℤ → List IndexEntry

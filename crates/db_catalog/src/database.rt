@@ -40,7 +40,7 @@ use work_ledger::{Exhausted, Ledger};
 pub struct Database {
     alloc: Global,
     names: Texts,
-    tables: Vec<Table>,
+    pub(crate) tables: Vec<Table>,
     texts: Texts,
     index_names: Texts,
 }
@@ -363,17 +363,8 @@ impl Database {
         self.tables[table as usize].indexes.columns()
     }
 
-    /// The words of row `i` of a table, from 0. This read isn't paid.
-    pub fn plain_row(&self, table: u32, i: u64) -> &[i64]
-        requires there { table < length self.now.tables }
-        requires row { i < length (table_at self.now table).rows }
-        ensures { IsRowAt self.now table i result.now }
-    {
-        self.tables[table as usize].heap.get(i)
-    }
-
-    // How many rows stand on page `no` of a table, from 0.
-    pub(crate) fn rows_on_page(&self, table: u32, no: u64) -> usize
+    /// How many rows stand on page `no` of a table, from 0.
+    pub fn rows_on_page(&self, table: u32, no: u64) -> usize
         requires there { table < length self.now.tables }
         requires page { no < table_pages self.now table }
         ensures { result ≡ page_rows self.now table no }
@@ -440,9 +431,7 @@ impl Database {
         ensures rows { StandAsWords self.now table }
         ensures pays { Pays (node_charge * index_height self.now table column) ledger.old ledger.new result }
     {
-        self.tables[table as usize]
-            .index_of(column)
-            .seek(from, to, ledger)
+        self.index(table, column).seek(from, to, ledger)
     }
 
     // The row of a cursor's next entry, which pays for it.
@@ -467,13 +456,11 @@ impl Database {
         ensures pays { Pays (next_charge (entries_left (index_at self.now table column) cursor.old))
             ledger.old ledger.new result }
     {
-        self.tables[table as usize]
-            .index_of(column)
-            .next(cursor, ledger)
+        self.index(table, column).next(cursor, ledger)
     }
 
-    // How many pages a table's rows take.
-    pub(crate) fn pages(&self, table: u32) -> u64
+    /// How many pages a table's rows take.
+    pub fn pages(&self, table: u32) -> u64
         requires { table < length self.now.tables }
         ensures { result ≡ table_pages self.now table }
     {

@@ -15,6 +15,7 @@ mod fault;
 mod fits;
 mod indexes;
 mod metered;
+mod plain;
 mod recode;
 mod table;
 

@@ -20,9 +20,9 @@ use Rattle.exec_scan.specs.Reading.{HasAll, column_of, is_wanted, read_due, work
 use Rattle.exec_scan.specs.Scanning.{find_left}
 use Rattle.exec_scan.specs.OnWay.{with_emits}
 use Rattle.exec_scan.specs.State.{leaf_by}
-use Rattle.exec_scan.proofs.IndexEntries.{count-entries, count-read, found-rows}
+use Rattle.db_catalog.proofs.IndexEntries.{count-entries, count-read, found-rows}
 use Rattle.exec_scan.proofs.LeafRows.{leaf_rows}
-use Rattle.exec_scan.proofs.Usable.{meets-part, meets-some}
+use Rattle.plan_tree.proofs.MetParts.{meets-part, meets-some}
 
 -- an index that isn't descended yet: what meets the filter is wanted and has a value in the column
 pub index-all : (database : DatabaseState) (own : RelationTree) (column : ℕ) → HasUsable own column → (reader : EntryReaderState) → reader.table ≡ own.table → reader.column ≡ column → reader.cursor ≡ None

@@ -10,6 +10,7 @@ use Rattle.query_block.specs.declared.edge.Edge.{Edge}
 use Rattle.query_block.specs.Blocks.{RelationTree, BlockTree, relation_at, IsEdge}
 use Rattle.query_block.specs.Meaning.{Combination, choices, product, rows_at, rows_of, meets_filter, meets_filters, meets_edges}
 use Rattle.plan_tree.specs.Plans.{Scan, has_leaf}
+use Rattle.db_catalog.proofs.IndexEntries.{filter-map}
 use Rattle.exec_scan.specs.Places.{placed_row}
 
 -- the row without values for each relation
@@ -58,11 +59,6 @@ no_edge : (r : ℕ) (relations : List RelationTree) (edges : List Edge) (rows : 
 no_edge r relations [] rows are = refl
 no_edge r relations (edge ∷ edges) rows are =
     grind (arith, (All-head (IsEdge relations) edge edges are).lower, no_edge r relations edges rows (All-tail (IsEdge relations) edge edges are))
-
--- a filter of values that come of others
-pub filter-map : {A B : Type 0} (p : B → Bool) (q : A → Bool) (f : A → B) (xs : List A) → ((x : A) → p (f x) ≡ q x) → filter p (map f xs) ≡ map f (filter q xs)
-filter-map p q f [] same = refl
-filter-map p q f (x ∷ xs) same = grind (arith, same x, filter-map p q f xs same)
 
 pub leaf_rows : (tables : List StoredTable) (block : BlockTree) (r : ℕ) → r < length block.relations → All (IsEdge block.relations) block.edges
     → rows_of tables block (has_leaf (Scan r))

@@ -1,11 +1,7 @@
-pub mod Permutations
 pub mod OnWay
 pub mod LeafRows
 pub mod Parts
 pub mod Relations
 pub mod Written
-pub mod IndexEntries
-pub mod Usable
 pub mod Wanted
 pub mod Begun
-pub mod Narrowing

@@ -1,11 +1,11 @@
 -- What is seen of a reader of rows by the entries of an index, what it has left to read, and what is always so of it.
 use Rattle.std.specs.Prelude.{◌≡◌, ℕ, ℤ, ◌*◌, ◌<◌, List, [], ◌∷◌, Contains, Option, Some, None, MatchOption, length}
-use Rattle.sql_values.specs.Stored.{StandsFor, ValueRow}
+use Rattle.sql_values.specs.Stored.{StandsFor}
 use Rattle.plan_tree.specs.Left.{Left}
 use Rattle.btree_index.specs.declared.index.Cursor.{Cursor}
 use Rattle.btree_index.specs.Entries.{IndexEntry, IsOn, entries_left}
-use Rattle.db_catalog.specs.Database.{DatabaseState, table_at, row_at}
-use Rattle.db_catalog.specs.Indexes.{index_at}
+use Rattle.db_catalog.specs.Database.{DatabaseState, table_at}
+use Rattle.db_catalog.specs.Indexes.{index_at, row_of_entry}
 
 -- the table, the column by whose index it reads, and where it is among the entries, once it has descended to them
 pub record EntryReaderState : Type 0 where
@@ -27,10 +27,6 @@ entries_at entries (Some cursor) = entries_left entries cursor
 -- the entries that aren't read yet
 abbrev pub entries_ahead : DatabaseState → EntryReaderState → List IndexEntry
 entries_ahead database reader = entries_at (index_at database reader.table reader.column) reader.cursor
-
--- the row of an entry
-abbrev pub row_of_entry : DatabaseState → (table : ℕ) → IndexEntry → ValueRow
-row_of_entry database table entry = row_at (table_at database table) entry.1
 
 -- what reading entries has left: no row comes of it alone, and 10 is due for each entry and its row
 abbrev pub entries_due : DatabaseState → EntryReaderState → Left

@@ -1,6 +1,5 @@
 pub mod Places
 pub mod OnWay
-pub mod Ranges
 pub mod TableReading
 pub mod EntryReading
 pub mod Reading

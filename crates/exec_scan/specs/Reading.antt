@@ -11,10 +11,10 @@ use Rattle.plan_tree.specs.Left.{Left}
 use Rattle.btree_index.specs.declared.index.Cursor.{Cursor}
 use Rattle.btree_index.specs.Entries.{IndexEntry}
 use Rattle.db_catalog.specs.Database.{DatabaseState}
-use Rattle.db_catalog.specs.Indexes.{index_at, index_height}
+use Rattle.db_catalog.specs.Indexes.{index_at, index_height, row_of_entry}
 use Rattle.exec_scan.specs.declared.way.Way.{Way}
 use Rattle.exec_scan.specs.declared.way.Way.TheVariants as way
-use Rattle.exec_scan.specs.EntryReading.{EntryReaderState, IsReaderOf, entries_at, row_of_entry}
+use Rattle.exec_scan.specs.EntryReading.{EntryReaderState, IsReaderOf, entries_at}
 use Rattle.exec_scan.specs.TableReading.{IsTableReader, table_ahead, table_due}
 
 -- the table whose rows are read

@@ -8,7 +8,6 @@
 #![tactic(auto)]
 
 mod entry_reader;
-mod range;
 mod relation_place;
 mod scan_op;
 mod table_reader;

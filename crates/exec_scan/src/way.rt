@@ -9,9 +9,9 @@ ghost use Rattle.exec_scan.specs.EntryReading.{IsReaderOf, MovesReader};
 ghost use Rattle.exec_scan.specs.Reading.{AreNone, HasAll, IsFirstRow, IsWayTo, column_of, kept_rows, read_due, rows_ahead, wanted_due, wanted_entries, wanted_rows};
 
 use crate::entry_reader::EntryReader;
-use crate::range::range_of;
 use crate::table_reader::TableReader;
 use db_catalog::Metered;
+use plan_tree::range_of;
 use query_block::{Relation, meets_filter};
 use work_ledger::Exhausted;
 

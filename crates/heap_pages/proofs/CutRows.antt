@@ -1,7 +1,8 @@
 -- Words that follow one another, cut into rows.
-use Rattle.std.proofs.Common.{◌≡◌, ℕ, zero, suc, ◌+◌, ◌*◌, ◌<◌, ◌≤◌, List, [], ◌∷◌, ◌++◌, length, take, drop, Some, refl, ap, ◌∙◌, arith, add-one}
+use Rattle.std.proofs.Common.{◌≡◌, ℕ, zero, suc, ◌+◌, ◌-◌, ◌*◌, ◌<◌, ◌≤◌, List, [], ◌∷◌, ◌++◌, length, take, drop, Some, refl, sym, ap, ◌∙◌, arith, add-one}
 use Rattle.std.specs.Prelude.{ℤ, slice_get}
-use Rattle.std.proofs.lemmas.List.{nil_from_length, take_all, take-append-le, drop-append-le, drop-drop, length-drop}
+use Rattle.std.proofs.Math.Nat.{mul-le-mul_right}
+use Rattle.std.proofs.lemmas.List.{nil_from_length, take_all, take-append-le, take-take, drop-append-le, drop-drop, drop-take, length-drop}
 use Rattle.heap_pages.specs.Rows.{cut_rows}
 
 -- there are as many rows as were asked for
@@ -21,6 +22,27 @@ slice_get-cut_rows width (suc n) (suc i) words below =
     let place : width + i * width ≡ suc i * width = omega arith in
     slice_get-cut_rows width n i (drop width words) (omega arith)
     ∙ ap (λ (ws : List ℤ). Some (take width ws)) (drop-drop (i * width) width words ∙ ap (λ k. drop k words) place)
+
+-- so it is of the words of some rows that follow one another, cut out
+pub slice_get-part : (width n first count slot : ℕ) (words part : List ℤ) → part ≡ take (count * width) (drop (first * width) words) → slot < count → first + count ≤ n
+    → slice_get (cut_rows width n words) (first + slot) ≡ Some (take width (drop (slot * width) part))
+slice_get-part width n first count slot words part is below there =
+    let from = drop (first * width) words in
+    let left = count - slot in
+    let more = left * width in
+    let some : 1 * width ≤ left * width = mul-le-mul_right width (omega (arith, below)) in
+    let enough : width ≤ more = omega (arith, some) in
+    let all : count ≡ slot + left = omega (arith, below) in
+    let parts : (slot + left) * width ≡ slot * width + left * width = grind arith in
+    let whole : count * width ≡ slot * width + more = ap (λ k. k * width) all ∙ parts in
+    let place : first * width + slot * width ≡ (first + slot) * width = grind arith in
+    slice_get-cut_rows width n (first + slot) words (omega (arith, below, there))
+    ∙ ap Some (sym (
+    ap (λ ws. take width (drop (slot * width) ws)) (is ∙ ap (λ k. take k from) whole)
+    ∙ ap (take width) (drop-take (slot * width) more from)
+    ∙ take-take width more (drop (slot * width) from) enough
+    ∙ ap (take width) (drop-drop (slot * width) (first * width) words ∙ ap (λ k. drop k words) place)
+    ))
 
 one_more : (width n : ℕ) (words row : List ℤ) → length words ≡ n * width → length row ≡ width → cut_rows width (suc n) (words ++ row) ≡ cut_rows width n words ++ row ∷ []
 one_more width zero words row filled wide =

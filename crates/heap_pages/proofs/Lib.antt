@@ -3,3 +3,4 @@ pub mod Packed
 pub mod PageStarts
 pub mod Reciprocal
 pub mod OfRows
+pub mod PlainPages

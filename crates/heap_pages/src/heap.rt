@@ -1,6 +1,6 @@
 // The heap: rows in packed pages, as many whole rows on each as fit. It relies on the ledger for each paid read, and
 // never moves, changes or drops a row.
-ghost use Rattle.std.specs.Prelude.{◌≡◌, ◌+◌, ◌-◌, ◌*◌, ◌/◌, ◌^◌, ◌<◌, ◌≤◌, [], ◌∷◌, ◌++◌, take, drop, length, Some, slice_get, OnOk, OnErr, IfOk};
+ghost use Rattle.std.specs.Prelude.{◌≡◌, ℕ, ◌+◌, ◌-◌, ◌*◌, ◌/◌, ◌^◌, ◌<◌, ◌≤◌, [], ◌∷◌, ◌++◌, take, drop, length, Some, slice_get, OnOk, OnErr, IfOk};
 ghost use Rattle.work_ledger.specs.Account.{Pays};
 ghost use Rattle.work_ledger.specs.Charges.{page_charge, row_charge, fetch_charge};
 ghost use Rattle.heap_pages.specs.Limits.{page_words, max_rows, max_columns};
@@ -139,6 +139,19 @@ impl Heap {
     {
         let number = self.page_of(i);
         self.row_at(number, i as usize - number * self.per_page)
+    }
+
+    /// The words of the rows on page `no`, from 0, one row after another. This read isn't paid.
+    pub fn plain_page(&self, no: u64) -> &[i64]
+        requires { no < pages_of self.now.columns (length self.now.rows) }
+        ensures filled { length result.now
+            ≡ rows_on_page self.now.columns (length self.now.rows) no * self.now.columns }
+        ensures rows { (slot : ℕ) → slot < rows_on_page self.now.columns (length self.now.rows) no
+            → slice_get self.now.rows (row_number self.now.columns no slot)
+            ≡ Some (take self.now.columns (drop (slot * self.now.columns) result.now)) }
+    {
+        let rows = self.rows_on_page(no);
+        self.pages.words_at(no as usize, 0, rows * self.columns)
     }
 
     // The page of row `i`, which may be the next row.

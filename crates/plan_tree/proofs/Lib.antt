@@ -16,3 +16,5 @@ mod LeftSides
 mod Listed
 mod PlanCounts
 pub mod Reader
+pub mod MetParts
+pub mod Narrowing

@@ -1,6 +1,7 @@
 pub mod Plans
 pub mod Sets
 pub mod Usable
+pub mod Ranges
 pub mod Enumerated
 pub mod Roots
 pub mod AllPlans

@@ -3,3 +3,4 @@ pub mod Words
 pub mod Equality
 pub mod Chains
 pub mod Combined
+pub mod OfKinds

@@ -5,3 +5,4 @@ pub mod Blocks
 pub mod Meaning
 pub mod Cells
 pub mod Combined
+pub mod Picked

@@ -32,10 +32,12 @@ quotient-few (suc rows) per some =
     let rest : 1 * rows ≤ per * rows = mul-le-mul_right rows some in
     div-le_of_le-mul per (omega (arith, product, rest, some))
 
-pub pages-few : (columns rows : ℕ) → 1 ≤ columns → columns ≤ 32 → pages_of columns rows ≤ rows
-pages-few columns rows some few =
-    let per : 1 ≤ rows_per_page columns = le-div 1 1024 columns some (omega (arith, few)) in
-    quotient-few rows (rows_per_page columns) per
+-- a page has a row
+pub some-rows : (columns : ℕ) → 1 ≤ columns → columns ≤ 32 → 1 ≤ rows_per_page columns
+some-rows columns some few = le-div 1 1024 columns some (omega (arith, few))
+
+pages-few : (columns rows : ℕ) → 1 ≤ columns → columns ≤ 32 → pages_of columns rows ≤ rows
+pages-few columns rows some few = quotient-few rows (rows_per_page columns) (some-rows columns some few)
 
 -- what is counted exactly where a test passes
 some-if : (b : Bool) (n : ℕ) → IsSome (cond b (Some n) None) ↔ IsTrue b

@@ -1,4 +1,7 @@
 pub mod Heights
 pub mod Fitting
 pub mod Relations
-pub mod Values
+pub mod Ready
+pub mod Matches
+pub mod Counted
+pub mod Told

@@ -18,13 +18,6 @@ use Rattle.cost_model.specs.declared.stale.Stale.{Stale}
 use Rattle.cost_model.specs.Staleness.{RefusesFirst}
 use Rattle.table_stats.specs.Fresh.{first_stale, stale_in}
 
-pub at-tree : (P : RelationTree → Type 0) (relations : List Relation) (place : ℕ) (relation : Relation) → All P (map relation_tree relations) → place < length relations
-    → relation ≡ get_or relations place relation → P (relation_tree relation)
-at-tree P relations place relation all below is =
-    let none : RelationTree = record { table = 0; columns = []; filter = []; indexes = [] } in
-    let there : place < length (map relation_tree relations) = omega (arith, below, length-map relations relation_tree) in
-    subst P (get_or-map relation_tree relations place relation none below ∙ ap relation_tree (sym is)) (All-get_or P (map relation_tree relations) place none there all)
-
 -- ---- products
 
 -- a product within its limit isn't the one that is looked for

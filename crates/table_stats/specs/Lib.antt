@@ -1,3 +1,5 @@
-pub mod Tallies
 pub mod Product
 pub mod Fresh
+pub mod Ready
+pub mod Kept
+pub mod Narrow

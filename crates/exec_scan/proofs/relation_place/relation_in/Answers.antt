@@ -1,6 +1,6 @@
 use Rattle.std.proofs.lemmas.List.{length-map}
 use Rattle.query_block.specs.Blocks.{IsRelation}
-use Rattle.exec_scan.proofs.Relations.{of_each}
+use Rattle.query_block.proofs.Relations.{of_each}
 use Rattle.exec_scan.proofs.relation_place.relation_in.Goals as goal
 
 pub returns-clause-allowed : goal.returns-clause-allowed

@@ -6,7 +6,8 @@ use Rattle.query_block.specs.declared.block.Relation.{Relation}
 use Rattle.query_block.specs.Blocks.{RelationTree, relation_tree}
 use Rattle.plan_tree.specs.Work.{table_rows}
 use Rattle.db_catalog.specs.Fits.{FitsTable}
-use Rattle.table_stats.proofs.Relations.{at-tree, next-count}
+use Rattle.query_block.proofs.Relations.{of_each}
+use Rattle.table_stats.proofs.Relations.{next-count}
 use Rattle.table_stats.proofs.product.product_past.Goals as goal
 
 pub rows-requires : goal.rows-requires
@@ -14,7 +15,7 @@ rows-requires c =
     let fits : RelationTree → Type 0 = FitsTable c.args.db.now in
     let lent = c.relations-relation-items.result.now in
     let all = subst (λ relations. All fits (map relation_tree relations)) (sym c.relations-relation-items.ensures.relations) c.requires in
-    (at-tree fits lent c.loop-relation.relation-index c.relation-item.result all c.loop-relation-test.true c.relation-item.is).there
+    (of_each fits lent c.loop-relation.relation-index c.relation-item.result c.loop-relation-test.true c.relation-item.is all).there
 
 pub loop-relation-preserved : goal.loop-relation-preserved
 loop-relation-preserved c =

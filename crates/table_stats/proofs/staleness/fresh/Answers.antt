@@ -5,7 +5,8 @@ use Rattle.std.proofs.lemmas.Slice.Zip.{AllZip-long}
 use Rattle.query_block.specs.Blocks.{RelationTree, relation_tree}
 use Rattle.db_catalog.specs.Fits.{FitsTable}
 use Rattle.cost_model.specs.Fits.{FitsRelation}
-use Rattle.table_stats.proofs.Relations.{at-tree, next-stale, handed-on}
+use Rattle.query_block.proofs.Relations.{of_each}
+use Rattle.table_stats.proofs.Relations.{next-stale, handed-on}
 use Rattle.cost_model.specs.Staleness.{RefusesFirst}
 use Rattle.table_stats.specs.Fresh.{first_stale, stale_in}
 use Rattle.table_stats.proofs.staleness.fresh.Goals as goal
@@ -27,7 +28,7 @@ check_relation-requires c =
     let fits : RelationTree → Type 0 = FitsTable c.args.db.now in
     let lent = c.relations-relation-items.result.now in
     let all = subst (λ relations. All fits (map relation_tree relations)) (sym c.relations-relation-items.ensures.relations) c.requires.fits in
-    (at-tree fits lent c.loop-number.number c.relation-item.result all c.loop-number-test.true c.relation-item.is).there
+    (of_each fits lent c.loop-number.number c.relation-item.result c.loop-number-test.true c.relation-item.is all).there
 
 pub returns-in_err-check_relation : goal.returns-in_err-check_relation
 returns-in_err-check_relation c =

@@ -5,21 +5,21 @@ use Rattle.query_block.specs.Blocks.{RelationTree, relation_tree, IsRelation}
 use Rattle.db_catalog.specs.Fits.{FitsTable}
 use Rattle.cost_model.specs.declared.stats.RelationStats.{RelationStats}
 use Rattle.cost_model.specs.Counts.{relation_stats_of}
-use Rattle.table_stats.proofs.Relations.{at-tree}
+use Rattle.query_block.proofs.Relations.{of_each}
 use Rattle.table_stats.proofs.stats.all_stats.Goals as goal
 
 pub relation_stats-requires-clause-relation : goal.relation_stats-requires-clause-relation
 relation_stats-requires-clause-relation c =
     let lent = c.relations-relation-items.result.now in
     let all = subst (λ relations. All IsRelation (map relation_tree relations)) (sym c.relations-relation-items.ensures.relations) c.relations-relation-items.ensures.block.relations in
-    at-tree IsRelation lent c.loop-relation.relation-index c.relation-item.result all c.loop-relation-test.true c.relation-item.is
+    of_each IsRelation lent c.loop-relation.relation-index c.relation-item.result c.loop-relation-test.true c.relation-item.is all
 
 pub relation_stats-requires-clause-fits : goal.relation_stats-requires-clause-fits
 relation_stats-requires-clause-fits c =
     let fits : RelationTree → Type 0 = FitsTable c.args.db.now in
     let lent = c.relations-relation-items.result.now in
     let all = subst (λ relations. All fits (map relation_tree relations)) (sym c.relations-relation-items.ensures.relations) c.requires in
-    at-tree fits lent c.loop-relation.relation-index c.relation-item.result all c.loop-relation-test.true c.relation-item.is
+    of_each fits lent c.loop-relation.relation-index c.relation-item.result c.loop-relation-test.true c.relation-item.is all
 
 twice : (f : RelationTree → RelationStats) (relations : List Relation) → map (λ relation. f (relation_tree relation)) relations ≡ map f (map relation_tree relations)
 twice f [] = refl

@@ -1,0 +1,27 @@
+use Rattle.std.proofs.Common.{◌≡◌, length, sym, ap, subst, ◌∙◌, SFits, w64, rules, All, map}
+use Rattle.std.specs.Prelude.{Contains, List, filter}
+use Rattle.std.proofs.lemmas.Int.{to_z-of_z}
+use Rattle.std.proofs.lemmas.List.Elements.{All-contains}
+use Rattle.query_block.specs.Blocks.{relation_tree}
+use Rattle.query_block.specs.Conditions.{filter_tree}
+use Rattle.query_block.specs.Meaning.{meets_filter}
+use Rattle.plan_tree.specs.Usable.{is_usable}
+use Rattle.db_catalog.specs.Database.{table_at}
+use Rattle.table_stats.proofs.Matches.{matches-are}
+use Rattle.table_stats.proofs.indexes.matches.Goals as goal
+
+pub entries_within-entries-requires-clause-indexed : goal.entries_within-entries-requires-clause-indexed
+entries_within-entries-requires-clause-indexed c =
+    All-contains (Contains (table_at c.args.db.now c.args.relation.now.table).indexed) c.args.relation.now.indexes c.args.column c.requires.fits.indexes c.requires.indexed
+
+pub returns : goal.returns
+returns c =
+    let database = c.args.db.now in
+    let own = relation_tree c.args.relation.now in
+    let range = c.range_of-range.result in
+    let from : SFits w64 range.from = search rules in
+    let to : SFits w64 range.to = search rules in
+    let entries = simp to_z-of_z at c.entries_within-entries.ensures.entries in
+    let finds = rw (c.as_slice.ensures, c.texts.ensures.texts) at (c.range_of-range.ensures own.columns) in
+    ap length entries
+    ∙ matches-are database own c.requires.fits c.args.column range (finds c.requires.relation.filter) c.entries_within-entries.ensures.words c.entries_within-entries.ensures.rows

@@ -1,0 +1,69 @@
+// How many rows of a relation's table its filter keeps. They are found through a range of an index, or page by page; both
+// ways lead to one number.
+ghost use Rattle.std.specs.Prelude.{◌≡◌, ◌+◌, ◌*◌, ◌<◌, ◌≤◌, Contains, count_by, drop, length, take};
+ghost use Rattle.query_block.specs.Meaning.{meets_filter};
+ghost use Rattle.plan_tree.specs.Enumerated.{HasUsable};
+ghost use Rattle.plan_tree.specs.Work.{table_rows};
+ghost use Rattle.db_catalog.specs.Meter.{table_pages};
+ghost use Rattle.table_stats.specs.Kept.{IsOver, rows_on};
+ghost use Rattle.table_stats.specs.Ready.{own};
+
+use crate::filter::ReadyFilter;
+use db_catalog::Database;
+use plan_tree::range_of;
+
+// The words of the row in this slot, from 0, among the rows of a page.
+fn row_in(words: &[i64], slot: usize, width: usize) -> &[i64]
+    requires { slot * width + width ≤ length words.now }
+    ensures { result.now ≡ take width (drop (slot * width) words.now) }
+{
+    &words[slot * width..slot * width + width]
+}
+
+// Among the rows on one page.
+fn kept_on_page(db: &Database, filter: &ReadyFilter<'_>, no: u64) -> u64
+    requires over { IsOver db.now filter.now }
+    requires page { no < table_pages db.now filter.now.relation.now.table }
+    ensures { result ≡ count_by (meets_filter (own filter.now).filter)
+        (rows_on db.now filter.now.relation.now.table no) }
+{
+    let table = filter.relation.table;
+    let width = db.columns(table).len();
+    let words = db.plain_page(table, no);
+    let mut kept = 0;
+    for slot in 0..db.rows_on_page(table, no) {
+        kept += u64::from(filter.keeps(row_in(words, slot, width)));
+    }
+    kept
+}
+
+/// Among all rows, page by page.
+pub(crate) fn kept_in_pages(db: &Database, filter: &ReadyFilter<'_>) -> u64
+    requires { IsOver db.now filter.now }
+    ensures { result ≡ count_by (meets_filter (own filter.now).filter)
+        (table_rows db.now.tables (own filter.now)) }
+{
+    let mut kept = 0;
+    for no in 0..db.pages(filter.relation.table) {
+        kept += kept_on_page(db, filter, no);
+    }
+    kept
+}
+
+/// Among the rows that meet each conjunct that the index on a column can use: no other row meets the filter.
+pub(crate) fn kept_within(db: &Database, filter: &ReadyFilter<'_>, column: u8) -> u64
+    requires over { IsOver db.now filter.now }
+    requires indexed { Contains filter.now.relation.now.indexes column }
+    requires usable { HasUsable (own filter.now) column }
+    ensures { result ≡ count_by (meets_filter (own filter.now).filter)
+        (table_rows db.now.tables (own filter.now)) }
+{
+    let table = filter.relation.table;
+    let range = range_of(column, filter.relation.filter.as_slice(), filter.texts);
+    let mut kept = 0;
+    for entry in db.entries_within(table, column, range.from, range.to) {
+        let row = db.plain_row(table, entry.1);
+        kept += u64::from(filter.keeps(row));
+    }
+    kept
+}
