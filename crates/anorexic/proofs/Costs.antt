@@ -1,5 +1,5 @@
 -- What nodes cost is what the plans cost whose numbers they have.
-use Rattle.std.proofs.Common.{◌≡◌, ◌≢◌, get_or-set_same, get_or-set_other, inl, inr, ℕ, ◌+◌, ◌<◌, ◌≤◌, ◌^◌, List, length, set, sym, ◌∙◌, subst, arith}
+use Rattle.std.proofs.Common.{◌≡◌, ◌≢◌, get_or-set_same, get_or-set_other, inl, inr, ℕ, ◌+◌, ◌<◌, ◌^◌, List, length, set, sym, ◌∙◌, subst, arith}
 use Rattle.std.specs.Prelude.{slice_index}
 use Rattle.std.proofs.lemmas.Bool.{cases_lt}
 use Rattle.plan_tree.specs.Plans.{PlanTree, Scan, IndexScan, Nest, Hash, Merge, IndexLoop, covers_of}
@@ -8,11 +8,10 @@ use Rattle.cost_model.specs.Costing.{costing_tree, IsCosting}
 use Rattle.cost_model.specs.Costs.{cost_of}
 use Rattle.cost_model.proofs.Bounds.{cost-below}
 use Rattle.plan_space.specs.Pricing.{Pricing}
-use Rattle.plan_space.specs.Prices.{block_at, own_at}
+use Rattle.plan_space.specs.Prices.{IsSetOf, block_at, own_at}
 use Rattle.plan_tree.specs.Roots.{root_of, Stands}
 use Rattle.plan_space.specs.Table.{sum_of}
 use Rattle.plan_tree.proofs.Outermost.{stands, covers-below}
-use Rattle.plan_space.proofs.Filled.{power-to}
 use Rattle.plan_space.proofs.Sums.{costs-are-sums}
 use Rattle.anorexic.specs.declared.node.Node.{Node}
 use Rattle.anorexic.specs.Nodes.{node_at, IsNumbered, AreBefore, AreNodes, AreNodeCosts, IsFew, AreFewAt, AreSideCostsFew, side_costs_at, side_costs_of}
@@ -27,14 +26,11 @@ node-stands at nodes number all less =
     subst (λ one. Stands (block_at at) one (node_at nodes number).set) (sym is.root)
     (subst (Stands (block_at at) (root_of node.plan)) (sym is.set) (stands (block_at at) node.plan node.is))
 
-pub set-small : (at : Pricing) (nodes : List Node) (number : ℕ) → IsCosting (costing_tree at.costing) → AreNodes (block_at at) nodes → number < length nodes
-    → (node_at nodes number).set < 64
-set-small at nodes number costing all less =
+pub is-set : (at : Pricing) (nodes : List Node) (number : ℕ) → AreNodes (block_at at) nodes → number < length nodes → IsSetOf (block_at at) (node_at nodes number).set
+is-set at nodes number all less =
     let node = all number less in
     let is = placed nodes node.plan number node.numbered in
-    let below = covers-below (block_at at) node.plan node.is in
-    let few : 2 ^ length (block_at at).relations ≤ 2 ^ 6 = power-to (length (block_at at).relations) 6 costing.block.few in
-    omega (arith, is.set, below, few)
+    omega (arith, is.set, covers-below (block_at at) node.plan node.is)
 
 -- a plan with a number before the end costs little
 one-few : (at : Pricing) (nodes : List Node) (costs : List ℕ) (end : ℕ) (p : PlanTree) (number : ℕ) → IsCosting (costing_tree at.costing) → length costs ≡ length nodes → end < length nodes

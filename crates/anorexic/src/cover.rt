@@ -12,7 +12,7 @@ use crate::candidates::Candidates;
 use crate::frontier_point::FrontierPoint;
 use crate::node_costs::cost_nodes;
 use cost_model::Costing;
-use plan_space::Prices;
+use plan_space::{PriceRoom, Prices};
 use std::alloc::{AllocError, Global};
 
 // What a plan that covers a point costs there at the most, a hundredfold.
@@ -44,6 +44,7 @@ fn add_row(
 // Adds which candidates cover a point. The costs are those of all nodes at another point. An error is want of memory.
 fn add_point(
     table: &mut Vec<bool>,
+    room: &mut PriceRoom,
     costs: &mut [u128],
     costing: &Costing<'_>,
     threshold: u32,
@@ -63,7 +64,7 @@ fn add_point(
         (map (plan_at frontier.now) candidates.now.places.items) at.now.point) }
 {
     let _frontier = frontier;
-    let prices = Prices::new(costing, &at.point);
+    let prices = Prices::new(costing, &at.point, room);
     cost_nodes(&prices, candidates.nodes.nodes.as_slice(), costs);
     let limit = limit_of(threshold, at);
     add_row(table, costs, candidates.numbers.as_slice(), limit)
@@ -86,10 +87,12 @@ pub(crate) fn cover_table(
         (map (plan_at frontier.now) candidates.now.places.items) table.items) }
 {
     let mut costs = vec![in alloc; 0u128; candidates.nodes.nodes.len()]?;
+    let mut room = PriceRoom::new();
     let mut table = Vec::new(alloc);
     for at in frontier {
         add_point(
             &mut table,
+            &mut room,
             costs.as_mut_slice(),
             costing,
             threshold,

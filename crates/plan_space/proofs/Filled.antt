@@ -36,7 +36,7 @@ power-to relation count le = pow-le-pow_right (omega arith) le
 pub sets-below : (relation count rest : ℕ) → relation < count → rest < 2 ^ relation → 2 ^ relation + rest < 2 ^ count
 sets-below relation count rest below less = omega (arith, next-power relation, power-to (relation + 1) count (omega arith))
 
-low-apart : (relation rest : ℕ) → rest < 2 ^ relation → bit_and (2 ^ relation) rest ≡ 0
+pub low-apart : (relation rest : ℕ) → rest < 2 ^ relation → bit_and (2 ^ relation) rest ≡ 0
 low-apart relation rest less =
     and_comm (2 ^ relation) rest ∙ and_pow rest relation ∙ ap (λ bit. bit * 2 ^ relation) (bit_at_above rest relation relation less (omega arith)) ∙ omega arith
 

@@ -1,4 +1,5 @@
 pub mod Counts
+pub mod SetCards
 pub mod Exchange
 pub mod Filled
 pub mod Pairs

@@ -1,5 +1,5 @@
 -- What each node of a plan costs by itself at a point, by the cards of its sides' sets.
-use Rattle.std.specs.Prelude.{◌≡◌, ℕ, ◌-◌, ◌*◌, ◌<◌, List, slice_index}
+use Rattle.std.specs.Prelude.{◌≡◌, ℕ, ◌-◌, ◌*◌, ◌^◌, ◌<◌, List, length, slice_index}
 use Rattle.plan_tree.specs.Enumerated.{edge_at, column_on}
 use Rattle.plan_tree.specs.Work.{bits, nest_work, hash_work, merge_work, index_loop_work}
 use Rattle.query_block.specs.Blocks.{BlockTree, block_tree}
@@ -42,8 +42,16 @@ own_at at = own_cost (costing_tree at.costing) at.point
 abbrev pub block_at : Pricing → BlockTree
 block_at at = block_tree at.costing.block
 
--- the cards of all sets are kept, and beside each the work of sorting so many rows
+-- a set of the block's relations
+abbrev pub IsSetOf : BlockTree → (set : ℕ) → Type 0
+IsSetOf block set = set < 2 ^ length block.relations
+
+-- the cards of all sets
+abbrev pub AreCards : Pricing → (cards : List ℕ) → Type 0
+AreCards at cards = (set : ℕ) → IsSetOf (block_at at) set → slice_index cards set ≡ set_card (costing_tree at.costing) at.point set
+
+-- they are kept, and beside each the work of sorting so many rows
 pub record ArePrices (at : Pricing) (cards sorts : List ℕ) : Type 0 where
   pub of_grid : IsPoint at.costing.grid at.point
-  pub are_cards : (set : ℕ) → set < 64 → slice_index cards set ≡ set_card (costing_tree at.costing) at.point set
-  pub are_sorts : (set : ℕ) → set < 64 → slice_index sorts set ≡ slice_index cards set * bits (slice_index cards set)
+  pub are_cards : AreCards at cards
+  pub are_sorts : (set : ℕ) → IsSetOf (block_at at) set → slice_index sorts set ≡ slice_index cards set * bits (slice_index cards set)

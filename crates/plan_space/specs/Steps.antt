@@ -1,5 +1,5 @@
 -- What each step of the search for a set's entry has considered.
-use Rattle.std.specs.Prelude.{◌≡◌, ℕ, ◌<◌, ◌≤◌, ◌^◌, IsTrue, List, length, nat_eq}
+use Rattle.std.specs.Prelude.{◌≡◌, ℕ, ◌<◌, ◌≤◌, IsTrue, List, nat_eq}
 use Rattle.std.specs.List.{list_any}
 use Rattle.plan_tree.specs.declared.roots.Root.{Root}
 use Rattle.plan_tree.specs.declared.roots.Root.TheVariants as root
@@ -7,7 +7,7 @@ use Rattle.plan_space.specs.declared.entry.Entry.{Entry}
 use Rattle.plan_tree.specs.Roots.{Stands}
 use Rattle.plan_space.specs.Table.{offered, NotLater, IsOffered, AreLeast}
 use Rattle.plan_space.specs.Pricing.{Pricing}
-use Rattle.plan_space.specs.Prices.{own_at, block_at}
+use Rattle.plan_space.specs.Prices.{IsSetOf, own_at, block_at}
 
 -- some nodes
 abbrev pub Group : Type 1
@@ -61,7 +61,7 @@ ReadsRelation (root.IndexLoop number side relation) = ⊥
 -- the entries of all smaller sets are least
 pub record IsFilledBelow (at : Pricing) (table : List Entry) (set : ℕ) : Type 0 where
   pub some : 1 ≤ set
-  pub below : set < 2 ^ length (block_at at).relations
+  pub below : IsSetOf (block_at at) set
   pub small : set < 64
   pub filled : AreLeast (own_at at) (block_at at) table set
 

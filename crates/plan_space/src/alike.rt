@@ -1,24 +1,13 @@
 // Which other point serves for a set of relations: what plans of a set cost depends on the levels of the edges inside it alone.
 ghost use Rattle.std.specs.Prelude.{◌≡◌, ◌<◌, ◌≤◌, if◌then◌else◌, length};
 ghost use Rattle.query_block.specs.Blocks.{block_tree};
-ghost use Rattle.query_block.specs.Meaning.{is_inside};
-ghost use Rattle.plan_tree.specs.Sets.{set_of};
 ghost use Rattle.plan_space.specs.Prices.{block_at};
 ghost use Rattle.plan_space.specs.Alike.{AreInside, AreInsideSets, IsAlikePlace};
 
 use crate::prices::Prices;
-use plan_tree::is_in_set;
-use query_block::{Block, Edge};
+use crate::sets::is_inside;
+use query_block::Block;
 use sql_values::MAX_AXES;
-
-// Whether both relations of an edge are in a set.
-fn is_inside(set: u8, edge: &Edge) -> bool
-    requires left { edge.now.left < 8 }
-    requires right { edge.now.right < 8 }
-    ensures { result ≡ is_inside (set_of set) edge.now }
-{
-    is_in_set(set, edge.left) && is_in_set(set, edge.right)
-}
 
 // For each edge, whether it is inside a set.
 fn edges_inside(block: &Block, set: u8) -> [bool; MAX_AXES]

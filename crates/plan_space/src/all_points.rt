@@ -12,7 +12,7 @@ ghost use Rattle.plan_space.specs.Alike.{AreInsideSets, AreLeastRows};
 
 use crate::alike::edges_inside_sets;
 use crate::entry::Entry;
-use crate::prices::Prices;
+use crate::prices::{PriceRoom, Prices};
 use crate::search::rebuilt;
 use crate::sets::set_of_all;
 use crate::table::filled;
@@ -51,6 +51,7 @@ impl<'c> Model for BestPlans<'c> {
 // The entries at the point at this place, where those of the points before it are kept.
 fn row_of(
     costing: &Costing<'_>,
+    room: &mut PriceRoom,
     inside: &[[bool; MAX_AXES]; 64],
     rows: &[[Entry; 64]],
     place: usize,
@@ -64,7 +65,7 @@ fn row_of(
         (2 ^ length (block_tree costing.now.block).relations) }
 {
     let q = costing.grid().point(place);
-    filled(&Prices::new(costing, &q), inside, rows)
+    filled(&Prices::new(costing, &q, room), inside, rows)
 }
 
 // The entries at all points.
@@ -74,9 +75,10 @@ fn rows_of(alloc: Global, costing: &Costing<'_>) -> Result<Vec<[Entry; 64]>, All
 {
     let inside = edges_inside_sets(costing.block());
     let points = costing.grid().points();
+    let mut room = PriceRoom::new();
     let mut rows = Vec::with_capacity(alloc, points)?;
     for place in 0..points {
-        let row = row_of(costing, &inside, rows.as_slice(), place);
+        let row = row_of(costing, &mut room, &inside, rows.as_slice(), place);
         rows.push(row)?;
     }
     Ok(rows)

@@ -7,7 +7,7 @@ ghost use Rattle.cost_model.specs.Costing.{costing_tree, IsCosting};
 ghost use Rattle.cost_model.specs.Costs.{index_stats, candidate_card};
 ghost use Rattle.plan_tree.specs.declared.roots.Root.TheVariants.{Scan, IndexScan, Nest, Hash, Merge, IndexLoop};
 ghost use Rattle.plan_tree.specs.Roots.{IsSplit};
-ghost use Rattle.plan_space.specs.Prices.{set_card, own_at};
+ghost use Rattle.plan_space.specs.Prices.{IsSetOf, set_card, own_at, block_at};
 
 use crate::arithmetic::{hash_cost, index_loop_cost, merge_cost, nest_cost};
 use crate::prices::Prices;
@@ -15,8 +15,8 @@ use cost_model::IndexStats;
 
 // So many pairs of rows have the two sides of a set.
 fn pairs(prices: &Prices<'_>, left: u8, right: u8) -> u128
-    requires left { left < 64 }
-    requires right { right < 64 }
+    requires left { IsSetOf (block_at prices.now) left }
+    requires right { IsSetOf (block_at prices.now) right }
     requires apart { bit_and left right ≡ 0 }
     ensures pairs { result ≡ set_card (costing_tree prices.now.costing) prices.now.point left
         * set_card (costing_tree prices.now.costing) prices.now.point right }
@@ -30,7 +30,7 @@ fn pairs(prices: &Prices<'_>, left: u8, right: u8) -> u128
 #[tactic(auto, unfolding(crate::specs::Prices::own_cost))]
 pub(crate) fn scan(prices: &Prices<'_>, relation: u8, set: u8) -> u128
     requires relation { relation < length prices.now.costing.block.relations }
-    requires set { set < 64 }
+    requires set { IsSetOf (block_at prices.now) set }
     ensures own { result ≡ own_at prices.now (Scan relation) set }
     ensures bound { result ≤ 2 ^ 108 }
 {
@@ -42,7 +42,7 @@ pub(crate) fn scan(prices: &Prices<'_>, relation: u8, set: u8) -> u128
 #[tactic(auto, unfolding(crate::specs::Prices::own_cost))]
 pub(crate) fn index_scan(prices: &Prices<'_>, relation: u8, column: u8, set: u8) -> u128
     requires relation { relation < length prices.now.costing.block.relations }
-    requires set { set < 64 }
+    requires set { IsSetOf (block_at prices.now) set }
     ensures own { result ≡ own_at prices.now (IndexScan relation column) set }
     ensures bound { result ≤ 2 ^ 108 }
 {
@@ -55,7 +55,7 @@ pub(crate) fn index_scan(prices: &Prices<'_>, relation: u8, column: u8, set: u8)
 #[tactic(auto, unfolding(crate::specs::Prices::own_cost))]
 pub(crate) fn nest(prices: &Prices<'_>, left: u8, set: u8) -> u128
     requires split { IsSplit left set }
-    requires set { set < 64 }
+    requires set { IsSetOf (block_at prices.now) set }
     ensures own { result ≡ own_at prices.now (Nest left) set }
     ensures bound { result ≤ 2 ^ 108 }
 {
@@ -73,7 +73,7 @@ pub(crate) fn nest(prices: &Prices<'_>, left: u8, set: u8) -> u128
 pub(crate) fn candidates(prices: &Prices<'_>, edge: u8, left: u8, set: u8) -> u128
     requires edge { edge < length prices.now.costing.block.edges }
     requires split { IsSplit left set }
-    requires set { set < 64 }
+    requires set { IsSetOf (block_at prices.now) set }
     ensures candidates { let costing = costing_tree prices.now.costing in
         result ≡ candidate_card costing edge prices.now.point
         (set_card costing prices.now.point left * set_card costing prices.now.point (set - left)) }
@@ -87,7 +87,7 @@ pub(crate) fn candidates(prices: &Prices<'_>, edge: u8, left: u8, set: u8) -> u1
 #[tactic(auto, unfolding(crate::specs::Prices::own_cost))]
 pub(crate) fn hash(prices: &Prices<'_>, edge: u8, left: u8, set: u8, candidates: u128) -> u128
     requires split { IsSplit left set }
-    requires set { set < 64 }
+    requires set { IsSetOf (block_at prices.now) set }
     requires candidates { let costing = costing_tree prices.now.costing in
         candidates ≡ candidate_card costing edge prices.now.point
         (set_card costing prices.now.point left * set_card costing prices.now.point (set - left)) }
@@ -108,7 +108,7 @@ pub(crate) fn hash(prices: &Prices<'_>, edge: u8, left: u8, set: u8, candidates:
 #[tactic(auto, unfolding(crate::specs::Prices::own_cost))]
 pub(crate) fn merge(prices: &Prices<'_>, edge: u8, left: u8, set: u8, candidates: u128) -> u128
     requires split { IsSplit left set }
-    requires set { set < 64 }
+    requires set { IsSetOf (block_at prices.now) set }
     requires candidates { let costing = costing_tree prices.now.costing in
         candidates ≡ candidate_card costing edge prices.now.point
         (set_card costing prices.now.point left * set_card costing prices.now.point (set - left)) }
@@ -139,7 +139,7 @@ pub(crate) fn index_loop(
 ) -> u128
     requires edge { edge < length prices.now.costing.block.edges }
     requires split { IsSplit left set }
-    requires set { set < 64 }
+    requires set { IsSetOf (block_at prices.now) set }
     requires relation { relation < length prices.now.costing.block.relations }
     requires apart { bit_and left (2 ^ relation) ≡ 0 }
     requires column { column ≡ column_on (edge_at prices.now.costing.block.edges edge) relation }

@@ -8,6 +8,7 @@
 mod alike;
 mod all_points;
 mod arithmetic;
+mod cards;
 mod costs;
 mod entry;
 mod joins;
@@ -16,9 +17,10 @@ mod own;
 mod prices;
 mod search;
 mod sets;
+mod stats;
 mod steps;
 mod table;
 
 pub use all_points::{BestPlans, best_at_all_points};
-pub use prices::Prices;
+pub use prices::{PriceRoom, Prices};
 pub use search::best;

@@ -1,7 +1,7 @@
 // What any node costs by itself, whichever kind it is of.
 ghost use Rattle.std.specs.Prelude.{◌≡◌, ◌^◌, ◌<◌, ◌≤◌};
 ghost use Rattle.plan_tree.specs.Roots.{Stands};
-ghost use Rattle.plan_space.specs.Prices.{own_at, block_at};
+ghost use Rattle.plan_space.specs.Prices.{IsSetOf, own_at, block_at};
 
 use crate::costs;
 use crate::prices::Prices;
@@ -12,7 +12,7 @@ impl Prices<'_> {
     /// cost. So the cost of a plan is the sum of this over its nodes.
     pub fn own(&self, root: Root, set: u8) -> u128
         requires stands { Stands (block_at self.now) root set }
-        requires small { set < 64 }
+        requires set { IsSetOf (block_at self.now) set }
         ensures own { result ≡ own_at self.now root set }
         ensures bound { result ≤ 2 ^ 108 }
     {

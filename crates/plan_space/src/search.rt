@@ -10,7 +10,7 @@ ghost use Rattle.plan_space.specs.Table.{Follows, AreStanding};
 
 use crate::alike::edges_inside_sets;
 use crate::entry::Entry;
-use crate::prices::Prices;
+use crate::prices::{PriceRoom, Prices};
 use crate::sets::set_of_all;
 use crate::table::filled;
 use cost_model::Costing;
@@ -103,5 +103,5 @@ pub fn best(alloc: Global, costing: &Costing<'_>, q: &Point) -> Result<(Plan, u1
     ensures cost { IfOk result (λ found.
         found.1 ≡ optimal_cost (costing_tree costing.now) q.now) }
 {
-    best_at(alloc, &Prices::new(costing, q))
+    best_at(alloc, &Prices::new(costing, q, &mut PriceRoom::new()))
 }

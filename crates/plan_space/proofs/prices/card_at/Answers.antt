@@ -2,7 +2,11 @@ use Rattle.std.proofs.Common.{arith}
 use Rattle.cost_model.specs.Costing.{costing_tree}
 use Rattle.plan_tree.specs.Sets.{set_of}
 use Rattle.cost_model.proofs.Bounds.{card-below}
+use Rattle.plan_space.proofs.SetCards.{set-small}
 use Rattle.plan_space.proofs.prices.card_at.Goals as goal
+
+pub bounds-cards-set : goal.bounds-cards-set
+bounds-cards-set c = omega (arith, set-small (costing_tree c.args.costing.now) c.args.set c.block-block.ensures.costing c.requires.set)
 
 pub returns-clause-few : goal.returns-clause-few
 returns-clause-few c =

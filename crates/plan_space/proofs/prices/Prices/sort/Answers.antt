@@ -1,10 +1,14 @@
-use Rattle.std.proofs.Common.{◌∙◌, ap, sym, arith}
+use Rattle.std.proofs.Common.{subst, arith}
 use Rattle.cost_model.specs.Costing.{costing_tree}
-use Rattle.plan_space.specs.Prices.{set_card}
+use Rattle.plan_space.specs.Prices.{ArePrices}
 use Rattle.plan_space.proofs.Pairs.{sort-few}
+use Rattle.plan_space.proofs.SetCards.{set-small}
 use Rattle.plan_space.proofs.prices.Prices.sort.Goals as goal
+
+pub bounds-self-inside-set : goal.bounds-self-inside-set
+bounds-self-inside-set c = omega (arith, set-small (costing_tree c.args.self.now.costing) c.args.set c.block-block.ensures.costing c.requires)
 
 pub returns-clause-few : goal.returns-clause-few
 returns-clause-few c =
-    let card = c.self.invariant.are_cards c.args.set c.requires ∙ ap (λ at. set_card (costing_tree at.costing) at.point c.args.set) c.self.view_is ∙ sym c.card-card.ensures.card in
-    sort-few _ _ (omega (arith, card, c.card-card.ensures.few)) (c.self.invariant.are_sorts c.args.set c.requires)
+    let prices = subst (λ at. ArePrices at c.self.inside.room.now.cards c.self.inside.room.now.sorts) c.self.view_is c.self.invariant in
+    sort-few _ _ (omega (arith, prices.are_cards c.args.set c.requires, c.card-card.ensures.card, c.card-card.ensures.few)) (prices.are_sorts c.args.set c.requires)

@@ -2,7 +2,7 @@ use Rattle.std.proofs.Common.{◌≤◌, ◌^◌, length, ap, arith}
 use Rattle.std.proofs.Math.ListN.{length-map}
 use Rattle.query_block.specs.Blocks.{relation_tree}
 use Rattle.plan_space.proofs.Filled.{power-to}
-use Rattle.plan_space.proofs.sets.set_of_all.Goals as goal
+use Rattle.plan_space.proofs.sets.set_count.Goals as goal
 
 pub returns-clause-some : goal.returns-clause-some
 returns-clause-some c =
@@ -12,8 +12,8 @@ returns-clause-some c =
     let two : 2 ^ 1 ≤ 2 ^ count = power-to 1 count (omega (arith, many, block.some, ap length c.relations-count.ensures.relations)) in
     omega (arith, two, c.set_of_one.ensures)
 
-pub returns-clause-small : goal.returns-clause-small
-returns-clause-small c =
+pub returns-clause-few : goal.returns-clause-few
+returns-clause-few c =
     let count = length c.relations-count.result.now in
     let many = length-map c.args.block.now.relations relation_tree in
     let block = c.relations-count.ensures.block in

@@ -3,7 +3,7 @@ use Rattle.cost_model.specs.Costing.{costing_tree}
 use Rattle.cost_model.specs.Parts.{AreFew}
 use Rattle.cost_model.proofs.Bounds.{relation-few}
 use Rattle.plan_space.proofs.Counts.{there, lent-at}
-use Rattle.plan_space.proofs.prices.relation_stats.Goals as goal
+use Rattle.plan_space.proofs.stats.relation_stats.Goals as goal
 
 pub bounds-as_slice-relation : goal.bounds-as_slice-relation
 bounds-as_slice-relation c =

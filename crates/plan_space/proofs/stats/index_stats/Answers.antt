@@ -2,7 +2,7 @@ use Rattle.std.proofs.Common.{◌∙◌, ap, sym, subst}
 use Rattle.cost_model.specs.Costs.{index_on}
 use Rattle.cost_model.specs.Parts.{IsFewIndex}
 use Rattle.cost_model.proofs.Bounds.{index-on-few}
-use Rattle.plan_space.proofs.prices.index_stats.Goals as goal
+use Rattle.plan_space.proofs.stats.index_stats.Goals as goal
 
 pub returns-clause-few : goal.returns-clause-few
 returns-clause-few c =

@@ -1,6 +1,6 @@
 use Rattle.std.proofs.Common.{◌≡◌, ℕ, ◌*◌, ◌<◌, length, get_or}
 use Rattle.plan_tree.specs.Work.{bits}
-use Rattle.plan_space.proofs.prices.sorts_of.Given as goal
+use Rattle.plan_space.proofs.prices.fill_sorts.Given as goal
 
 abbrev pub invariant-loop-set : goal.invariant-loop-set
 invariant-loop-set l =

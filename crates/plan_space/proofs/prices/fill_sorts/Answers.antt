@@ -1,6 +1,6 @@
 use Rattle.std.proofs.Common.{ℕ, ◌<◌, ◌≢◌, length, arith, get_or-set_other, get_or-set_same, below_more}
 use Rattle.std.proofs.Math.ListN.{length-set}
-use Rattle.plan_space.proofs.prices.sorts_of.Goals as goal
+use Rattle.plan_space.proofs.prices.fill_sorts.Goals as goal
 
 pub loop-set-preserved : goal.loop-set-preserved
 loop-set-preserved c =
