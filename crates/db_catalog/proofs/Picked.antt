@@ -1,5 +1,5 @@
 -- The entries of the rows that a range picks.
-use Rattle.std.proofs.Common.{◌≡◌, ℕ, ℤ, ◌<◌, Bool, List, filter, length, get_or, FitsSigned, w64, sym, ap, subst, ◌∙◌}
+use Rattle.std.proofs.Common.{◌≡◌, ℕ, ℤ, ◌<◌, Bool, filter, length, get_or, FitsSigned, w64, sym, ap, subst, ◌∙◌}
 use Rattle.sql_values.specs.Stored.{ValueRow}
 use Rattle.query_block.specs.Truth.{value_at}
 use Rattle.query_block.specs.Blocks.{RelationTree, kind_at}

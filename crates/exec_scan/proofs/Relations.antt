@@ -1,5 +1,5 @@
 -- A relation of a block as it is kept and as it is seen, and the rows of its table: the first of those ahead, once it is read.
-use Rattle.std.proofs.Common.{◌≡◌, ℕ, ℤ, ◌<◌, Bool, true, cond, IfOk, List, [], ◌∷◌, All, length, map, filter, get_or, Option, Some, None, MatchOption, Result, Ok, Err, refl, sym, ap, subst, ◌∙◌}
+use Rattle.std.proofs.Common.{◌≡◌, ℕ, ℤ, Bool, true, cond, IfOk, List, ◌∷◌, filter, Option, Some, None, MatchOption, Result, Ok, Err, sym, ap, subst, ◌∙◌}
 use Rattle.sql_values.specs.Stored.{ValueRow, StandsFor, values_of}
 use Rattle.query_block.specs.Blocks.{RelationTree}
 use Rattle.db_catalog.specs.Database.{DatabaseState, table_at}

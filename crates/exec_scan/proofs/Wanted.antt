@@ -2,7 +2,6 @@
 use Rattle.std.proofs.Common.{◌≡◌, ℕ, ℤ, ◌*◌, Bool, List, [], ◌∷◌, filter, map, length, Option, Some, None, IsSome, refl, sym, ap, subst, ◌∙◌, arith}
 use Rattle.sql_values.specs.Stored.{StandsFor}
 use Rattle.query_block.specs.Blocks.{RelationTree}
-use Rattle.query_block.specs.Meaning.{meets_filter}
 use Rattle.plan_tree.specs.Usable.{is_usable}
 use Rattle.plan_tree.specs.declared.range.WordRange.{WordRange}
 use Rattle.plan_tree.specs.Ranges.{Finds}

@@ -1,15 +1,12 @@
 -- Ranges of words, and in which rows a column has words of a range.
-use Rattle.std.specs.Prelude.{◌≡◌, ◌≢◌, ℕ, ℤ, ◌&&◌, ◌||◌, not, Bool, true, false, List, IsTrue, int_le, FitsSigned}
-use Rattle.std.specs.Int.{w64}
+use Rattle.std.specs.Prelude.{◌≡◌, ◌≢◌, ℕ, ℤ, ◌&&◌, ◌||◌, not, Bool, List, int_le}
 use Rattle.sql_values.specs.declared.column.ColumnType.{ColumnType}
 use Rattle.sql_values.specs.declared.op.Op.{Op}
 use Rattle.sql_values.specs.declared.op.Op.TheVariants.{Eq, Ne, Lt, Le, Gt, Ge}
 use Rattle.sql_values.specs.declared.value.Value.{Value}
 use Rattle.sql_values.specs.declared.value.Value.TheVariants as value
-use Rattle.sql_values.specs.Dictionary.{has_text}
 use Rattle.sql_values.specs.Words.{word_of}
 use Rattle.sql_values.specs.Stored.{ValueRow}
-use Rattle.sql_values.specs.Truth.{is_null}
 use Rattle.query_block.specs.Conditions.{FilterTree}
 use Rattle.query_block.specs.Truth.{value_at, truth_of}
 use Rattle.query_block.specs.Blocks.{kind_at, holds_texts, is_text}

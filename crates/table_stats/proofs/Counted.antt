@@ -1,5 +1,5 @@
 -- Rows that are counted one after another, page after page, or by the entries of an index.
-use Rattle.std.proofs.Common.{◌≡◌, ℕ, ℤ, ◌+◌, ◌-◌, ◌*◌, ◌<◌, ◌≤◌, Bool, true, false, ◌&&◌, List, [], ◌++◌, All, length, map, filter, count_by, get_or, take, drop, cond, FitsSigned, w64, sym, ap, ap₂, subst, ◌∙◌, inl, inr, refl, arith}
+use Rattle.std.proofs.Common.{◌≡◌, ℕ, ℤ, ◌+◌, ◌*◌, ◌<◌, ◌≤◌, Bool, true, false, List, [], ◌++◌, length, map, filter, count_by, get_or, take, drop, cond, sym, ap, ap₂, ◌∙◌, inl, inr, refl, arith}
 use mir.Val.{bool_byte}
 use Rattle.std.specs.Prelude.{min}
 use Rattle.std.proofs.Math.Nat.{mul-le-mul_right}
@@ -10,7 +10,7 @@ use Rattle.std.proofs.lemmas.List.Elements.{filter-append}
 use Rattle.std.proofs.lemmas.List.Sums.{count_by_more_yes, count_by_more_no, count_by-le-length, length-filter}
 use Rattle.std.proofs.lemmas.List.Sorted.{length_permutation}
 use Rattle.sql_values.specs.Words.{word_of}
-use Rattle.sql_values.specs.Stored.{ValueRow, StandsFor, values_of}
+use Rattle.sql_values.specs.Stored.{ValueRow, StandsFor}
 use Rattle.heap_pages.specs.Rows.{pages_of, rows_on_page, rows_per_page, row_number}
 use Rattle.heap_pages.proofs.PageStarts.{pages_enough}
 use Rattle.query_block.specs.Blocks.{RelationTree}

@@ -1,15 +1,13 @@
 -- What holds of each relation of a block holds of the one at a place.
-use Rattle.std.proofs.Common.{◌≡◌, ℕ, ◌+◌, ◌*◌, ◌<◌, ◌≤◌, max, ltb, Some, List, [], ◌∷◌, All, length, map, drop, get_or, ap, sym, subst, ◌∙◌, arith}
+use Rattle.std.proofs.Common.{◌≡◌, ℕ, ◌+◌, ◌*◌, ◌<◌, ◌≤◌, max, ltb, Some, List, ◌∷◌, length, map, drop, get_or, ap, sym, ◌∙◌, arith}
 use Rattle.std.specs.Prelude.{true, false, Option, Result, Ok, Err, IsErrAnd}
 use Rattle.std.specs.Option.{option_or}
 use Rattle.std.proofs.lemmas.Bool.Decides.{nat_tests}
-use Rattle.std.proofs.Math.ListN.{length-map}
-use Rattle.std.proofs.lemmas.List.{get_or-map, at_drop_more}
-use Rattle.std.proofs.lemmas.List.Elements.{All-get_or}
+use Rattle.std.proofs.lemmas.List.{at_drop_more}
 use Rattle.sql_values.specs.Limits.{max_product}
 use Rattle.sql_values.specs.Stored.{StoredTable}
 use Rattle.query_block.specs.declared.block.Relation.{Relation}
-use Rattle.query_block.specs.Blocks.{RelationTree, relation_tree}
+use Rattle.query_block.specs.Blocks.{relation_tree}
 use Rattle.plan_tree.specs.Work.{table_rows}
 use Rattle.db_catalog.specs.Database.{DatabaseState}
 use Rattle.cost_model.specs.declared.stats.RelationStats.{RelationStats}

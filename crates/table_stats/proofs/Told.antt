@@ -1,5 +1,5 @@
 -- What the counts of indexes tell of the rows that a filter keeps.
-use Rattle.std.proofs.Common.{◌≡◌, ℕ, ◌<◌, ◌≤◌, Bool, true, false, ◌&&◌, cond, not, List, [], ◌∷◌, All, IsTrue, IsSome, Some, None, Option, length, map, filter, count_by, get_or, sym, ap, subst, ◌∙◌, refl, arith}
+use Rattle.std.proofs.Common.{◌≡◌, ℕ, ◌<◌, Bool, true, false, ◌&&◌, cond, not, List, [], ◌∷◌, All, IsSome, Some, None, Option, length, map, filter, count_by, get_or, sym, ap, subst, ◌∙◌, refl, arith}
 use Rattle.std.specs.Prelude.{Contains}
 use Rattle.std.specs.List.{list_all}
 use Rattle.std.proofs.lemmas.Bool.{not_from_false}
@@ -19,7 +19,7 @@ use Rattle.plan_tree.proofs.MetParts.{meets-some}
 use Rattle.cost_model.specs.declared.stats.IndexStats.{IndexStats}
 use Rattle.cost_model.specs.Counts.{index_stats_of}
 use Rattle.db_catalog.proofs.IndexEntries.{followed}
-use Rattle.table_stats.specs.Narrow.{HasMatches, TellsAll, uses_all}
+use Rattle.table_stats.specs.Narrow.{HasMatches, TellsAll}
 
 module _ (tables : List StoredTable) (relation : RelationTree) (columns : List IndexStats) (are : columns ≡ map (index_stats_of tables relation) relation.indexes) where
   -- each of the counts is that of an indexed column

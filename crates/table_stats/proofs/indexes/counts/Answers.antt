@@ -1,10 +1,7 @@
-use Rattle.std.proofs.Common.{◌∙◌, map, sym, ap, ap₂}
+use Rattle.std.proofs.Common.{◌∙◌, sym}
 use Rattle.std.specs.Prelude.{Contains}
-use Rattle.std.specs.List.{list_any}
 use Rattle.std.proofs.lemmas.List.Elements.{All-contains}
 use Rattle.query_block.specs.Blocks.{relation_tree}
-use Rattle.query_block.specs.Conditions.{filter_tree}
-use Rattle.plan_tree.specs.Usable.{is_usable}
 use Rattle.db_catalog.specs.Database.{table_at}
 use Rattle.table_stats.proofs.Matches.{counted, uncounted}
 use Rattle.table_stats.proofs.indexes.counts.Goals as goal

@@ -1,11 +1,8 @@
-use Rattle.std.proofs.Common.{◌≡◌, length, sym, ap, subst, ◌∙◌, SFits, w64, rules, All, map}
-use Rattle.std.specs.Prelude.{Contains, List, filter}
+use Rattle.std.proofs.Common.{length, ap, ◌∙◌, SFits, w64, rules}
+use Rattle.std.specs.Prelude.{Contains}
 use Rattle.std.proofs.lemmas.Int.{to_z-of_z}
 use Rattle.std.proofs.lemmas.List.Elements.{All-contains}
 use Rattle.query_block.specs.Blocks.{relation_tree}
-use Rattle.query_block.specs.Conditions.{filter_tree}
-use Rattle.query_block.specs.Meaning.{meets_filter}
-use Rattle.plan_tree.specs.Usable.{is_usable}
 use Rattle.db_catalog.specs.Database.{table_at}
 use Rattle.table_stats.proofs.Matches.{matches-are}
 use Rattle.table_stats.proofs.indexes.matches.Goals as goal

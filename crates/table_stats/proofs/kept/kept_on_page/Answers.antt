@@ -1,4 +1,4 @@
-use Rattle.std.proofs.Common.{◌≡◌, ℕ, ◌+◌, ◌*◌, ◌<◌, ◌≤◌, [], List, drop, get_or, length, take, sym, ap, ap₂, subst, ◌∙◌, arith}
+use Rattle.std.proofs.Common.{◌≡◌, ◌*◌, ◌<◌, [], List, drop, get_or, length, take, sym, ap, subst, ◌∙◌, arith}
 use Rattle.std.specs.Prelude.{Bool, ℤ}
 use Rattle.sql_values.specs.declared.column.ColumnDef.{ColumnDef}
 use Rattle.sql_values.specs.Stored.{ValueRow, StandsFor, values_of}
@@ -7,7 +7,7 @@ use Rattle.query_block.specs.Meaning.{meets_filter}
 use Rattle.db_catalog.specs.Database.{table_at, row_at}
 use Rattle.db_catalog.specs.Meter.{page_rows}
 use Rattle.db_catalog.proofs.OfRelations.{relation_values}
-use Rattle.table_stats.specs.Ready.{IsOwnRow, own}
+use Rattle.table_stats.specs.Ready.{own}
 use Rattle.table_stats.proofs.Counted.{one-more, own-row, slot-ends, slot-row, slot-there}
 use Rattle.table_stats.proofs.kept.kept_on_page.Goals as goal
 

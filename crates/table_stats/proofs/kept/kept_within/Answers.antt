@@ -1,15 +1,12 @@
-use Rattle.std.proofs.Common.{◌≡◌, ◌<◌, ◌+◌, pos, All, [], List, get_or, length, map, take, SFits, w64, sym, ap, subst, ◌∙◌, rules, arith}
-use Rattle.std.specs.Prelude.{Bool, Contains, count_by, filter}
+use Rattle.std.proofs.Common.{◌≡◌, ◌<◌, pos, All, [], get_or, length, map, take, SFits, w64, sym, ap, subst, ◌∙◌, rules}
+use Rattle.std.specs.Prelude.{Bool, Contains, count_by}
 use Rattle.std.proofs.lemmas.Int.{to_z-of_z}
 use Rattle.std.proofs.lemmas.List.{get_or-map, length-map, take_all}
 use Rattle.std.proofs.lemmas.List.Elements.{All-contains, All-filter}
 use Rattle.sql_values.specs.Stored.{ValueRow, values_of}
-use Rattle.query_block.specs.Conditions.{filter_tree}
 use Rattle.query_block.specs.Meaning.{meets_filter}
 use Rattle.btree_index.specs.Entries.{IndexEntry, is_within}
-use Rattle.plan_tree.specs.Ranges.{Finds}
-use Rattle.plan_tree.specs.Usable.{is_usable}
-use Rattle.db_catalog.specs.Database.{row_at, table_at}
+use Rattle.db_catalog.specs.Database.{table_at}
 use Rattle.db_catalog.specs.Indexes.{index_at, row_of_entry}
 use Rattle.db_catalog.proofs.OfIndexes.{index_at-below}
 use Rattle.db_catalog.proofs.OfRelations.{relation_values}

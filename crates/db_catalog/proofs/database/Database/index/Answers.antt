@@ -1,4 +1,4 @@
-use Rattle.std.proofs.Common.{◌≡◌, ◌<◌, ◌∙◌, length, sym, ap, subst}
+use Rattle.std.proofs.Common.{◌<◌, ◌∙◌, length, sym, ap, subst}
 use Rattle.std.proofs.lemmas.List.Sorted.{length_permutation}
 use Rattle.btree_index.specs.Height.{height_of}
 use Rattle.db_catalog.specs.Database.{StandAsWords}

@@ -1,11 +1,11 @@
-use Rattle.std.proofs.Common.{◌≡◌, ◌<◌, ◌∙◌, length, sym, ap, subst, drop, IfOk, OnOk}
+use Rattle.std.proofs.Common.{◌≡◌, ◌<◌, length, sym, subst, drop, IfOk, OnOk}
 use Rattle.std.specs.Prelude.{IfSome}
 use Rattle.work_ledger.specs.Account.{Pays}
 use Rattle.btree_index.specs.Entries.{IsOn, entries_left, first_row, next_charge}
 use Rattle.db_catalog.specs.Database.{table_at}
 use Rattle.db_catalog.specs.Indexes.{index_at}
 use Rattle.db_catalog.proofs.OfIndexes.{index_at-below, first_row-below}
-use Rattle.db_catalog.proofs.Tables.{is_kept, index_seen, IfOk-map}
+use Rattle.db_catalog.proofs.Tables.{IfOk-map}
 use Rattle.db_catalog.proofs.database.Database.next.Goals as goal
 
 pub next-requires : goal.next-requires

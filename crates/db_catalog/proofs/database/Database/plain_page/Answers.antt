@@ -1,4 +1,4 @@
-use Rattle.std.proofs.Common.{◌≡◌, ◌<◌, ◌∙◌, ℕ, ◌*◌, List, length, map, take, drop, sym, ap, ap₂, subst}
+use Rattle.std.proofs.Common.{◌≡◌, ◌<◌, ◌∙◌, ◌*◌, length, map, take, drop, sym, ap, ap₂, subst}
 use Rattle.std.proofs.lemmas.List.{length-map}
 use Rattle.sql_values.specs.Stored.{StoredTable, row_of}
 use Rattle.heap_pages.specs.Rows.{rows_on_page, row_number}

@@ -1,6 +1,5 @@
 -- The words of a page's rows are there, and are those of its rows.
-use Rattle.std.proofs.Common.{◌≡◌, ◌+◌, ◌*◌, ◌<◌, take, drop, ap, ◌∙◌, arith}
-use Rattle.heap_pages.specs.Rows.{pages_of, rows_on_page}
+use Rattle.std.proofs.Common.{◌≡◌, ◌+◌, ◌*◌, take, drop, ap, ◌∙◌, arith}
 use Rattle.heap_pages.proofs.CutRows.{length-cut_rows}
 use Rattle.heap_pages.proofs.PlainPages.{words_end, filled, slots}
 use Rattle.heap_pages.proofs.heap.Heap.plain_page.Goals as goal
