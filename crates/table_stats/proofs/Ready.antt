@@ -1,5 +1,5 @@
 -- A row has a word of the range of a condition where the condition is true.
-use Rattle.std.proofs.Common.{◌≡◌, ℕ, ℤ, ◌+◌, ◌&&◌, ◌<◌, Bool, true, false, not, cond, List, [], ◌∷◌, ◌++◌, length, Option, None, FitsSigned, w64, refl, sym, ap, subst, ◌∙◌, below_more, arith}
+use Rattle.std.proofs.Common.{◌≡◌, ℕ, zero, suc, ℤ, get_or, ◌+◌, ◌&&◌, ◌<◌, Bool, true, false, not, cond, List, [], ◌∷◌, ◌++◌, length, Option, Some, None, FitsSigned, w64, refl, sym, ap, subst, ◌∙◌, below_more, arith}
 use Rattle.std.specs.Prelude.{slice_index_or}
 use Rattle.std.specs.Ordering.{int_eq}
 use Rattle.std.proofs.lemmas.Bool.{false_from_ne_true, true≢false}
@@ -8,19 +8,20 @@ use Rattle.sql_values.specs.declared.column.ColumnType.{ColumnType}
 use Rattle.sql_values.specs.declared.column.ColumnType.TheVariants.{Integer, Varchar}
 use Rattle.sql_values.specs.declared.value.Value.TheVariants as value
 use Rattle.sql_values.specs.Words.{null_word, word_of, word_meaning}
-use Rattle.sql_values.specs.Stored.{AreWordsOf, values_of}
+use Rattle.sql_values.specs.Stored.{AreWordsOf, ValueRow, values_of}
 use Rattle.sql_values.specs.Truth.{is_null}
 use Rattle.query_block.specs.declared.condition.Condition.{Condition}
 use Rattle.query_block.specs.Conditions.{FilterTree, filter_tree}
 use Rattle.query_block.specs.Blocks.{kind_at}
-use Rattle.query_block.specs.Meaning.{is_true}
+use Rattle.query_block.specs.Meaning.{is_true, meets_filter}
 use Rattle.query_block.specs.Truth.{truth_of, value_at}
 use Rattle.query_block.proofs.OfKinds.{of-words}
 use Rattle.query_block.proofs.Words.{length-words, value-at}
 use Rattle.plan_tree.specs.Ranges.{is_in}
 use Rattle.plan_tree.proofs.MetParts.{usable-some}
 use Rattle.table_stats.specs.declared.filter.ColumnRange.{ColumnRange}
-use Rattle.table_stats.specs.Ready.{AreKnown, IsKnown, IsOwnRow, IsRangeOf}
+use Rattle.table_stats.specs.declared.filter.ReadyFilter.{ReadyFilter}
+use Rattle.table_stats.specs.Ready.{AreKnown, IsKnown, IsOfConjunct, IsOwnRow, IsRangeOf}
 
 -- ---- NULL's word
 
@@ -85,3 +86,18 @@ known-more texts kinds filter ranges known place are is =
           subst (IsKnown texts kinds (filter_tree (slice_index_or filter i d))) (sym (get_or_append_left ranges (known ∷ []) None i there)) (are.each i below d))
           (λ d. subst (IsKnown texts kinds (filter_tree (slice_index_or filter place d))) (sym (get_or_push ranges known None place are.many)) (is d));
     }
+
+-- ---- one conjunct of a filter
+
+pub of-conjunct : (filter : ReadyFilter) (place : ℕ) (known : Option ColumnRange) → place < length filter.relation.now.filter
+    → ((d : Condition) → IsKnown filter.texts.now filter.relation.now.columns (filter_tree (slice_index_or filter.relation.now.filter place d)) known) → IsOfConjunct filter known
+of-conjunct filter place None below is = tt
+of-conjunct filter place (Some found) below is = (place, below, is)
+
+-- it is true where the filter is met
+pub one-met : (trees : List FilterTree) (place : ℕ) (d : FilterTree) (row : ValueRow) → place < length trees → meets_filter trees row ≡ true → is_true (truth_of (get_or trees place d) row) ≡ true
+one-met [] place d row below met = absurd (omega (arith, below))
+one-met (tree ∷ trees) zero d row below met = grind arith
+one-met (tree ∷ trees) (suc place) d row below met =
+    let rest : meets_filter trees row ≡ true = grind arith in
+    one-met trees place d row (omega (arith, below)) rest

@@ -44,3 +44,10 @@ own filter = relation_tree filter.relation.now
 abbrev pub IsReady : ReadyFilter → Type 0
 IsReady filter =
     AreKnown filter.texts.now filter.relation.now.columns filter.relation.now.filter (length filter.relation.now.filter) filter.ranges.items
+
+-- what is known of one of the filter's conjuncts, if anything is
+abbrev pub IsOfConjunct : ReadyFilter → Option ColumnRange → Type 0
+IsOfConjunct filter None = Unit {0}
+IsOfConjunct filter (Some found) =
+    (place : ℕ) × (place < length filter.relation.now.filter)
+    × ((d : Condition) → IsRangeOf filter.texts.now filter.relation.now.columns (filter_tree (slice_index_or filter.relation.now.filter place d)) found)

@@ -1,6 +1,6 @@
 // The filter of a relation, made ready to be tried on many rows: a conjunct that an index could use becomes a range of
 // words, so that a text is looked up once.
-ghost use Rattle.std.specs.Prelude.{◌≡◌, ◌<◌, ◌≤◌, ◌&&◌, not, All, IfOk, IfSome, IsTrue, length, map, slice_index_or};
+ghost use Rattle.std.specs.Prelude.{◌≡◌, ◌<◌, ◌≤◌, ◌&&◌, not, true, All, IfOk, IfSome, IsTrue, length, map, slice_index_or};
 ghost use Rattle.std.specs.Ordering.{int_eq};
 ghost use Rattle.sql_values.specs.Limits.{max_columns};
 ghost use Rattle.sql_values.specs.Words.{null_word};
@@ -12,7 +12,7 @@ ghost use Rattle.query_block.specs.Meaning.{is_true, meets_filter};
 ghost use Rattle.query_block.specs.Truth.{truth_of};
 ghost use Rattle.plan_tree.specs.Usable.{is_usable};
 ghost use Rattle.plan_tree.specs.Ranges.{is_in};
-ghost use Rattle.table_stats.specs.Ready.{IsKnown, IsOwnRow, IsReady, own};
+ghost use Rattle.table_stats.specs.Ready.{IsKnown, IsOfConjunct, IsOwnRow, IsReady, own};
 
 use plan_tree::{WordRange, is_usable, range_of};
 use query_block::{Condition, Relation, truth};
@@ -129,9 +129,48 @@ impl<'b> ReadyFilter<'b> {
         })
     }
 
-    /// Whether the filter keeps a row, of which these are the words. Conjuncts are tried in written order, up to the first
-    /// that isn't true.
-    pub(crate) fn keeps(&self, row: &[i64]) -> bool
+    /// The words of a conjunct, if they are known of any. A row with another word isn't kept.
+    pub(crate) fn some_range(&self) -> Option<ColumnRange>
+        requires { IsReady self.now }
+        ensures { IsOfConjunct self.now result }
+    {
+        for known in &self.ranges {
+            if known.is_some() {
+                return *known;
+            }
+        }
+        None
+    }
+
+    // Whether a row may be kept: it has one of these words.
+    fn may_keep(&self, known: Option<ColumnRange>, row: &[i64]) -> bool
+        requires known { IsOfConjunct self.now known }
+        requires row { IsOwnRow self.now.texts.now self.now.relation.now.columns row.now }
+        ensures { meets_filter (own self.now).filter
+            (values_of self.now.texts.now self.now.relation.now.columns row.now) ≡ true
+            → result ≡ true }
+    {
+        match known {
+            Some(found) => is_value_in(found.range, row[found.column as usize]),
+            None => true,
+        }
+    }
+
+    /// Whether the filter keeps a row, of which these are the words. Most rows that aren't kept are told by one look, at the
+    /// words of one conjunct.
+    pub(crate) fn keeps(&self, known: Option<ColumnRange>, row: &[i64]) -> bool
+        requires ready { IsReady self.now }
+        requires relation { IsRelation (own self.now) }
+        requires known { IsOfConjunct self.now known }
+        requires row { IsOwnRow self.now.texts.now self.now.relation.now.columns row.now }
+        ensures { result ≡ meets_filter (own self.now).filter
+            (values_of self.now.texts.now self.now.relation.now.columns row.now) }
+    {
+        self.may_keep(known, row) && self.meets_all(row)
+    }
+
+    // Whether each conjunct is true on a row, tried in written order, up to the first that isn't.
+    fn meets_all(&self, row: &[i64]) -> bool
         requires ready { IsReady self.now }
         requires relation { IsRelation (own self.now) }
         requires row { IsOwnRow self.now.texts.now self.now.relation.now.columns row.now }

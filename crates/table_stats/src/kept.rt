@@ -30,9 +30,10 @@ fn kept_on_page(db: &Database, filter: &ReadyFilter<'_>, no: u64) -> u64
     let table = filter.relation.table;
     let width = db.columns(table).len();
     let words = db.plain_page(table, no);
+    let known = filter.some_range();
     let mut kept = 0;
     for slot in 0..db.rows_on_page(table, no) {
-        kept += u64::from(filter.keeps(row_in(words, slot, width)));
+        kept += u64::from(filter.keeps(known, row_in(words, slot, width)));
     }
     kept
 }
@@ -60,10 +61,11 @@ pub(crate) fn kept_within(db: &Database, filter: &ReadyFilter<'_>, column: u8) -
 {
     let table = filter.relation.table;
     let range = range_of(column, filter.relation.filter.as_slice(), filter.texts);
+    let known = filter.some_range();
     let mut kept = 0;
     for entry in db.entries_within(table, column, range.from, range.to) {
         let row = db.plain_row(table, entry.1);
-        kept += u64::from(filter.keeps(row));
+        kept += u64::from(filter.keeps(known, row));
     }
     kept
 }

@@ -2,7 +2,7 @@ use Rattle.std.proofs.Common.{◌≡◌, drop, map}
 use Rattle.sql_values.specs.Stored.{values_of}
 use Rattle.query_block.specs.Conditions.{filter_tree}
 use Rattle.query_block.specs.Meaning.{meets_filter}
-use Rattle.table_stats.proofs.filter.ReadyFilter.keeps.Given as goal
+use Rattle.table_stats.proofs.filter.ReadyFilter.meets_all.Given as goal
 
 -- the conjuncts that aren't tried yet decide
 abbrev pub invariant-loop-place : goal.invariant-loop-place

@@ -6,7 +6,7 @@ use Rattle.query_block.specs.Blocks.{FitsColumns}
 use Rattle.query_block.proofs.Chains.{conjunct-fits}
 use Rattle.table_stats.specs.declared.filter.ColumnRange.{ColumnRange}
 use Rattle.table_stats.specs.Ready.{IsKnown}
-use Rattle.table_stats.proofs.filter.ReadyFilter.keeps.Goals as goal
+use Rattle.table_stats.proofs.filter.ReadyFilter.meets_all.Goals as goal
 
 pub is_met-requires-clause-fits : goal.is_met-requires-clause-fits
 is_met-requires-clause-fits c =
