@@ -8,11 +8,11 @@ use Rattle.db_catalog.specs.Database.{DatabaseState, table_at}
 use Rattle.db_catalog.specs.Fits.{FitsTable}
 use Rattle.db_catalog.specs.Meter.{page_rows}
 use Rattle.table_stats.specs.declared.filter.ReadyFilter.{ReadyFilter}
-use Rattle.table_stats.specs.Ready.{IsReady, own}
+use Rattle.table_stats.specs.Ready.{IsReadyFilter, own}
 
 -- the filter is ready, its relation stands over its table, its texts are the database's, and the table is within its limit
 pub record IsOver (database : DatabaseState) (filter : ReadyFilter) : Type 0 where
-  pub ready : IsReady filter
+  pub ready : IsReadyFilter filter
   pub relation : IsRelation (own filter)
   pub fits : FitsTable database (own filter)
   pub texts : filter.texts.now ≡ database.texts

@@ -41,8 +41,8 @@ abbrev pub own : ReadyFilter → RelationTree
 own filter = relation_tree filter.relation.now
 
 -- what it keeps is known of the relation's filter
-abbrev pub IsReady : ReadyFilter → Type 0
-IsReady filter =
+abbrev pub IsReadyFilter : ReadyFilter → Type 0
+IsReadyFilter filter =
     AreKnown filter.texts.now filter.relation.now.columns filter.relation.now.filter (length filter.relation.now.filter) filter.ranges.items
 
 -- what is known of one of the filter's conjuncts, if anything is

@@ -12,7 +12,7 @@ ghost use Rattle.query_block.specs.Meaning.{is_true, meets_filter};
 ghost use Rattle.query_block.specs.Truth.{truth_of};
 ghost use Rattle.plan_tree.specs.Usable.{is_usable};
 ghost use Rattle.plan_tree.specs.Ranges.{is_in};
-ghost use Rattle.table_stats.specs.Ready.{IsKnown, IsOfConjunct, IsOwnRow, IsReady, own};
+ghost use Rattle.table_stats.specs.Ready.{IsKnown, IsOfConjunct, IsOwnRow, IsReadyFilter, own};
 
 use plan_tree::{WordRange, is_usable, range_of};
 use query_block::{Condition, Relation, truth};
@@ -114,7 +114,7 @@ impl<'b> ReadyFilter<'b> {
         requires { IsRelation (relation_tree relation.now) }
         ensures relation { IfOk result (λ filter. filter.relation.now ≡ relation.now) }
         ensures texts { IfOk result (λ filter. filter.texts.now ≡ texts.now) }
-        ensures ready { IfOk result IsReady }
+        ensures ready { IfOk result IsReadyFilter }
     {
         let columns = relation.columns.as_slice();
         let filter = relation.filter.as_slice();
@@ -131,7 +131,7 @@ impl<'b> ReadyFilter<'b> {
 
     /// The words of a conjunct, if they are known of any. A row with another word isn't kept.
     pub(crate) fn some_range(&self) -> Option<ColumnRange>
-        requires { IsReady self.now }
+        requires { IsReadyFilter self.now }
         ensures { IsOfConjunct self.now result }
     {
         for known in &self.ranges {
@@ -159,7 +159,7 @@ impl<'b> ReadyFilter<'b> {
     /// Whether the filter keeps a row, of which these are the words. Most rows that aren't kept are told by one look, at the
     /// words of one conjunct.
     pub(crate) fn keeps(&self, known: Option<ColumnRange>, row: &[i64]) -> bool
-        requires ready { IsReady self.now }
+        requires ready { IsReadyFilter self.now }
         requires relation { IsRelation (own self.now) }
         requires known { IsOfConjunct self.now known }
         requires row { IsOwnRow self.now.texts.now self.now.relation.now.columns row.now }
@@ -171,7 +171,7 @@ impl<'b> ReadyFilter<'b> {
 
     // Whether each conjunct is true on a row, tried in written order, up to the first that isn't.
     fn meets_all(&self, row: &[i64]) -> bool
-        requires ready { IsReady self.now }
+        requires ready { IsReadyFilter self.now }
         requires relation { IsRelation (own self.now) }
         requires row { IsOwnRow self.now.texts.now self.now.relation.now.columns row.now }
         ensures { result ≡ meets_filter (own self.now).filter
