@@ -21,7 +21,7 @@ a million. Z is 0 in half of the rows, and in the others the number n as often a
 
 A query's time is a difference of medians, and behind `+-` stands how uncertain it is, as in bench/joins.py: one script asks
 `--asked` queries in turn, each with other constants where it has any, another asks none, and the difference is divided by
-how many they are. `--only` takes the kinds with this word in their name.
+how many they are: the more are asked, the less uncertain it is. `--only` takes the kinds with this word in their name.
 
 sqlite3 restores its database, with the indexes, from a file into memory. That takes it a thirtieth of the time of a load,
 and loads differ among themselves by more than the queries take. It orders rows by one column where that gives our order.
@@ -40,16 +40,11 @@ COMMON = 0
 MOST_A = 10**6
 KEYS_OF_SMALL = 10
 ASKED_LESS = {"common": 50, "three": 10}
+MILLISECONDS, TIMES = "ms", "times"
+AT_MOST = {"key": (0.1, MILLISECONDS), "range": (1.5, TIMES), "three": (1, MILLISECONDS)}
 
 Kind = collections.namedtuple("Kind", "name, columns, tables, order, wheres")
 NOTHING = Kind("nothing", "", "", "", [])
-
-Aim = collections.namedtuple("Aim", "text, most")
-AIMS = {
-    "key": Aim("0.1 ms", lambda theirs: 0.1e-3),
-    "range": Aim("1.5 times", lambda theirs: 1.5 * theirs),
-    "three": Aim("1 ms", lambda theirs: 1e-3),
-}
 
 
 def text(number):
@@ -155,15 +150,23 @@ class Answered:
         if difference:
             sys.exit(f"{kind.name}: {difference}")
         self.rows = sum(1 for _ in rows_of(outputs[0], header)) / len(kind.wheres)
-        self.verdict = verdict(*self.seconds, AIMS[kind.name].most) if kind.name in AIMS else None
+        self.verdict = judged(kind.name, *self.seconds)
 
     def line(self):
         ours, theirs = self.seconds
-        aim = f"; wanted at most {AIMS[self.kind.name].text}: {self.verdict}" if self.verdict else ""
+        most = f"; wanted at most {'{} {}'.format(*AT_MOST[self.kind.name])}: {self.verdict}" if self.verdict else ""
         return (
             f"{self.kind.name}: bouquet {shown(ours)}, sqlite3 {shown(theirs)}: {ours.times_of(theirs)} times as long; "
-            f"{self.rows:.1f} rows{aim}"
+            f"{self.rows:.1f} rows{most}"
         )
+
+
+def judged(name, ours, theirs):
+    """Whether a query of this kind takes no longer than wanted; None where that isn't said."""
+    most, unit = AT_MOST.get(name, (None, None))
+    if unit == MILLISECONDS:
+        return verdict(ours, ours, lambda _: most / 1e3)
+    return verdict(ours, theirs, lambda it: most * it) if unit == TIMES else None
 
 
 def shown(seconds):
