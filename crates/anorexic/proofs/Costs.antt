@@ -7,12 +7,11 @@ use Rattle.plan_tree.specs.Enumerated.{IsSubPlan}
 use Rattle.cost_model.specs.Costing.{costing_tree, IsCosting}
 use Rattle.cost_model.specs.Costs.{cost_of}
 use Rattle.cost_model.proofs.Bounds.{cost-below}
-use Rattle.plan_space.specs.Pricing.{Pricing}
-use Rattle.plan_space.specs.Prices.{IsSetOf, block_at, own_at}
+use Rattle.cost_model.specs.Pricing.{Pricing}
+use Rattle.cost_model.specs.Prices.{IsSetOf, block_at, own_at, sum_of}
 use Rattle.plan_tree.specs.Roots.{root_of, Stands}
-use Rattle.plan_space.specs.Table.{sum_of}
 use Rattle.plan_tree.proofs.Outermost.{stands, covers-below}
-use Rattle.plan_space.proofs.Sums.{costs-are-sums}
+use Rattle.cost_model.proofs.Sums.{costs-are-sums}
 use Rattle.anorexic.specs.declared.node.Node.{Node}
 use Rattle.anorexic.specs.Nodes.{node_at, IsNumbered, AreBefore, AreNodes, AreNodeCosts, IsFew, AreFewAt, AreSideCostsFew, side_costs_at, side_costs_of}
 use Rattle.anorexic.proofs.Numbers.{placed}

@@ -1,27 +1,17 @@
 -- What holds of the points of a frontier and their plans.
-use Rattle.std.proofs.Common.{◌≡◌, ℕ, ◌<◌, ◌≤◌, ◌^◌, List, [], ◌∷◌, All, length, map, refl, arith}
+use Rattle.std.proofs.Common.{◌≡◌, ℕ, ◌<◌, ◌^◌, List, [], ◌∷◌, All, length, map, refl, arith}
 use Rattle.std.proofs.lemmas.List.{get_or-map}
 use Rattle.std.proofs.lemmas.List.Elements.{All-head, All-tail, All-weaker}
 use Rattle.std.specs.Prelude.{slice_index_or}
-use Rattle.query_block.specs.Blocks.{BlockTree}
-use Rattle.plan_tree.specs.Plans.{PlanTree, Scan, IndexScan, Nest, Hash, Merge, IndexLoop, plan_tree, FitsSet}
-use Rattle.plan_tree.specs.Enumerated.{IsSubPlan}
+use Rattle.plan_tree.specs.Plans.{Scan, plan_tree, FitsSet}
 use Rattle.cost_model.specs.Costing.{CostingTree, IsCosting}
 use Rattle.cost_model.specs.Optimal.{best_plan}
 use Rattle.cost_model.proofs.Bounds.{cost-below}
+use Rattle.cost_model.proofs.Sets.{fits-set}
 use Rattle.cost_model.proofs.Least.{optimal-cheapest}
 use Rattle.cost_model.proofs.BestPlans.{best-only}
 use Rattle.anorexic.specs.declared.frontier_point.FrontierPoint.{FrontierPoint}
 use Rattle.anorexic.specs.Frontiers.{IsFrontierPoint, FrontierPlansFit, frontier_points, frontier_plans, plan_at}
-
--- the relations of a block fit a set of eight
-fits-set : (block : BlockTree) (p : PlanTree) → length block.relations ≤ 6 → IsSubPlan block p → FitsSet p
-fits-set block (Scan relation) few is = omega (arith, is)
-fits-set block (IndexScan relation column) few is = omega (arith, is.exists)
-fits-set block (Nest left right) few is = (fits-set block left few is.0, fits-set block right few is.1)
-fits-set block (Hash edge left right) few is = (fits-set block left few is.0, fits-set block right few is.1)
-fits-set block (Merge edge left right) few is = (fits-set block left few is.0, fits-set block right few is.1)
-fits-set block (IndexLoop edge left relation) few is = (fits-set block left few is.0, omega (arith, is.1.exists))
 
 pub plans-fit : (costing : CostingTree) (frontier : List FrontierPoint) → IsCosting costing → All (IsFrontierPoint costing) frontier → FrontierPlansFit frontier
 plans-fit costing frontier is each =

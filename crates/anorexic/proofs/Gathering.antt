@@ -16,8 +16,8 @@ use Rattle.cost_model.specs.Costs.{cost_of}
 use Rattle.cost_model.specs.Optimal.{optimal_cost}
 use Rattle.cost_model.specs.Greedy.{covers_at}
 use Rattle.cost_model.proofs.Bounds.{cost-below}
-use Rattle.plan_space.specs.Pricing.{Pricing}
-use Rattle.plan_space.specs.Prices.{block_at}
+use Rattle.cost_model.specs.Pricing.{Pricing}
+use Rattle.cost_model.specs.Prices.{block_at}
 use Rattle.anorexic.specs.declared.frontier_point.FrontierPoint.{FrontierPoint}
 use Rattle.anorexic.specs.declared.node.Node.{Node}
 use Rattle.anorexic.specs.Frontiers.{IsFrontierPoint, frontier_plans, plan_at}

@@ -7,8 +7,8 @@ use Rattle.cost_model.specs.Costing.{costing_tree}
 use Rattle.cost_model.specs.Costs.{cost_of}
 use Rattle.plan_tree.specs.declared.roots.Root.{Root}
 use Rattle.plan_tree.specs.declared.roots.Root.TheVariants as root
-use Rattle.plan_space.specs.Pricing.{Pricing}
-use Rattle.plan_space.specs.Prices.{block_at}
+use Rattle.cost_model.specs.Pricing.{Pricing}
+use Rattle.cost_model.specs.Prices.{block_at}
 use Rattle.plan_tree.specs.Roots.{root_of}
 use Rattle.anorexic.specs.declared.node.Node.{Node}
 

@@ -11,8 +11,7 @@ ghost use Rattle.anorexic.specs.Turns.{cover_row, IsCoverTable};
 use crate::candidates::Candidates;
 use crate::frontier_point::FrontierPoint;
 use crate::node_costs::cost_nodes;
-use cost_model::Costing;
-use plan_space::{PriceRoom, Prices};
+use cost_model::{Costing, PriceRoom, Prices};
 use std::alloc::{AllocError, Global};
 
 // What a plan that covers a point costs there at the most, a hundredfold.

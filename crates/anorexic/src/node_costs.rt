@@ -4,11 +4,11 @@ ghost use Rattle.plan_tree.specs.Plans.{PlanTree};
 ghost use Rattle.plan_tree.specs.Enumerated.{IsSubPlan};
 ghost use Rattle.cost_model.specs.Costing.{costing_tree, IsCosting};
 ghost use Rattle.cost_model.specs.Costs.{cost_of};
-ghost use Rattle.plan_space.specs.Prices.{block_at, own_at};
+ghost use Rattle.cost_model.specs.Prices.{block_at, own_at};
 ghost use Rattle.anorexic.specs.Nodes.{node_at, side_costs_of, IsNumbered, AreNodes, AreNodeCosts, AreSideCostsFew};
 
 use crate::node::Node;
-use plan_space::Prices;
+use cost_model::Prices;
 use plan_tree::Root;
 
 // What the sides of a node cost.

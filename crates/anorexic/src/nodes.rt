@@ -5,7 +5,7 @@ ghost use Rattle.plan_tree.specs.Plans.{plan_tree, FitsSet};
 ghost use Rattle.anorexic.specs.Nodes.{node_at, AddsNode, NumbersPlan};
 
 use crate::node::Node;
-use plan_tree::{Plan, Root};
+use plan_tree::{Plan, Root, set_of_one};
 use std::alloc::{AllocError, Global};
 
 const BUCKETS: usize = 256;
@@ -33,14 +33,6 @@ fn is_same(node: &Node, other: &Node) -> bool
     ensures { IsTrue result → node.now ≡ other.now }
 {
     node == other
-}
-
-// The set of one relation.
-fn set_of_one(relation: u8) -> u8
-    requires { relation < 8 }
-    ensures { result ≡ 2 ^ relation }
-{
-    1 << relation
 }
 
 impl Nodes {

@@ -19,7 +19,7 @@ use Rattle.cost_model.specs.Fits.{FitsIndex, FitsRelation, row_product}
 use Rattle.cost_model.specs.Costing.{CostingTree, IsCosting}
 use Rattle.cost_model.specs.Cards.{kept_product, card_of}
 use Rattle.cost_model.specs.Costs.{relation_stats, index_on, index_stats, out_card, candidate_card, cost_of}
-use Rattle.cost_model.specs.Parts.{IsFewIndex, AreFew}
+use Rattle.cost_model.specs.Few.{IsFewIndex, AreFew}
 use Rattle.plan_tree.proofs.Digits.{bits-few}
 use Rattle.plan_tree.proofs.LeafSets.{apart-sets, alone, size_of, size-few, leaf-size, both-sizes}
 use Rattle.cost_model.proofs.Cards.{card-few, candidates-few}

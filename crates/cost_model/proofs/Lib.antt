@@ -3,7 +3,9 @@ pub mod Sets
 pub mod Cards
 pub mod Bounds
 pub mod Monotone
-pub mod Parts
+pub mod Pairs
+pub mod SetCards
+pub mod Sums
 pub mod Least
 pub mod BestPlans
 pub mod Frontiers

@@ -1,12 +1,31 @@
--- The card of a plan's set as a number.
-use Rattle.std.proofs.Common.{◌≡◌, ℕ, List, ap, ◌∙◌}
-use Rattle.plan_tree.specs.Plans.{PlanTree, covers_of}
-use Rattle.plan_tree.specs.Sets.{set_of}
-use Rattle.plan_tree.proofs.LeafSets.{set-of-plan}
-use Rattle.cost_model.specs.Costing.{CostingTree}
-use Rattle.cost_model.specs.Cards.{card_of}
-use Rattle.cost_model.specs.Costs.{out_card}
+-- Numbers of sets: those of a block's plans, and those whose highest relation is known.
+use Rattle.std.proofs.Common.{◌≡◌, ℕ, ◌+◌, ◌*◌, ◌^◌, ◌<◌, ◌≤◌, length, bit_and, ap, ◌∙◌, add-one, arith}
+use Rattle.std.proofs.Math.Nat.{pow-suc, pow-le-pow_right}
+use Rattle.std.proofs.lemmas.Nat.{and_comm}
+use Rattle.std.proofs.lemmas.Nat.Bits.{and_pow, bit_at_above}
+use Rattle.query_block.specs.Blocks.{BlockTree}
+use Rattle.plan_tree.specs.Plans.{PlanTree, Scan, IndexScan, Nest, Hash, Merge, IndexLoop, FitsSet}
+use Rattle.plan_tree.specs.Enumerated.{IsSubPlan}
 
--- the card of the set for which a plan's number stands is the plan's
-pub card-of-plan : (costing : CostingTree) (p : PlanTree) (point : List ℕ) (set : ℕ) → set ≡ covers_of p → card_of costing (set_of set) point ≡ out_card costing p point
-card-of-plan costing p point set is = ap (λ one. card_of costing one point) (ap set_of is ∙ set-of-plan p)
+-- the relations of a block fit a set of eight
+pub fits-set : (block : BlockTree) (p : PlanTree) → length block.relations ≤ 6 → IsSubPlan block p → FitsSet p
+fits-set block (Scan relation) few is = omega (arith, is)
+fits-set block (IndexScan relation column) few is = omega (arith, is.exists)
+fits-set block (Nest left right) few is = (fits-set block left few is.0, fits-set block right few is.1)
+fits-set block (Hash edge left right) few is = (fits-set block left few is.0, fits-set block right few is.1)
+fits-set block (Merge edge left right) few is = (fits-set block left few is.0, fits-set block right few is.1)
+fits-set block (IndexLoop edge left relation) few is = (fits-set block left few is.0, omega (arith, is.1.exists))
+
+pub next-power : (relation : ℕ) → 2 ^ (relation + 1) ≡ 2 ^ relation + 2 ^ relation
+next-power relation = ap (λ n. 2 ^ n) (add-one relation) ∙ pow-suc 2 relation ∙ omega arith
+
+pub power-to : (relation count : ℕ) → relation ≤ count → 2 ^ relation ≤ 2 ^ count
+power-to relation count le = pow-le-pow_right (omega arith) le
+
+-- the sets whose highest relation this is are sets of the block
+pub sets-below : (relation count rest : ℕ) → relation < count → rest < 2 ^ relation → 2 ^ relation + rest < 2 ^ count
+sets-below relation count rest below less = omega (arith, next-power relation, power-to (relation + 1) count (omega arith))
+
+pub low-apart : (relation rest : ℕ) → rest < 2 ^ relation → bit_and (2 ^ relation) rest ≡ 0
+low-apart relation rest less =
+    and_comm (2 ^ relation) rest ∙ and_pow rest relation ∙ ap (λ bit. bit * 2 ^ relation) (bit_at_above rest relation relation less (omega arith)) ∙ omega arith

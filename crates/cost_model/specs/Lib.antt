@@ -9,5 +9,8 @@ pub mod Optimal
 pub mod Frontier
 pub mod Greedy
 pub mod Rounding
+pub mod Few
+pub mod Pricing
+pub mod Prices
 -- what only proofs need
-pub mod Parts
+pub mod SetCards

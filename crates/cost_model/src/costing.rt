@@ -1,24 +1,21 @@
-// The cards and costs of plans. Each is worked out anew from the counts; whoever asks for many keeps what it asked for.
-ghost use Rattle.std.specs.Prelude.{◌≡◌, ◌*◌, ◌^◌, ◌<◌, ◌≤◌, length};
+// What the cards and costs of plans depend on. A card is worked out anew from the counts; whoever asks for many has `Prices`.
+ghost use Rattle.std.specs.Prelude.{◌≡◌, ◌<◌, ◌≤◌, length};
 ghost use Rattle.sql_values.specs.Limits.{max_product};
 ghost use Rattle.ess_grid.specs.Points.{IsPoint};
 ghost use Rattle.query_block.specs.Blocks.{block_tree};
-ghost use Rattle.plan_tree.specs.Plans.{plan_tree, Scan, IndexScan};
-ghost use Rattle.plan_tree.specs.Enumerated.{column_on, edge_at, IsScannable, IsSubPlan};
-ghost use Rattle.plan_tree.specs.Work.{nest_work, hash_work, merge_work, index_loop_work};
+ghost use Rattle.plan_tree.specs.Sets.{set_of};
 ghost use Rattle.cost_model.specs.Fits.{FitsBlock};
 ghost use Rattle.cost_model.specs.Costing.{costing_tree, IsCosting};
 ghost use Rattle.cost_model.specs.Cards.{kept_product, card_of};
-ghost use Rattle.plan_tree.specs.Sets.{set_of};
-ghost use Rattle.cost_model.specs.Costs.{relation_stats, index_on, index_stats, candidate_card, cost_of};
-ghost use Rattle.cost_model.specs.Parts.{AreSides, AreFew, IsFewIndex, IsJoined, IsCostedPart, table_part};
+ghost use Rattle.cost_model.specs.Costs.{relation_stats, index_on, index_stats, candidate_card};
+ghost use Rattle.cost_model.specs.Few.{AreFew, IsFewIndex};
 
-use crate::part::{Part, hash_cost, index_loop_cost, merge_cost, nest_cost, scaled};
-use crate::set::{has, is_inside, set_of_one};
+use crate::arithmetic::scaled;
+use crate::set::is_inside;
 use crate::stats::{IndexStats, RelationStats, Stats};
 use ess_grid::{Grid, Point};
-use plan_tree::Plan;
-use query_block::{Block, Edge};
+use plan_tree::is_in_set;
+use query_block::Block;
 use std::marker::Model;
 
 /// What plans of a block cost at the points of a grid: the block, the counts of its tables and the grid, lent.
@@ -107,60 +104,15 @@ impl<'c> Costing<'c> {
     {
         let mut product = 1u128;
         for (number, stats) in self.stats.relations.as_slice().iter().enumerate() {
-            if has(set, number as u8) {
+            if is_in_set(set, number as u8) {
                 product *= u128::from(stats.kept);
             }
         }
         product
     }
 
-    /// What a plan of some of the block's relations costs at a point of the grid. It takes no memory, and as much of
-    /// the machine's stack as the plan is deep.
-    pub fn cost(&self, p: &Plan, q: &Point) -> u128
-        requires plan { IsSubPlan (block_tree self.now.block) (plan_tree p.now) }
-        requires point { IsPoint self.now.grid q.now }
-        ensures cost { result ≡ cost_of (costing_tree self.now) (plan_tree p.now) q.now }
-        ensures bound { result < 2 ^ 113 }
-    {
-        prove!(q.levels().len() == self.block.edges().len());
-        self.part(p, q).cost
-    }
-
-    // A part of a plan.
-    #[cycle(part)]
-    fn part(&self, p: &Plan, q: &Point) -> Part
-        requires costing { IsCosting (costing_tree self.now) }
-        requires plan { IsSubPlan (block_tree self.now.block) (plan_tree p.now) }
-        requires point { IsPoint self.now.grid q.now }
-        ensures { IsCostedPart (costing_tree self.now) q.now (plan_tree p.now) result }
-    {
-        match p {
-            Plan::Scan(relation) => self.scan(*relation, q),
-            Plan::IndexScan(relation, column) => self.index_scan(*relation, *column, q),
-            Plan::Nest(left, right) => {
-                let left = self.part(left, q);
-                let right = self.part(right, q);
-                self.nest(&left, &right, q)
-            }
-            Plan::Hash(edge, left, right) => {
-                let left = self.part(left, q);
-                let right = self.part(right, q);
-                self.hash(*edge, &left, &right, q)
-            }
-            Plan::Merge(edge, left, right) => {
-                let left = self.part(left, q);
-                let right = self.part(right, q);
-                self.merge(*edge, &left, &right, q)
-            }
-            Plan::IndexLoop(edge, left, relation) => {
-                let left = self.part(left, q);
-                self.index_loop(*edge, &left, *relation, q)
-            }
-        }
-    }
-
-    // How many of so many pairs of rows are taken to be equal in the columns of an edge.
-    fn candidates(&self, edge: u8, pairs: u128, q: &Point) -> u128
+    /// How many of so many pairs of rows are taken to be equal in the columns of an edge.
+    pub(crate) fn candidates(&self, edge: u8, pairs: u128, q: &Point) -> u128
         requires edge { edge < length self.now.block.edges }
         requires pairs { pairs ≤ max_product }
         requires point { IsPoint self.now.grid q.now }
@@ -170,134 +122,8 @@ impl<'c> Costing<'c> {
         scaled(pairs, self.grid.selectivity(q.levels()[edge as usize]))
     }
 
-    // Two parts joined, with nothing yet paid for the join itself.
-    fn joined(&self, left: &Part, right: &Part, q: &Point) -> Part
-        requires sides { AreSides left.now right.now }
-        requires point { IsPoint self.now.grid q.now }
-        ensures joined { IsJoined (costing_tree self.now) q.now left.now right.now 0 result }
-        ensures few { result.card ≤ max_product }
-    {
-        let set = left.set | right.set;
-        Part {
-            set,
-            card: self.card(set, q),
-            cost: left.cost + right.cost,
-        }
-    }
-
-    // A relation that is read as a whole.
-    fn scan(&self, relation: u8, q: &Point) -> Part
-        requires relation { relation < length self.now.block.relations }
-        requires point { IsPoint self.now.grid q.now }
-        ensures { IsCostedPart (costing_tree self.now) q.now (Scan relation) result }
-    {
-        let set = self.set_of(relation);
-        let card = self.card(set, q);
-        let stats = self.relation(relation);
-        let cost = 1 + 8 * u128::from(stats.pages) + u128::from(stats.rows) + card;
-        Part { set, card, cost }
-    }
-
-    // A relation that is read by the index on a column.
-    fn index_scan(&self, relation: u8, column: u8, q: &Point) -> Part
-        requires scannable { IsScannable (block_tree self.now.block) relation column }
-        requires point { IsPoint self.now.grid q.now }
-        ensures { IsCostedPart (costing_tree self.now) q.now (IndexScan relation column) result }
-    {
-        let set = self.set_of(relation);
-        let card = self.card(set, q);
-        let index = self.index(relation, column);
-        let matches = u128::from(index.matches.unwrap_or(0));
-        let cost = 1 + 2 * u128::from(index.height) + 10 * matches + card;
-        Part { set, card, cost }
-    }
-
-    // A nested loop of two parts.
-    fn nest(&self, left: &Part, right: &Part, q: &Point) -> Part
-        requires sides { AreSides left.now right.now }
-        requires point { IsPoint self.now.grid q.now }
-        ensures { IsJoined (costing_tree self.now) q.now left.now right.now
-            (nest_work left.now.card right.now.card result.card) result }
-    {
-        let mut part = self.joined(left, right, q);
-        part.cost += nest_cost(left, right, part.card);
-        part
-    }
-
-    // A hash join of two parts.
-    fn hash(&self, edge: u8, left: &Part, right: &Part, q: &Point) -> Part
-        requires edge { edge < length self.now.block.edges }
-        requires sides { AreSides left.now right.now }
-        requires point { IsPoint self.now.grid q.now }
-        ensures { let costing = costing_tree self.now in
-            let pairs = left.now.card * right.now.card in
-            let candidates = candidate_card costing edge q.now pairs in
-            IsJoined costing q.now left.now right.now
-            (hash_work left.now.card right.now.card candidates result.card) result }
-    {
-        let mut part = self.joined(left, right, q);
-        let candidates = self.candidates(edge, left.card * right.card, q);
-        part.cost += hash_cost(left, right, candidates, part.card);
-        part
-    }
-
-    // A merge join of two parts.
-    fn merge(&self, edge: u8, left: &Part, right: &Part, q: &Point) -> Part
-        requires edge { edge < length self.now.block.edges }
-        requires sides { AreSides left.now right.now }
-        requires point { IsPoint self.now.grid q.now }
-        ensures { let costing = costing_tree self.now in
-            let pairs = left.now.card * right.now.card in
-            let candidates = candidate_card costing edge q.now pairs in
-            IsJoined costing q.now left.now right.now
-            (merge_work left.now.card right.now.card candidates result.card) result }
-    {
-        let mut part = self.joined(left, right, q);
-        let candidates = self.candidates(edge, left.card * right.card, q);
-        part.cost += merge_cost(left, right, candidates, part.card);
-        part
-    }
-
-    // A look-up in a relation's index for each row of a part.
-    fn index_loop(&self, edge: u8, left: &Part, relation: u8, q: &Point) -> Part
-        requires edge { edge < length self.now.block.edges }
-        requires relation { relation < length self.now.block.relations }
-        requires sides { AreSides left.now (table_part (costing_tree self.now) relation) }
-        requires point { IsPoint self.now.grid q.now }
-        ensures { let costing = costing_tree self.now in
-            let right = table_part costing relation in
-            let column = column_on (edge_at costing.block.edges edge) relation in
-            let height = (index_stats costing.stats relation column).height in
-            let candidates = candidate_card costing edge q.now (left.now.card * right.card) in
-            IsJoined costing q.now left.now right
-            (index_loop_work height left.now.card candidates result.card) result }
-    {
-        let right = Part {
-            set: self.set_of(relation),
-            card: u128::from(self.relation(relation).rows),
-            cost: 0,
-        };
-        let mut part = self.joined(left, &right, q);
-        let index = self.index(
-            relation,
-            column_on(&self.block.edges()[edge as usize], relation),
-        );
-        let candidates = self.candidates(edge, left.card * right.card, q);
-        part.cost += index_loop_cost(index.height, left, candidates, part.card);
-        part
-    }
-
-    // The set of one relation.
-    fn set_of(&self, relation: u8) -> u8
-        requires { relation < length self.now.block.relations }
-        ensures { result ≡ 2 ^ relation }
-    {
-        prove!((relation as usize) < self.block.relations().len());
-        set_of_one(relation)
-    }
-
-    // The counts of a relation.
-    fn relation(&self, relation: u8) -> &'c RelationStats
+    /// The counts of a relation.
+    pub(crate) fn relation(&self, relation: u8) -> &'c RelationStats
         requires { relation < length self.now.block.relations }
         ensures stats { result.now ≡ relation_stats self.now.stats relation }
         ensures few { AreFew result.now }
@@ -305,24 +131,13 @@ impl<'c> Costing<'c> {
         &self.stats.relations.as_slice()[relation as usize]
     }
 
-    // The counts of an indexed column.
-    fn index(&self, relation: u8, column: u8) -> IndexStats
+    /// The counts of the index on a column of a relation.
+    pub(crate) fn index(&self, relation: u8, column: u8) -> IndexStats
         requires { relation < length self.now.block.relations }
         ensures stats { result ≡ index_stats self.now.stats relation column }
         ensures few { IsFewIndex result }
     {
         index_on(self.relation(relation).columns.as_slice(), column)
-    }
-}
-
-// The column of one of its relations that an edge compares.
-fn column_on(edge: &Edge, relation: u8) -> u8
-    ensures { result ≡ column_on edge.now relation }
-{
-    if relation == edge.left {
-        edge.left_column
-    } else {
-        edge.right_column
     }
 }
 

@@ -11,6 +11,7 @@ ghost use Rattle.cost_model.specs.Costing.{CostingTree, IsCosting};
 ghost use Rattle.cost_model.specs.Cards.{kept_product, card_of};
 ghost use Rattle.cost_model.specs.Rounding.{halvings_inside};
 ghost use Rattle.cost_model.specs.Costs.{cost_of};
+ghost use Rattle.cost_model.specs.Prices.{own_cost, sum_of};
 ghost use Rattle.cost_model.specs.Best.{IsCheapest, IsBest};
 ghost use Rattle.cost_model.specs.Optimal.{optimal_cost, best_plan};
 ghost use Rattle.cost_model.specs.Frontier.{frontier};
@@ -51,6 +52,13 @@ pub fn costs_are_bounded()
         card_of costing set point * card_of costing other point ≤ max_product }
     ensures cost { (costing : CostingTree) (p : PlanTree) (point : List ℕ) →
         IsCosting costing → IsSubPlan costing.block p → cost_of costing p point < 2 ^ 113 }
+{}
+
+/// The law of prices: the cost of a plan is the sum of what its nodes cost by themselves.
+pub fn costs_are_sums()
+    ensures { (costing : CostingTree) (p : PlanTree) (point : List ℕ) →
+        IsSubPlan costing.block p →
+        cost_of costing p point ≡ sum_of (own_cost costing point) p }
 {}
 
 /// The law of the optimal cost: it is the least cost of all plans of the block, and that of a cheapest one.

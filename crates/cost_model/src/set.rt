@@ -1,31 +1,27 @@
-// Sets of relations as numbers: bit r for relation r.
-ghost use Rattle.std.specs.Prelude.{◌≡◌, ◌^◌, ◌<◌};
+// Sets of a block's relations as numbers: bit r for relation r.
+ghost use Rattle.std.specs.Prelude.{◌≡◌, ◌^◌, ◌<◌, ◌≤◌, length};
+ghost use Rattle.query_block.specs.Blocks.{block_tree};
 ghost use Rattle.query_block.specs.Meaning.{is_inside};
 ghost use Rattle.plan_tree.specs.Sets.{set_of};
 
-use query_block::Edge;
+use plan_tree::{is_in_set, set_of_one};
+use query_block::{Block, Edge};
 
-// The set of one relation.
-pub(crate) fn set_of_one(relation: u8) -> u8
-    requires { relation < 8 }
-    ensures { result ≡ 2 ^ relation }
+/// How many sets of relations the block has: they are the numbers below this one.
+pub fn set_count(block: &Block) -> u8
+    ensures count { result ≡ 2 ^ length (block_tree block.now).relations }
+    ensures some { 2 ≤ result }
+    ensures few { result ≤ 64 }
 {
-    1 << relation
+    let count = block.relations().len();
+    set_of_one(count as u8)
 }
 
-// Whether a relation is in a set.
-pub(crate) fn has(set: u8, relation: u8) -> bool
-    requires { relation < 8 }
-    ensures { result ≡ set_of set relation }
-{
-    set & set_of_one(relation) != 0
-}
-
-// Whether both relations of an edge are in a set.
-pub(crate) fn is_inside(set: u8, edge: &Edge) -> bool
+/// Whether both relations of an edge are in a set.
+pub fn is_inside(set: u8, edge: &Edge) -> bool
     requires left { edge.now.left < 8 }
     requires right { edge.now.right < 8 }
     ensures { result ≡ is_inside (set_of set) edge.now }
 {
-    has(set, edge.left) && has(set, edge.right)
+    is_in_set(set, edge.left) && is_in_set(set, edge.right)
 }

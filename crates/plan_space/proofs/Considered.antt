@@ -12,8 +12,8 @@ use Rattle.plan_tree.specs.declared.roots.Root.TheVariants as root
 use Rattle.plan_space.specs.declared.entry.Entry.{Entry}
 use Rattle.plan_tree.specs.Roots.{Stands}
 use Rattle.plan_space.specs.Table.{entry_at, side_costs, offered, rank, NotLater, IsOffered}
-use Rattle.plan_space.specs.Pricing.{Pricing}
-use Rattle.plan_space.specs.Prices.{own_at, block_at}
+use Rattle.cost_model.specs.Pricing.{Pricing}
+use Rattle.cost_model.specs.Prices.{own_at, block_at}
 use Rattle.plan_tree.proofs.Bits.{same-relation}
 use Rattle.plan_space.specs.Steps.{Group, Considers, IsByEdge, IsBeforeEdge, IsByLeft, IsBeforeLeft, IsLookUpBy, IsScanBy, ReadsRelation}
 

@@ -1,9 +1,8 @@
 -- The counts of a costing's relations.
-use Rattle.std.proofs.Common.{◌≡◌, ◌↔◌, ◌||◌, ℕ, zero, suc, ◌<◌, Bool, true, false, IsTrue, IsSome, All, if◌then◌else◌, List, [], ◌∷◌, length, map, nat_eq, refl, ap, sym, subst, ◌∙◌, get_or, arith}
+use Rattle.std.proofs.Common.{◌≡◌, ◌↔◌, ◌||◌, ℕ, zero, suc, ◌<◌, Bool, true, false, IsTrue, IsSome, All, if◌then◌else◌, List, [], ◌∷◌, length, map, nat_eq, refl, sym, subst, get_or, arith}
 use Rattle.std.specs.List.{AllZip, list_any}
 use Rattle.std.proofs.lemmas.List.Elements.{All-head, All-tail}
 use Rattle.std.proofs.Math.ListN.{length-map}
-use Rattle.std.proofs.lemmas.List.{get_or_default}
 use Rattle.query_block.specs.Blocks.{RelationTree, block_tree, relation_tree, relation_at}
 use Rattle.plan_tree.specs.Enumerated.{IsIndexed, HasUsable, IsScannable}
 use Rattle.cost_model.specs.declared.stats.RelationStats.{RelationStats}
@@ -11,17 +10,6 @@ use Rattle.cost_model.specs.Costing.{CostingShape, costing_tree, IsCosting}
 use Rattle.cost_model.specs.declared.stats.IndexStats.{IndexStats}
 use Rattle.cost_model.specs.Fits.{FitsIndex, FitsRelation}
 use Rattle.cost_model.specs.Costs.{relation_stats, index_on, index_stats}
-use Rattle.cost_model.proofs.Bounds.{stats-long}
-
-pub there : (costing : CostingShape) (relation : ℕ) (lent : List RelationStats) → IsCosting (costing_tree costing) → relation < length costing.block.relations
-    → lent ≡ costing.stats.relations → relation < length lent
-there costing relation lent is below same = omega (arith, below, ap length same, stats-long (costing_tree costing) is, length-map costing.block.relations relation_tree)
-
-pub lent-at : (costing : CostingShape) (relation : ℕ) (lent : List RelationStats) (stats : RelationStats) → IsCosting (costing_tree costing) → relation < length costing.block.relations
-    → lent ≡ costing.stats.relations → stats ≡ get_or lent relation stats → stats ≡ relation_stats costing.stats relation
-lent-at costing relation lent stats is below same at =
-    let none : RelationStats = record { rows = 0; pages = 0; kept = 0; columns = [] } in
-    at ∙ get_or_default lent relation stats none (there costing relation lent is below same) ∙ ap (λ all. get_or all relation none) same
 
 fits-at : (relations : List RelationTree) (stats : List RelationStats) (number : ℕ) (none : RelationTree) (empty : RelationStats) → AllZip FitsRelation relations stats → number < length relations
     → FitsRelation (get_or relations number none) (get_or stats number empty)

@@ -17,7 +17,8 @@ use Rattle.plan_tree.specs.declared.roots.Root.{Root}
 use Rattle.plan_tree.specs.declared.roots.Root.TheVariants as root
 use Rattle.plan_space.specs.declared.entry.Entry.{Entry}
 use Rattle.plan_tree.specs.Roots.{root_of, root_numbers, IsSplit, IsCrossed, Stands}
-use Rattle.plan_space.specs.Table.{OwnCost, sum_of, entry_at, side_costs, offered, NotLater, IsLeast, AreLeast, Follows}
+use Rattle.plan_space.specs.Table.{entry_at, side_costs, offered, NotLater, IsLeast, AreLeast, Follows}
+use Rattle.cost_model.specs.Prices.{OwnCost, sum_of}
 use Rattle.plan_tree.proofs.Outermost.{numbers-of, split, stands, covers-below}
 use Rattle.plan_tree.proofs.Bits.{crosses-sets, covers-some, apart-sets, sets-apart, apart-relation, relation-apart, sum-of-sides, whole-of, same-relation, power-below, covers-all, all-covered}
 

@@ -1,10 +1,8 @@
 -- How the table is filled, and what a filled table tells.
-use Rattle.std.proofs.Common.{◌≡◌, ◌≢◌, ◌⊎◌, inl, inr, ℕ, ◌+◌, ◌-◌, ◌*◌, ◌^◌, ◌<◌, ◌≤◌, Bool, true, false, List, length, nat_eq, nat_lt, bit_and, bit_or, get_or-set_same, get_or-set_other, refl, sym, ap, ap₂, subst, ◌∙◌, add-one, arith}
+use Rattle.std.proofs.Common.{◌≡◌, ◌≢◌, ◌⊎◌, inl, inr, ℕ, ◌+◌, ◌-◌, ◌^◌, ◌<◌, ◌≤◌, Bool, true, false, List, length, nat_eq, nat_lt, bit_or, get_or-set_same, get_or-set_other, refl, sym, ap, ap₂, subst, ◌∙◌, arith}
 use Rattle.std.specs.Prelude.{slice_set}
 use Rattle.std.specs.Ordering.{is_gt}
-use Rattle.std.proofs.Math.Nat.{pow-suc, pow-le-pow_right}
-use Rattle.std.proofs.lemmas.Nat.{pow_pos, and_comm}
-use Rattle.std.proofs.lemmas.Nat.Bits.{and_pow, bit_at_above}
+use Rattle.std.proofs.lemmas.Nat.{pow_pos}
 use Rattle.query_block.specs.Blocks.{BlockTree}
 use Rattle.plan_tree.specs.Plans.{PlanTree}
 use Rattle.plan_tree.specs.Enumerated.{IsPlan}
@@ -13,32 +11,19 @@ use Rattle.cost_model.specs.Costs.{cost_of}
 use Rattle.cost_model.specs.Best.{IsCheapest, IsBest}
 use Rattle.cost_model.specs.Optimal.{optimal_cost}
 use Rattle.cost_model.proofs.Least.{optimal-cheapest}
+use Rattle.cost_model.proofs.Sets.{next-power, power-to, low-apart}
 use Rattle.plan_tree.specs.declared.roots.Root.{Root}
 use Rattle.plan_tree.specs.declared.roots.Root.TheVariants as root
 use Rattle.plan_space.specs.declared.entry.Entry.{Entry}
 use Rattle.plan_tree.specs.Roots.{Stands, IsSplit}
-use Rattle.plan_space.specs.Table.{OwnCost, sum_of, entry_at, side_costs, offered, NotLater, IsLeast, AreLeast, AreStanding, Follows}
-use Rattle.plan_space.specs.Pricing.{Pricing}
-use Rattle.plan_space.specs.Prices.{own_at, block_at}
+use Rattle.plan_space.specs.Table.{entry_at, side_costs, offered, NotLater, IsLeast, AreLeast, AreStanding, Follows}
+use Rattle.cost_model.specs.Prices.{OwnCost, sum_of, own_at, block_at}
+use Rattle.cost_model.specs.Pricing.{Pricing}
 use Rattle.plan_space.specs.Steps.{Considers, ReadsRelation, IsBeforeLeft}
 use Rattle.plan_tree.proofs.Bits.{whole-of}
 use Rattle.plan_space.proofs.Exchange.{best}
-use Rattle.plan_space.proofs.Sums.{costs-are-sums}
+use Rattle.cost_model.proofs.Sums.{costs-are-sums}
 use Rattle.plan_space.proofs.Considered.{not-later-then}
-
-pub next-power : (relation : ℕ) → 2 ^ (relation + 1) ≡ 2 ^ relation + 2 ^ relation
-next-power relation = ap (λ n. 2 ^ n) (add-one relation) ∙ pow-suc 2 relation ∙ omega arith
-
-pub power-to : (relation count : ℕ) → relation ≤ count → 2 ^ relation ≤ 2 ^ count
-power-to relation count le = pow-le-pow_right (omega arith) le
-
--- the sets whose highest relation this is are sets of the block
-pub sets-below : (relation count rest : ℕ) → relation < count → rest < 2 ^ relation → 2 ^ relation + rest < 2 ^ count
-sets-below relation count rest below less = omega (arith, next-power relation, power-to (relation + 1) count (omega arith))
-
-pub low-apart : (relation rest : ℕ) → rest < 2 ^ relation → bit_and (2 ^ relation) rest ≡ 0
-low-apart relation rest less =
-    and_comm (2 ^ relation) rest ∙ and_pow rest relation ∙ ap (λ bit. bit * 2 ^ relation) (bit_at_above rest relation relation less (omega arith)) ∙ omega arith
 
 -- the highest relation alone, and the others
 pub highest-split : (relation set : ℕ) → 2 ^ relation ≤ set → set ≢ 2 ^ relation → set < 2 ^ (relation + 1) → IsSplit (2 ^ relation) set

@@ -10,9 +10,9 @@ use Rattle.plan_tree.specs.declared.roots.Root.{Root}
 use Rattle.plan_tree.specs.declared.roots.Root.TheVariants as root
 use Rattle.plan_space.specs.declared.entry.Entry.{Entry}
 use Rattle.plan_tree.specs.Roots.{Stands, IsSplit}
-use Rattle.plan_space.specs.Table.{OwnCost, entry_at, AreLeast, Follows}
-use Rattle.plan_space.specs.Pricing.{Pricing}
-use Rattle.plan_space.specs.Prices.{own_at, block_at}
+use Rattle.plan_space.specs.Table.{entry_at, AreLeast, Follows}
+use Rattle.cost_model.specs.Prices.{OwnCost, own_at, block_at}
+use Rattle.cost_model.specs.Pricing.{Pricing}
 use Rattle.plan_space.proofs.Exchange.{built, two-at-least}
 use Rattle.plan_space.proofs.Filled.{is-best}
 

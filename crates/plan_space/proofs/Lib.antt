@@ -1,10 +1,7 @@
 pub mod Counts
-pub mod SetCards
 pub mod Exchange
 pub mod Filled
-pub mod Pairs
 pub mod Considered
-pub mod Sums
 pub mod LookedUp
 pub mod Places
 pub mod Followed

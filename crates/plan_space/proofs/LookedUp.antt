@@ -20,8 +20,8 @@ use Rattle.plan_tree.specs.declared.roots.Root.{Root}
 use Rattle.plan_tree.specs.declared.roots.Root.TheVariants as root
 use Rattle.plan_space.specs.declared.entry.Entry.{Entry}
 use Rattle.plan_tree.specs.Roots.{Stands, IsSplit, IsCrossed}
-use Rattle.plan_space.specs.Table.{OwnCost, entry_at, side_costs, offered, NotLater, IsLeast, AreLeast}
-use Rattle.plan_space.specs.Prices.{set_card, own_cost}
+use Rattle.plan_space.specs.Table.{entry_at, side_costs, offered, NotLater, IsLeast, AreLeast}
+use Rattle.cost_model.specs.Prices.{OwnCost, set_card, own_cost}
 use Rattle.plan_space.specs.Alike.{IsAlike}
 use Rattle.plan_tree.proofs.Bits.{whole-of}
 use Rattle.plan_space.proofs.Exchange.{costs-no-more}

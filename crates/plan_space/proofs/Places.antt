@@ -8,8 +8,8 @@ use Rattle.ess_grid.specs.Points.{GridShape, IsGrid, IsPoint, point_at}
 use Rattle.ess_grid.proofs.PointsAmong.{place_at, place_at-drop}
 use Rattle.ess_grid.proofs.GridPoints.{slice_get-place_at, place_at-drop-fits}
 use Rattle.cost_model.specs.Costing.{costing_tree, IsCosting}
-use Rattle.plan_space.specs.Pricing.{Pricing}
-use Rattle.plan_space.specs.Prices.{block_at}
+use Rattle.cost_model.specs.Pricing.{Pricing}
+use Rattle.cost_model.specs.Prices.{block_at}
 use Rattle.plan_space.specs.Alike.{IsAlikePlace, AreInside}
 
 -- the levels from the axis of this number on

@@ -6,7 +6,7 @@ use Rattle.query_block.specs.Blocks.{block_tree}
 use Rattle.cost_model.specs.Costing.{CostingShape}
 use Rattle.plan_space.specs.declared.entry.Entry.{Entry}
 use Rattle.plan_space.specs.Table.{AreLeast}
-use Rattle.plan_space.specs.Prices.{own_at}
+use Rattle.cost_model.specs.Prices.{own_at}
 use Rattle.plan_space.specs.Alike.{AreLeastRows}
 
 -- the entries of a row are least at a point

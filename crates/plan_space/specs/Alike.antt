@@ -8,8 +8,8 @@ use Rattle.plan_tree.specs.Sets.{set_of}
 use Rattle.cost_model.specs.Costing.{CostingShape}
 use Rattle.plan_space.specs.declared.entry.Entry.{Entry}
 use Rattle.plan_space.specs.Table.{AreLeast}
-use Rattle.plan_space.specs.Pricing.{Pricing}
-use Rattle.plan_space.specs.Prices.{own_at, block_at}
+use Rattle.cost_model.specs.Pricing.{Pricing}
+use Rattle.cost_model.specs.Prices.{own_at, block_at}
 
 -- each edge inside a set has the same level at both points: then each plan of the set costs the same at both
 pub record IsAlike (block : BlockTree) (set : ℕ) (point other : List ℕ) : Type 0 where

@@ -6,8 +6,8 @@ use Rattle.plan_tree.specs.declared.roots.Root.TheVariants as root
 use Rattle.plan_space.specs.declared.entry.Entry.{Entry}
 use Rattle.plan_tree.specs.Roots.{Stands}
 use Rattle.plan_space.specs.Table.{offered, NotLater, IsOffered, AreLeast}
-use Rattle.plan_space.specs.Pricing.{Pricing}
-use Rattle.plan_space.specs.Prices.{IsSetOf, own_at, block_at}
+use Rattle.cost_model.specs.Pricing.{Pricing}
+use Rattle.cost_model.specs.Prices.{IsSetOf, own_at, block_at}
 
 -- some nodes
 abbrev pub Group : Type 1

@@ -9,21 +9,7 @@ use Rattle.plan_tree.specs.declared.roots.Root.{Root}
 use Rattle.plan_tree.specs.declared.roots.Root.TheVariants as root
 use Rattle.plan_space.specs.declared.entry.Entry.{Entry}
 use Rattle.plan_tree.specs.Roots.{root_numbers, Stands}
-
-abbrev pub OwnCost : Type 0
-OwnCost = Root → (set : ℕ) → ℕ
-
--- the cost of a plan, by the own costs of its nodes
-abbrev pub sum_of : OwnCost → PlanTree → ℕ
-sum_of own (Scan relation) = own (root.Scan relation) (covers_of (Scan relation))
-sum_of own (IndexScan relation column) = own (root.IndexScan relation column) (covers_of (IndexScan relation column))
-sum_of own (Nest left right) = sum_of own left + sum_of own right + own (root.Nest (covers_of left)) (covers_of (Nest left right))
-sum_of own (Hash edge left right) =
-    sum_of own left + sum_of own right + own (root.Hash edge (covers_of left)) (covers_of (Hash edge left right))
-sum_of own (Merge edge left right) =
-    sum_of own left + sum_of own right + own (root.Merge edge (covers_of left)) (covers_of (Merge edge left right))
-sum_of own (IndexLoop edge left relation) =
-    sum_of own left + own (root.IndexLoop edge (covers_of left) relation) (covers_of (IndexLoop edge left relation))
+use Rattle.cost_model.specs.Prices.{OwnCost}
 
 -- the entry of a set
 abbrev pub entry_at : List Entry → (set : ℕ) → Entry

@@ -1,11 +1,10 @@
 // Which other point serves for a set of relations: what plans of a set cost depends on the levels of the edges inside it alone.
 ghost use Rattle.std.specs.Prelude.{◌≡◌, ◌<◌, ◌≤◌, if◌then◌else◌, length};
 ghost use Rattle.query_block.specs.Blocks.{block_tree};
-ghost use Rattle.plan_space.specs.Prices.{block_at};
+ghost use Rattle.cost_model.specs.Prices.{block_at};
 ghost use Rattle.plan_space.specs.Alike.{AreInside, AreInsideSets, IsAlikePlace};
 
-use crate::prices::Prices;
-use crate::sets::is_inside;
+use cost_model::{Prices, is_inside};
 use query_block::Block;
 use sql_values::MAX_AXES;
 

@@ -7,16 +7,15 @@ ghost use Rattle.cost_model.specs.Costing.{costing_tree};
 ghost use Rattle.cost_model.specs.Best.{IsBest};
 ghost use Rattle.cost_model.specs.Optimal.{optimal_cost};
 ghost use Rattle.plan_space.specs.Table.{AreLeast, AreStanding};
-ghost use Rattle.plan_space.specs.Prices.{own_at};
+ghost use Rattle.cost_model.specs.Prices.{own_at};
 ghost use Rattle.plan_space.specs.Alike.{AreInsideSets, AreLeastRows};
 
 use crate::alike::edges_inside_sets;
 use crate::entry::Entry;
-use crate::prices::{PriceRoom, Prices};
 use crate::search::rebuilt;
 use crate::sets::set_of_all;
 use crate::table::filled;
-use cost_model::Costing;
+use cost_model::{Costing, PriceRoom, Prices};
 use plan_tree::Plan;
 use sql_values::MAX_AXES;
 use std::alloc::{AllocError, Global};

@@ -5,13 +5,12 @@ ghost use Rattle.query_block.specs.Blocks.{block_tree, relation_at};
 ghost use Rattle.plan_tree.specs.declared.roots.Root.TheVariants.{Nest, Hash, Merge};
 ghost use Rattle.plan_tree.specs.Roots.{IsCrossed, IsSplit};
 ghost use Rattle.plan_space.specs.Table.{IsOffered};
-ghost use Rattle.plan_space.specs.Prices.{own_at, block_at};
+ghost use Rattle.cost_model.specs.Prices.{own_at, block_at};
 ghost use Rattle.plan_space.specs.Steps.{Considers, IsFilledBelow, IsByEdge, IsBeforeEdge, IsByLeft, IsBeforeLeft, IsLookUpBy};
 
-use crate::costs;
 use crate::entry::Entry;
-use crate::prices::Prices;
 use crate::steps::{both_sides, consider, least_sides, left_side};
+use cost_model::Prices;
 use plan_tree::{Root, column_of_edge, is_crossed, is_indexed};
 
 // A nested loop of the two sides of a set.
@@ -21,7 +20,7 @@ fn by_nest(prices: &Prices<'_>, table: &[Entry; 64], set: u8, left: u8, start: E
     requires start { IsOffered (own_at prices.now) (block_at prices.now) table.now set start }
     ensures { Considers prices.now table.now set (λ node. node ≡ Nest left) start result }
 {
-    let cost = both_sides(prices, table, set, left) + costs::nest(prices, left, set);
+    let cost = both_sides(prices, table, set, left) + prices.nest(left, set);
     consider(prices, table, set, start, cost, Root::Nest(left))
 }
 
@@ -42,10 +41,10 @@ fn by_pairs(
         (λ node. (node ≡ Hash edge left) ⊎ (node ≡ Merge edge left)) start result }
 {
     let sides = both_sides(prices, table, set, left);
-    let candidates = costs::candidates(prices, edge, left, set);
-    let cost = sides + costs::hash(prices, edge, left, set, candidates);
+    let candidates = prices.candidates(edge, left, set);
+    let cost = sides + prices.hash(edge, left, set, candidates);
     let found = consider(prices, table, set, start, cost, Root::Hash(edge, left));
-    let cost = sides + costs::merge(prices, edge, left, set, candidates);
+    let cost = sides + prices.merge(edge, left, set, candidates);
     consider(prices, table, set, found, cost, Root::Merge(edge, left))
 }
 
@@ -72,7 +71,7 @@ fn by_relation(
         return start;
     }
     let side = left_side(prices, table, set, left);
-    let cost = side + costs::index_loop(prices, edge, left, relation, column, set);
+    let cost = side + prices.index_loop(edge, left, relation, set);
     consider(
         prices,
         table,

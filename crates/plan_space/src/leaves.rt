@@ -4,13 +4,12 @@ ghost use Rattle.query_block.specs.Blocks.{block_tree, relation_at};
 ghost use Rattle.plan_tree.specs.Enumerated.{IsIndexed, IsScannable};
 ghost use Rattle.plan_tree.specs.declared.roots.Root.TheVariants.{IndexScan};
 ghost use Rattle.plan_space.specs.Table.{IsOffered};
-ghost use Rattle.plan_space.specs.Prices.{own_at, block_at};
+ghost use Rattle.cost_model.specs.Prices.{own_at, block_at};
 ghost use Rattle.plan_space.specs.Steps.{Considers, IsFilledBelow, ReadsRelation, IsScanBy};
 
-use crate::costs;
 use crate::entry::Entry;
-use crate::prices::Prices;
 use crate::steps::consider;
+use cost_model::Prices;
 use plan_tree::Root;
 
 // Whether some conjunct of a relation's filter is usable on an indexed column: its matches are counted then.
@@ -43,7 +42,7 @@ fn by_column(
     if !is_scannable(prices, relation, column) {
         return start;
     }
-    let cost = costs::index_scan(prices, relation, column, set);
+    let cost = prices.index_scan(relation, column, set);
     consider(
         prices,
         table,
@@ -88,7 +87,7 @@ pub(crate) fn readings(prices: &Prices<'_>, table: &[Entry; 64], set: u8, relati
     ensures { Considers prices.now table.now set ReadsRelation result result }
 {
     let start = Entry {
-        cost: costs::scan(prices, relation, set),
+        cost: prices.scan(relation, set),
         root: Root::Scan(relation),
     };
     by_columns(prices, table, set, relation, start)

@@ -1,26 +1,19 @@
 //! The best plan of a block at a point of the grid, or at all points at once: of all plans of the block the cheapest there, and
 //! of equally cheap ones the first in plan order.
 //! To the layers above it promises that `best` and `BestPlans` answer exactly that plan and its cost, over all bushy shapes,
-//! products, indexes and edges, and that `Prices` says what each node of a plan costs by itself.
-//! It never lists the plans, never looks at a table, and takes memory for its answers alone.
+//! products, indexes and edges.
+//! It never lists the plans, never says what a node costs, never looks at a table, and takes memory for its answers alone.
 #![tactic(auto)]
 
 mod alike;
 mod all_points;
-mod arithmetic;
-mod cards;
-mod costs;
 mod entry;
 mod joins;
 mod leaves;
-mod own;
-mod prices;
 mod search;
 mod sets;
-mod stats;
 mod steps;
 mod table;
 
 pub use all_points::{BestPlans, best_at_all_points};
-pub use prices::{PriceRoom, Prices};
 pub use search::best;

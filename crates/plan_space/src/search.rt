@@ -10,10 +10,9 @@ ghost use Rattle.plan_space.specs.Table.{Follows, AreStanding};
 
 use crate::alike::edges_inside_sets;
 use crate::entry::Entry;
-use crate::prices::{PriceRoom, Prices};
 use crate::sets::set_of_all;
 use crate::table::filled;
-use cost_model::Costing;
+use cost_model::{Costing, PriceRoom, Prices};
 use ess_grid::Point;
 use plan_tree::{Plan, Root};
 use query_block::Block;

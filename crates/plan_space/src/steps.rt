@@ -2,12 +2,12 @@
 ghost use Rattle.std.specs.Prelude.{◌≡◌, ◌+◌, ◌-◌, ◌*◌, ◌^◌, ◌<◌, ◌≤◌};
 ghost use Rattle.plan_tree.specs.declared.roots.Root.{Root};
 ghost use Rattle.plan_space.specs.Table.{entry_at, side_costs, IsOffered};
-ghost use Rattle.plan_space.specs.Prices.{own_at, block_at};
+ghost use Rattle.cost_model.specs.Prices.{own_at, block_at};
 ghost use Rattle.plan_tree.specs.Roots.{IsSplit, Stands};
 ghost use Rattle.plan_space.specs.Steps.{Considers, IsFilledBelow, IsByLeft};
 
 use crate::entry::{Entry, keep};
-use crate::prices::Prices;
+use cost_model::Prices;
 use plan_tree::Root;
 
 /// Of what was found and a node at this cost, what is kept. Prices, table and set say what the cost is of.

@@ -4,17 +4,16 @@
 ghost use Rattle.std.specs.Prelude.{◌≡◌, ◌+◌, ◌^◌, ◌<◌, ◌≤◌, length};
 ghost use Rattle.plan_tree.specs.Roots.{IsSplit};
 ghost use Rattle.plan_space.specs.Table.{IsOffered, IsLeast, AreLeast};
-ghost use Rattle.plan_space.specs.Prices.{own_at, block_at};
+ghost use Rattle.cost_model.specs.Prices.{own_at, block_at};
 ghost use Rattle.plan_space.specs.Steps.{IsFilledBelow};
 ghost use Rattle.plan_space.specs.Alike.{AreInsideSets, AreLeastRows};
 
 use crate::alike::alike_place;
-use crate::costs;
 use crate::entry::Entry;
 use crate::joins::joins;
 use crate::leaves::readings;
-use crate::prices::Prices;
 use crate::steps::{both_sides, entry_at};
+use cost_model::Prices;
 use plan_tree::{Root, set_of_one};
 use sql_values::MAX_AXES;
 
@@ -25,7 +24,7 @@ fn first_split(prices: &Prices<'_>, table: &[Entry; 64], set: u8, left: u8) -> E
     ensures { IsOffered (own_at prices.now) (block_at prices.now) table.now set result }
 {
     Entry {
-        cost: both_sides(prices, table, set, left) + costs::nest(prices, left, set),
+        cost: both_sides(prices, table, set, left) + prices.nest(left, set),
         root: Root::Nest(left),
     }
 }

@@ -2,7 +2,7 @@ use Rattle.std.proofs.Common.{◌≡◌, ◌∙◌, ◌++◌, ◌*◌, ◌+◌, 
 use Rattle.std.specs.Prelude.{nat_le, slice_index}
 use Rattle.std.proofs.lemmas.Result.{IfOk-weaker}
 use Rattle.cost_model.specs.Costing.{costing_tree}
-use Rattle.plan_space.specs.Pricing.{Pricing}
+use Rattle.cost_model.specs.Pricing.{Pricing}
 use Rattle.anorexic.specs.Nodes.{AreNodeCosts, IsFew}
 use Rattle.anorexic.proofs.Frontier.{cost-few}
 use Rattle.anorexic.proofs.Gathering.{candidate-few, row-is}

@@ -3,7 +3,7 @@ use Rattle.query_block.specs.Blocks.{block_tree, relation_at}
 use Rattle.plan_tree.specs.Enumerated.{column_on, edge_at, IsIndexed}
 use Rattle.plan_tree.specs.declared.roots.Root.TheVariants as root
 use Rattle.plan_tree.specs.Roots.{Stands}
-use Rattle.plan_space.specs.Prices.{block_at}
+use Rattle.cost_model.specs.Prices.{block_at}
 use Rattle.plan_space.specs.Steps.{IsLookUpBy}
 use Rattle.plan_space.proofs.Considered.{nothing, narrow, looked-up}
 use Rattle.plan_space.proofs.joins.by_relation.Goals as goal

@@ -3,8 +3,9 @@ use Rattle.std.proofs.Math.ListN.{length-map, length-set}
 use Rattle.std.proofs.lemmas.Nat.{pow_pos}
 use Rattle.query_block.specs.Blocks.{relation_tree}
 use Rattle.plan_space.specs.Table.{AreLeast}
-use Rattle.plan_space.specs.Prices.{own_at, block_at}
-use Rattle.plan_space.proofs.Filled.{next-power, sets-below, add-least}
+use Rattle.cost_model.specs.Prices.{own_at, block_at}
+use Rattle.cost_model.proofs.Sets.{next-power, sets-below}
+use Rattle.plan_space.proofs.Filled.{add-least}
 use Rattle.plan_space.proofs.table.add_relation.Goals as goal
 
 pub entry_here-requires-clause-ready : goal.entry_here-requires-clause-ready

@@ -1,6 +1,6 @@
 use Rattle.std.proofs.Common.{◌≡◌, ◌+◌, length}
 use Rattle.plan_space.specs.Table.{AreLeast}
-use Rattle.plan_space.specs.Prices.{own_at, block_at}
+use Rattle.cost_model.specs.Prices.{own_at, block_at}
 use Rattle.plan_space.proofs.table.add_relation.Given as goal
 
 abbrev pub invariant-loop-rest : goal.invariant-loop-rest

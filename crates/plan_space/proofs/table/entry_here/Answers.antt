@@ -2,7 +2,7 @@ use Rattle.std.proofs.Common.{sym, subst, arith}
 use Rattle.std.specs.Prelude.{slice_index_or, []}
 use Rattle.cost_model.specs.Costing.{costing_tree}
 use Rattle.plan_space.specs.Table.{IsLeast}
-use Rattle.plan_space.specs.Prices.{own_at, block_at}
+use Rattle.cost_model.specs.Prices.{own_at, block_at}
 use Rattle.plan_space.proofs.LookedUp.{looked-up}
 use Rattle.plan_space.proofs.table.entry_here.Goals as goal
 

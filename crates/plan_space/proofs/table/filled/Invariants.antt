@@ -1,6 +1,6 @@
 use Rattle.std.proofs.Common.{◌^◌}
 use Rattle.plan_space.specs.Table.{AreLeast}
-use Rattle.plan_space.specs.Prices.{own_at, block_at}
+use Rattle.cost_model.specs.Prices.{own_at, block_at}
 use Rattle.plan_space.proofs.table.filled.Given as goal
 
 abbrev pub invariant-loop-relation : goal.invariant-loop-relation

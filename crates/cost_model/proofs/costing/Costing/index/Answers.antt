@@ -1,6 +1,6 @@
 use Rattle.std.proofs.Common.{◌∙◌, ap, sym, subst}
 use Rattle.cost_model.specs.Costs.{index_on}
-use Rattle.cost_model.specs.Parts.{IsFewIndex}
+use Rattle.cost_model.specs.Few.{IsFewIndex}
 use Rattle.cost_model.proofs.Bounds.{index-on-few}
 use Rattle.cost_model.proofs.costing.Costing.index.Goals as goal
 

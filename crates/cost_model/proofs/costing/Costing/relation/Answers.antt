@@ -6,7 +6,7 @@ use Rattle.query_block.specs.Blocks.{relation_tree}
 use Rattle.cost_model.specs.declared.stats.RelationStats.{RelationStats}
 use Rattle.cost_model.specs.Costing.{CostingShape}
 use Rattle.cost_model.specs.Costs.{relation_stats}
-use Rattle.cost_model.specs.Parts.{AreFew}
+use Rattle.cost_model.specs.Few.{AreFew}
 use Rattle.cost_model.proofs.Bounds.{relation-few, stats-long}
 use Rattle.cost_model.proofs.costing.Costing.relation.Goals as goal
 

@@ -1,0 +1,21 @@
+use Rattle.std.proofs.Common.{◌≤◌, ◌^◌, length, ap, arith}
+use Rattle.std.proofs.Math.ListN.{length-map}
+use Rattle.query_block.specs.Blocks.{relation_tree}
+use Rattle.cost_model.proofs.Sets.{power-to}
+use Rattle.cost_model.proofs.set.set_count.Goals as goal
+
+pub returns-clause-some : goal.returns-clause-some
+returns-clause-some c =
+    let count = length c.relations-count.result.now in
+    let many = length-map c.args.block.now.relations relation_tree in
+    let block = c.relations-count.ensures.block in
+    let two : 2 ^ 1 ≤ 2 ^ count = power-to 1 count (omega (arith, many, block.some, ap length c.relations-count.ensures.relations)) in
+    omega (arith, two, c.set_of_one.ensures)
+
+pub returns-clause-few : goal.returns-clause-few
+returns-clause-few c =
+    let count = length c.relations-count.result.now in
+    let many = length-map c.args.block.now.relations relation_tree in
+    let block = c.relations-count.ensures.block in
+    let few : 2 ^ count ≤ 2 ^ 6 = power-to count 6 (omega (arith, many, block.few, ap length c.relations-count.ensures.relations)) in
+    omega (arith, few, c.set_of_one.ensures)

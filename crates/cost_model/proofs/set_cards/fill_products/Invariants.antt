@@ -1,0 +1,7 @@
+use Rattle.std.proofs.Common.{◌^◌}
+use Rattle.cost_model.specs.Costing.{costing_tree}
+use Rattle.cost_model.specs.SetCards.{AreProducts}
+use Rattle.cost_model.proofs.set_cards.fill_products.Given as goal
+
+abbrev pub invariant-loop-relation : goal.invariant-loop-relation
+invariant-loop-relation l = AreProducts (costing_tree l.costing) l.products (2 ^ l.relation)

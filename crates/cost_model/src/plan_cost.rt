@@ -1,0 +1,74 @@
+// What a plan costs: the sum of what its nodes cost by themselves. Each function calls itself for the sides of a join, so the
+// stack that it takes is bounded by how deep the plan is.
+ghost use Rattle.std.specs.Prelude.{◌≡◌, ◌^◌, ◌<◌, ◌≤◌};
+ghost use Rattle.ess_grid.specs.Points.{IsPoint};
+ghost use Rattle.query_block.specs.Blocks.{block_tree};
+ghost use Rattle.plan_tree.specs.Plans.{plan_tree, covers_of, FitsSet};
+ghost use Rattle.plan_tree.specs.Enumerated.{IsSubPlan};
+ghost use Rattle.plan_tree.specs.Roots.{root_of};
+ghost use Rattle.cost_model.specs.Costing.{costing_tree, IsCosting};
+ghost use Rattle.cost_model.specs.Costs.{cost_of};
+ghost use Rattle.cost_model.specs.Prices.{own_at, block_at, sum_of};
+
+use crate::costing::Costing;
+use crate::prices::{PriceRoom, Prices};
+use ess_grid::Point;
+use plan_tree::{Plan, Root, covers};
+
+// The outermost node of a plan.
+fn root_of(p: &Plan) -> Root
+    requires { FitsSet (plan_tree p.now) }
+    ensures { result ≡ root_of (plan_tree p.now) }
+{
+    match p {
+        Plan::Scan(relation) => Root::Scan(*relation),
+        Plan::IndexScan(relation, column) => Root::IndexScan(*relation, *column),
+        Plan::Nest(left, _) => Root::Nest(covers(left)),
+        Plan::Hash(edge, left, _) => Root::Hash(*edge, covers(left)),
+        Plan::Merge(edge, left, _) => Root::Merge(*edge, covers(left)),
+        Plan::IndexLoop(edge, left, relation) => Root::IndexLoop(*edge, covers(left), *relation),
+    }
+}
+
+// What the outermost node of a plan costs by itself.
+fn root_cost(prices: &Prices<'_>, p: &Plan) -> u128
+    requires { IsSubPlan (block_at prices.now) (plan_tree p.now) }
+    ensures own { result
+        ≡ own_at prices.now (root_of (plan_tree p.now)) (covers_of (plan_tree p.now)) }
+    ensures bound { result ≤ 2 ^ 108 }
+{
+    let _block = prices.block();
+    prices.own(root_of(p), covers(p))
+}
+
+// What all nodes of a plan cost.
+#[cycle(sum)]
+fn sum(prices: &Prices<'_>, p: &Plan) -> u128
+    requires costing { IsCosting (costing_tree prices.now.costing) }
+    requires plan { IsSubPlan (block_at prices.now) (plan_tree p.now) }
+    ensures sum { result ≡ sum_of (own_at prices.now) (plan_tree p.now) }
+    ensures bound { result < 2 ^ 113 }
+{
+    let own = root_cost(prices, p);
+    match p {
+        Plan::Scan(_) | Plan::IndexScan(_, _) => own,
+        Plan::Nest(left, right) | Plan::Hash(_, left, right) | Plan::Merge(_, left, right) => {
+            sum(prices, left) + sum(prices, right) + own
+        }
+        Plan::IndexLoop(_, left, _) => sum(prices, left) + own,
+    }
+}
+
+impl Costing<'_> {
+    /// What a plan of some of the block's relations costs at a point of the grid. It takes no memory; of the machine's
+    /// stack it takes 2 KiB, and more the deeper the plan is.
+    pub fn cost(&self, p: &Plan, q: &Point) -> u128
+        requires plan { IsSubPlan (block_tree self.now.block) (plan_tree p.now) }
+        requires point { IsPoint self.now.grid q.now }
+        ensures cost { result ≡ cost_of (costing_tree self.now) (plan_tree p.now) q.now }
+        ensures bound { result < 2 ^ 113 }
+    {
+        let _block = self.block();
+        sum(&Prices::new(self, q, &mut PriceRoom::new()), p)
+    }
+}

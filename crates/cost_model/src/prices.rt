@@ -1,0 +1,172 @@
+// What each node of a plan costs by itself at a point. The cards of all sets of the block's relations are worked out once, and
+// beside each what sorting so many rows costs, so that a node's price takes a few look-ups and no division.
+ghost use Rattle.std.specs.Prelude.{◌≡◌, ℕ, ◌*◌, ◌<◌, ◌≤◌, length, slice_index};
+ghost use Rattle.sql_values.specs.Limits.{max_product};
+ghost use Rattle.ess_grid.specs.Points.{IsPoint};
+ghost use Rattle.plan_tree.specs.Work.{bits};
+ghost use Rattle.query_block.specs.Blocks.{block_tree};
+ghost use Rattle.cost_model.specs.Costing.{costing_tree, IsCosting};
+ghost use Rattle.cost_model.specs.Costs.{relation_stats, index_stats, candidate_card};
+ghost use Rattle.cost_model.specs.Few.{AreFew, IsFewIndex};
+ghost use Rattle.cost_model.specs.Prices.{IsSetOf, block_at, set_card, AreCards};
+
+use crate::arithmetic::times_bits;
+use crate::costing::Costing;
+use crate::set::set_count;
+use crate::set_cards::fill_cards;
+use crate::stats::{IndexStats, RelationStats};
+use ess_grid::{Grid, Point};
+use query_block::Block;
+use std::marker::Model;
+
+/// Room for the prices of nodes at a point. It is made once, and lent for one point after another.
+#[derive(Drop)]
+pub struct PriceRoom {
+    // By the numbers of sets: their cards, and what sorting so many rows costs.
+    cards: [u128; 64],
+    sorts: [u128; 64],
+}
+
+impl PriceRoom {
+    /// Room for the prices at one point at a time.
+    pub fn new() -> PriceRoom {
+        PriceRoom {
+            cards: [0; 64],
+            sorts: [0; 64],
+        }
+    }
+}
+
+/// The prices of nodes at a point of a costing's grid. The cards of all sets are worked out once, when it is made, so that
+/// many plans can be costed at the point by a few look-ups a node. It takes no memory.
+#[derive(Drop)]
+pub struct Prices<'a> {
+    costing: &'a Costing<'a>,
+    q: &'a Point,
+    room: &'a PriceRoom,
+}
+
+impl<'a> Model for Prices<'a> {
+    ghost use Rattle.query_block.specs.contracts.condition.Condition as condition;
+    ghost use Rattle.std.specs.Coded.{codes};
+    ghost use Rattle.cost_model.specs.Pricing.{Pricing};
+    ghost use Rattle.cost_model.specs.Prices.{ArePrices};
+
+    ghost Value = { Pricing };
+
+    ghost coded = { Prim.hlevel (codes, condition.the_row.coded) };
+
+    ghost view = { λ p. record { costing = p.costing.now; point = p.q.now } };
+
+    ghost invariant = { λ p. ArePrices (record { costing = p.costing.now; point = p.q.now })
+        p.room.now.cards p.room.now.sorts };
+}
+
+// Works out what sorting as many rows costs as each set gives.
+fn fill_sorts(costing: &Costing<'_>, cards: &[u128; 64], sorts: &mut [u128; 64])
+    requires { (set : ℕ) → IsSetOf (block_tree costing.now.block) set →
+        slice_index cards.now set ≤ max_product }
+    ensures { (set : ℕ) → IsSetOf (block_tree costing.now.block) set →
+        slice_index sorts.new set ≡ slice_index cards.now set * bits (slice_index cards.now set) }
+{
+    for set in 0..set_count(costing.block()) as usize {
+        sorts[set] = times_bits(cards[set]);
+    }
+}
+
+// The card of a set is within the limit of combinations.
+fn card_at(costing: &Costing<'_>, cards: &[u128; 64], q: &Point, set: u8) -> u128
+    requires set { IsSetOf (block_tree costing.now.block) set }
+    requires cards { AreCards (record { costing = costing.now; point = q.now }) cards.now }
+    ensures card { result ≡ set_card (costing_tree costing.now) q.now set }
+    ensures few { result ≤ max_product }
+{
+    let _block = costing.block();
+    cards[set as usize]
+}
+
+impl<'a> Prices<'a> {
+    /// The prices at this point of the costing's grid, kept in this room.
+    pub fn new(costing: &'a Costing<'a>, q: &'a Point, room: &'a mut PriceRoom) -> Prices<'a>
+        requires { IsPoint costing.now.grid q.now }
+        ensures costing { result.costing ≡ costing.now }
+        ensures point { result.point ≡ q.now }
+    {
+        fill_cards(costing, q, &mut room.cards);
+        fill_sorts(costing, &room.cards, &mut room.sorts);
+        Prices { costing, q, room }
+    }
+
+    /// The block.
+    pub fn block(&self) -> &'a Block
+        ensures block { result.now ≡ self.now.costing.block }
+        ensures costing { IsCosting (costing_tree self.now.costing) }
+    {
+        self.costing.block()
+    }
+
+    /// The grid.
+    pub fn grid(&self) -> &'a Grid
+        ensures { result.now ≡ self.now.costing.grid }
+    {
+        self.costing.grid()
+    }
+
+    /// The point.
+    pub fn point(&self) -> &'a Point
+        ensures point { result.now ≡ self.now.point }
+        ensures of_grid { IsPoint self.now.costing.grid result.now }
+    {
+        self.q
+    }
+
+    /// The card of a set.
+    pub(crate) fn card(&self, set: u8) -> u128
+        requires { IsSetOf (block_at self.now) set }
+        ensures card { result ≡ set_card (costing_tree self.now.costing) self.now.point set }
+        ensures few { result ≤ max_product }
+    {
+        card_at(self.costing, &self.room.cards, self.q, set)
+    }
+
+    /// What sorting so many rows costs.
+    pub(crate) fn sort(&self, set: u8) -> u128
+        requires { IsSetOf (block_at self.now) set }
+        ensures product { let card = set_card (costing_tree self.now.costing) self.now.point set in
+            result ≡ card * bits card }
+        ensures few { result ≤ 101 * max_product }
+    {
+        let _block = self.block();
+        let _card = self.card(set);
+        self.room.sorts[set as usize]
+    }
+
+    /// How many of so many pairs of rows are taken to be equal in the columns of an edge.
+    pub(crate) fn candidates_among(&self, edge: u8, pairs: u128) -> u128
+        requires edge { edge < length self.now.costing.block.edges }
+        requires pairs { pairs ≤ max_product }
+        ensures candidates { result
+            ≡ candidate_card (costing_tree self.now.costing) edge self.now.point pairs }
+        ensures few { result ≤ max_product }
+    {
+        self.costing.candidates(edge, pairs, self.q)
+    }
+
+    /// The counts of a relation.
+    pub(crate) fn relation(&self, relation: u8) -> &'a RelationStats
+        requires { relation < length self.now.costing.block.relations }
+        ensures stats { result.now ≡ relation_stats self.now.costing.stats relation }
+        ensures few { AreFew result.now }
+    {
+        self.costing.relation(relation)
+    }
+
+    /// The counts of the index on a column.
+    pub fn index(&self, relation: u8, column: u8) -> IndexStats
+        requires { relation < length self.now.costing.block.relations }
+        ensures stats { result ≡ index_stats self.now.costing.stats relation column }
+        ensures few { IsFewIndex result }
+    {
+        self.costing.index(relation, column)
+    }
+}

@@ -1,0 +1,85 @@
+// The cards of all sets of a block's relations at a point: the products of filtered counts, each from that of a smaller set, and
+// these scaled by one edge after another.
+ghost use Rattle.std.specs.Prelude.{◌≡◌, ℕ, ◌+◌, ◌^◌, ◌<◌, ◌≤◌, if◌then◌else◌, length, slice_index};
+ghost use Rattle.sql_values.specs.Limits.{max_product};
+ghost use Rattle.ess_grid.specs.Levels.{full_selectivity};
+ghost use Rattle.ess_grid.specs.Points.{IsPoint};
+ghost use Rattle.query_block.specs.Blocks.{block_tree};
+ghost use Rattle.cost_model.specs.Costing.{costing_tree};
+ghost use Rattle.cost_model.specs.Cards.{scaled};
+ghost use Rattle.cost_model.specs.Prices.{IsSetOf, AreCards};
+ghost use Rattle.cost_model.specs.SetCards.{AreProducts, AreScaled};
+
+use crate::arithmetic::scaled;
+use crate::costing::Costing;
+use crate::set::{is_inside, set_count};
+use ess_grid::Point;
+use plan_tree::set_of_one;
+
+// The products of the sets whose highest relation this is.
+fn add_relation(costing: &Costing<'_>, products: &mut [u128; 64], relation: u8)
+    requires relation { relation < length costing.now.block.relations }
+    requires smaller { AreProducts (costing_tree costing.now) products.old (2 ^ relation) }
+    ensures { AreProducts (costing_tree costing.now) products.new (2 ^ (relation + 1)) }
+{
+    let _block = costing.block();
+    let alone = set_of_one(relation);
+    let kept = u128::from(costing.relation(relation).kept);
+    for rest in 0..alone {
+        products[(alone + rest) as usize] = kept * products[rest as usize];
+    }
+}
+
+// The products of the filtered counts of all sets.
+fn fill_products(costing: &Costing<'_>, products: &mut [u128; 64])
+    ensures { AreProducts (costing_tree costing.now) products.new
+        (2 ^ length (block_tree costing.now.block).relations) }
+{
+    products[0] = 1;
+    for relation in 0..costing.block().relations().len() {
+        add_relation(costing, products, relation as u8);
+    }
+}
+
+// A card, scaled by an edge where it is inside the set.
+fn scaled_inside(inside: bool, card: u128, selectivity: u32) -> u128
+    requires card { card ≤ max_product }
+    requires part { selectivity ≤ full_selectivity }
+    ensures scaled { result ≡ (if inside then scaled card selectivity else card) }
+    ensures few { result ≤ card }
+{
+    if inside {
+        scaled(card, selectivity)
+    } else {
+        card
+    }
+}
+
+// Scales the cards of the sets that this edge is inside.
+fn scale_by_edge(costing: &Costing<'_>, q: &Point, cards: &mut [u128; 64], edge: usize)
+    requires edge { edge < length costing.now.block.edges }
+    requires point { IsPoint costing.now.grid q.now }
+    requires before { AreScaled (record { costing = costing.now; point = q.now }) cards.old edge }
+    ensures { AreScaled (record { costing = costing.now; point = q.now }) cards.new (edge + 1) }
+{
+    let block = costing.block();
+    let ends = &block.edges()[edge];
+    let selectivity = costing.grid().selectivity(q.levels()[edge]);
+    for set in 0..set_count(block) {
+        let inside = is_inside(set, ends);
+        cards[set as usize] = scaled_inside(inside, cards[set as usize], selectivity);
+    }
+}
+
+/// Works out the cards of all sets of the block's relations.
+pub(crate) fn fill_cards(costing: &Costing<'_>, q: &Point, cards: &mut [u128; 64])
+    requires { IsPoint costing.now.grid q.now }
+    ensures cards { AreCards (record { costing = costing.now; point = q.now }) cards.new }
+    ensures few { (set : ℕ) → IsSetOf (block_tree costing.now.block) set →
+        slice_index cards.new set ≤ max_product }
+{
+    fill_products(costing, cards);
+    for edge in 0..costing.block().edges().len() {
+        scale_by_edge(costing, q, cards, edge);
+    }
+}

@@ -1,5 +1,0 @@
-use Rattle.plan_space.proofs.SetCards.{not-scaled}
-use Rattle.plan_space.proofs.cards.fill_cards.Goals as goal
-
-pub loop-edge-init : goal.loop-edge-init
-loop-edge-init c = not-scaled c.args.costing.now c.args.q.now _ c.block.ensures.costing c.fill_products.ensures

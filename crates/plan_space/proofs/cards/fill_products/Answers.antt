@@ -1,9 +1,0 @@
-use Rattle.std.proofs.Common.{◌<◌, length, get_or-set_same, refl, arith}
-use Rattle.cost_model.specs.Costing.{costing_tree}
-use Rattle.plan_space.proofs.SetCards.{first-product}
-use Rattle.plan_space.proofs.cards.fill_products.Goals as goal
-
-pub loop-relation-init : goal.loop-relation-init
-loop-relation-init c =
-    let room : 0 < length c.args.products.now = omega (arith, c.told-products) in
-    first-product (costing_tree c.args.costing.now) _ (rw get_or-set_same refl)

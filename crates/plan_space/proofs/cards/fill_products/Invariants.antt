@@ -1,7 +1,0 @@
-use Rattle.std.proofs.Common.{◌^◌}
-use Rattle.cost_model.specs.Costing.{costing_tree}
-use Rattle.plan_space.specs.Cards.{AreProducts}
-use Rattle.plan_space.proofs.cards.fill_products.Given as goal
-
-abbrev pub invariant-loop-relation : goal.invariant-loop-relation
-invariant-loop-relation l = AreProducts (costing_tree l.costing) l.products (2 ^ l.relation)

@@ -1,6 +1,0 @@
-use Rattle.std.proofs.Common.{◌≡◌, drop}
-use Rattle.cost_model.specs.Costs.{index_on}
-use Rattle.plan_space.proofs.stats.index_on.Given as goal
-
-abbrev pub invariant-loop-index : goal.invariant-loop-index
-invariant-loop-index l = index_on l.columns l.column ≡ index_on (drop l.index-index l.columns) l.column
