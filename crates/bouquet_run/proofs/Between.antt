@@ -1,8 +1,7 @@
 -- What holds between two executions of a run.
 use Rattle.std.proofs.Common.{◌≡◌, ℕ, ◌+◌, ◌≤◌, ◌^◌, [], length}
-use Rattle.row_stack.specs.Stack.{RowStackState, room_of}
+use Rattle.row_stack.specs.Stack.{RowStackState, room_of, Stays}
 use Rattle.db_catalog.specs.Meter.{MeterState}
-use Rattle.exec_pipe.specs.Starting.{Stays}
 use Rattle.bouquet_type.specs.Shapes.{BouquetShape}
 use Rattle.bouquet_type.specs.Trees.{bouquet_tree}
 use Rattle.bouquet_type.specs.Schedule.{final_plan}

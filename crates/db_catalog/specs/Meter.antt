@@ -1,5 +1,5 @@
 -- What is seen of a metered database.
-use Rattle.std.specs.Prelude.{◌≡◌, ℕ, ◌<◌, length, List, ℤ, Result}
+use Rattle.std.specs.Prelude.{◌≡◌, ℕ, ◌<◌, ◌≤◌, length, List, ℤ, Result}
 use Rattle.work_ledger.specs.Account.{Account, Pays}
 use Rattle.heap_pages.specs.Rows.{pages_of, rows_per_page, rows_on_page, row_number}
 use Rattle.db_catalog.specs.Database.{DatabaseState, table_at, IsRowAt}
@@ -34,4 +34,10 @@ IsRowIn database number page slot words =
 -- a read that costs n: it pays exactly that or is refused, and the database is the same
 pub record Reads {T E : Type 0} (n : ℕ) (old new : MeterState) (result : Result T E) : Type 0 where
   pub pays : Pays n old.account new.account result
+  pub database : new.database ≡ old.database
+
+-- of a meter nothing but what is spent changes, and no payment is taken back
+pub record OnlySpends (old new : MeterState) : Type 0 where
+  pub limit : new.account.limit ≡ old.account.limit
+  pub never_falls : old.account.spent ≤ new.account.spent
   pub database : new.database ≡ old.database

@@ -1,5 +1,5 @@
 -- A stack as a list of rows of one width, and for how many more there is room.
-use Rattle.std.specs.Prelude.{◌≡◌, ℕ, ℤ, ◌+◌, ◌^◌, ◌<◌, ◌≤◌, List, [], length, max, All}
+use Rattle.std.specs.Prelude.{◌≡◌, ℕ, ℤ, ◌+◌, ◌^◌, ◌<◌, ◌≤◌, List, [], ◌++◌, length, max, All}
 use Rattle.row_stack.specs.Limits.{max_width}
 
 -- what is seen of a stack: how many words its rows have, the rows in order, the first pushed first, and how many more
@@ -27,3 +27,15 @@ pub record IsRowStack (stack : RowStackState) : Type 0 where
   pub few_words : stack.width ≤ max_width
   pub wide : All (λ row. length row ≡ stack.width) stack.rows
   pub bounded : room_of stack < 2 ^ 63
+
+-- rows are put behind those of a stack, and no room is lost
+pub record Grows (old new : RowStackState) : Type 0 where
+  pub rows : (more : List (List ℤ)) × (new.rows ≡ old.rows ++ more)
+  pub width : new.width ≡ old.width
+  pub room : room_of old ≤ room_of new
+
+-- a stack has its rows, and no room is lost
+pub record Stays (old new : RowStackState) : Type 0 where
+  pub rows : new.rows ≡ old.rows
+  pub width : new.width ≡ old.width
+  pub room : room_of old ≤ room_of new
