@@ -3,7 +3,7 @@ use Rattle.std.specs.Prelude.{ℕ, List, length, Option, None, bytes_eq, if◌th
 use Rattle.std.specs.Str.{is_utf8}
 use Rattle.serde_json.specs.Data.{Data}
 use Rattle.serde_json.specs.Read.{read}
-use Rattle.query_block.specs.Blocks.{BlockTree}
+use Rattle.query_block.specs.Blocks.{BlockTree, axes_of}
 use Rattle.cost_model.specs.declared.stats.Stats.{Stats}
 use Rattle.bouquet_type.specs.Trees.{BouquetTree}
 use Rattle.bouquet_file.specs.declared.fault.OpenFault.TheVariants as fault
@@ -24,7 +24,7 @@ file_of value query block stats = do
   unless_changed (changed_counts 0 parts.counts stats.relations)
   found ← each (contour_at block) 1 parts.contours
   pure (record {
-    costing = record { block = block; stats = stats; grid = record { axes = length block.edges; levels = parts.levels } };
+    costing = record { block = block; stats = stats; grid = record { axes = axes_of block; levels = parts.levels } };
     threshold = parts.threshold;
     contours = found;
   })

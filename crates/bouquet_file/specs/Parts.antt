@@ -4,7 +4,7 @@ use Rattle.sql_values.specs.Limits.{max_threshold}
 use Rattle.serde_json.specs.Data.{Data, Items}
 use Rattle.serde_json.specs.Find.{get_member}
 use Rattle.serde_json.specs.View.{items_view}
-use Rattle.query_block.specs.Blocks.{BlockTree}
+use Rattle.query_block.specs.Blocks.{BlockTree, axes_of}
 use Rattle.bouquet_file.specs.declared.fault.FieldPath.TheVariants as path
 use Rattle.bouquet_file.specs.declared.fault.OpenFault.TheVariants as fault
 use Rattle.bouquet_file.specs.declared.relations.KeptCounts.{KeptCounts}
@@ -36,7 +36,7 @@ abbrev pub parts_of : Option Data → BlockTree → Checked FileParts
 parts_of value block = do
   members ← head_of value
   text ← need (fault.Field path.Query) (string_of (get_member (codes "query") members))
-  levels ← need (fault.Field path.Levels) (levels_in (length block.edges) members)
+  levels ← need (fault.Field path.Levels) (levels_in (axes_of block) members)
   threshold ← need (fault.Field path.Threshold) (within 0 max_threshold (unsigned (get_member (codes "threshold") members)))
   relations ← need (fault.Field path.Relations) (list_within (length block.relations) (length block.relations) (get_member (codes "relations") members))
   counts ← each counts_at 1 relations

@@ -55,7 +55,7 @@ pub fn from_bytes(
     }
     check_counts(parts.counts.as_slice(), stats.relations.as_slice())?;
     let contours = contours_of(alloc, &block, parts.contours)?;
-    let Ok(grid) = Grid::new(block.edges().len(), Some(parts.levels)) else {
+    let Ok(grid) = Grid::new(block.axes(), Some(parts.levels)) else {
         unreachable!()
     };
     Ok(Bouquet::new(block, stats, grid, parts.threshold, contours))

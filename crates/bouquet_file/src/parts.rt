@@ -2,7 +2,7 @@
 ghost use Rattle.std.specs.Prelude.{◌≡◌, ◌^◌, ◌≤◌, IfOk, IfSome, Some, length};
 ghost use Rattle.sql_values.specs.Limits.{max_axes, min_levels, max_levels, max_points, max_threshold};
 ghost use Rattle.serde_json.specs.View.{view, members_view};
-ghost use Rattle.query_block.specs.Blocks.{block_tree};
+ghost use Rattle.query_block.specs.Blocks.{axes_of, block_tree};
 ghost use Rattle.bouquet_file.specs.Steps.{GivesChecked};
 ghost use Rattle.bouquet_file.specs.Checks.{levels_in};
 ghost use Rattle.bouquet_file.specs.Parts.{parts_of, parts_seen};
@@ -59,7 +59,7 @@ pub(crate) fn parts_of<'v>(
         (parts_of (Some (view file.now)) (block_tree block.now)) }
     ensures low_levels { IfOk result (λ parts. min_levels ≤ parts.levels) }
     ensures high_levels { IfOk result (λ parts. parts.levels ≤ max_levels) }
-    ensures points { IfOk result (λ parts. parts.levels ^ length block.now.edges ≤ max_points) }
+    ensures points { IfOk result (λ parts. parts.levels ^ axes_of (block_tree block.now) ≤ max_points) }
     ensures threshold { IfOk result (λ parts. parts.threshold ≤ max_threshold) }
     ensures counts { IfOk result
         (λ parts. length parts.counts.items ≡ length block.now.relations) }
@@ -68,7 +68,7 @@ pub(crate) fn parts_of<'v>(
 {
     let members = head_of(file)?;
     let query = need(text_at(members, "query"), FieldPath::Query)?;
-    let levels = need(levels_in(block.edges().len(), members), FieldPath::Levels)?;
+    let levels = need(levels_in(block.axes(), members), FieldPath::Levels)?;
     let threshold = need(
         number_at(members, "threshold", 0, u64::from(MAX_THRESHOLD)),
         FieldPath::Threshold,

@@ -1,7 +1,7 @@
 // The compiled bouquet.
 ghost use Rattle.std.specs.Prelude.{◌≡◌, ◌≤◌, IfOk, length};
 ghost use Rattle.sql_values.specs.Limits.{max_threshold};
-ghost use Rattle.query_block.specs.Blocks.{block_tree};
+ghost use Rattle.query_block.specs.Blocks.{axes_of, block_tree};
 ghost use Rattle.cost_model.specs.Costing.{costing_tree};
 ghost use Rattle.cost_model.specs.Fits.{FitsBlock};
 ghost use Rattle.bouquet_type.specs.Trees.{bouquet_tree};
@@ -25,7 +25,7 @@ pub fn compile(
     threshold: u32,
 ) -> Result<Bouquet, AllocError>
     requires stats { FitsBlock (block_tree block) stats }
-    requires axes { grid.axes ≡ length block.edges }
+    requires axes { grid.axes ≡ axes_of (block_tree block) }
     requires threshold { threshold ≤ max_threshold }
     ensures block { IfOk result (λ bouquet. bouquet.block ≡ block) }
     ensures stats { IfOk result (λ bouquet. bouquet.stats ≡ stats) }

@@ -4,6 +4,7 @@ use Rattle.std.specs.Int.{div_ceil}
 use Rattle.ess_grid.specs.Levels.{full_selectivity, selectivity_of}
 use Rattle.ess_grid.specs.Points.{GridShape}
 use Rattle.query_block.specs.declared.edge.Edge.{Edge}
+use Rattle.query_block.specs.Blocks.{axis_of_edge}
 use Rattle.query_block.specs.Meaning.{RelationSet, is_inside}
 use Rattle.cost_model.specs.declared.stats.RelationStats.{RelationStats}
 use Rattle.cost_model.specs.Costing.{CostingTree}
@@ -12,9 +13,9 @@ use Rattle.cost_model.specs.Costing.{CostingTree}
 abbrev pub scaled : (rows selectivity : ℕ) → ℕ
 scaled rows selectivity = div_ceil (rows * selectivity) full_selectivity
 
--- the selectivity of an edge, which is an axis, at a point
+-- the selectivity of an edge at a point: that on its axis
 abbrev pub selectivity_at : GridShape → (point : List ℕ) → (edge : ℕ) → ℕ
-selectivity_at grid point edge = selectivity_of grid.levels (slice_index point edge)
+selectivity_at grid point edge = selectivity_of grid.levels (slice_index point (axis_of_edge edge))
 
 -- the product of the filtered counts of a set's relations, of which the first has this number
 abbrev pub kept_product : RelationSet → (number : ℕ) → List RelationStats → ℕ

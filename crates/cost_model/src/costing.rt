@@ -1,12 +1,13 @@
 // What the cards and costs of plans depend on. A card is worked out anew from the counts; whoever asks for many has `Prices`.
 ghost use Rattle.std.specs.Prelude.{◌≡◌, ◌<◌, ◌≤◌, length};
 ghost use Rattle.sql_values.specs.Limits.{max_product};
+ghost use Rattle.ess_grid.specs.Levels.{full_selectivity};
 ghost use Rattle.ess_grid.specs.Points.{IsPoint};
-ghost use Rattle.query_block.specs.Blocks.{block_tree};
+ghost use Rattle.query_block.specs.Blocks.{axes_of, block_tree};
 ghost use Rattle.plan_tree.specs.Sets.{set_of};
 ghost use Rattle.cost_model.specs.Fits.{FitsBlock};
 ghost use Rattle.cost_model.specs.Costing.{costing_tree, IsCosting};
-ghost use Rattle.cost_model.specs.Cards.{kept_product, card_of};
+ghost use Rattle.cost_model.specs.Cards.{kept_product, card_of, selectivity_at};
 ghost use Rattle.cost_model.specs.Costs.{relation_stats, index_on, index_stats, candidate_card};
 ghost use Rattle.cost_model.specs.Few.{AreFew, IsFewIndex};
 
@@ -15,7 +16,7 @@ use crate::set::is_inside;
 use crate::stats::{IndexStats, RelationStats, Stats};
 use ess_grid::{Grid, Point};
 use plan_tree::is_in_set;
-use query_block::Block;
+use query_block::{Block, axis_of_edge};
 use std::marker::Model;
 
 /// What plans of a block cost at the points of a grid: the block, the counts of its tables and the grid, lent.
@@ -42,10 +43,10 @@ impl<'c> Model for Costing<'c> {
 }
 
 impl<'c> Costing<'c> {
-    /// The costs of plans of this block, by these counts, on this grid, each of whose axes is an edge of the block.
+    /// The costs of plans of this block, by these counts, on this grid, which has the block's axes.
     pub fn new(block: &'c Block, stats: &'c Stats, grid: &'c Grid) -> Costing<'c>
         requires stats { FitsBlock (block_tree block.now) stats.now }
-        requires axes { grid.now.axes ≡ length block.now.edges }
+        requires axes { grid.now.axes ≡ axes_of (block_tree block.now) }
         ensures block { result.block ≡ block.now }
         ensures stats { result.stats ≡ stats.now }
         ensures grid { result.grid ≡ grid.now }
@@ -87,11 +88,10 @@ impl<'c> Costing<'c> {
         ensures card { result ≡ card_of (costing_tree self.now) (set_of set) q.now }
         ensures few { result ≤ max_product }
     {
-        let levels = q.levels();
         let mut card = self.kept_product(set);
         for (number, edge) in self.block.edges().iter().enumerate() {
             if is_inside(set, edge) {
-                card = scaled(card, self.grid.selectivity(levels[number]));
+                card = scaled(card, self.selectivity(number as u8, q));
             }
         }
         card
@@ -119,7 +119,17 @@ impl<'c> Costing<'c> {
         ensures candidates { result ≡ candidate_card (costing_tree self.now) edge q.now pairs }
         ensures few { result ≤ max_product }
     {
-        scaled(pairs, self.grid.selectivity(q.levels()[edge as usize]))
+        scaled(pairs, self.selectivity(edge, q))
+    }
+
+    /// The selectivity of an edge at a point of the grid.
+    pub(crate) fn selectivity(&self, edge: u8, q: &Point) -> u32
+        requires edge { edge < length self.now.block.edges }
+        requires point { IsPoint self.now.grid q.now }
+        ensures selectivity { result ≡ selectivity_at self.now.grid q.now edge }
+        ensures part { result ≤ full_selectivity }
+    {
+        self.grid.selectivity(q.levels()[axis_of_edge(edge)])
     }
 
     /// The counts of a relation.

@@ -64,7 +64,7 @@ fn scale_by_edge(costing: &Costing<'_>, q: &Point, cards: &mut [u128; 64], edge:
 {
     let block = costing.block();
     let ends = &block.edges()[edge];
-    let selectivity = costing.grid().selectivity(q.levels()[edge]);
+    let selectivity = costing.selectivity(edge as u8, q);
     for set in 0..set_count(block) {
         let inside = is_inside(set, ends);
         cards[set as usize] = scaled_inside(inside, cards[set as usize], selectivity);

@@ -28,11 +28,11 @@ fn compiled(
     levels: Option<u64>,
     threshold: u32,
 ) -> Result<Bouquet, Wrong> {
-    if !db.fits(&block) || block.edges().len() > 6 || threshold > 1000 {
+    if !db.fits(&block) || block.axes() > 6 || threshold > 1000 {
         return Err("a block over the tables, and a threshold".into());
     }
     let stats = stats_of(alloc, db, &block)?;
-    let grid = Grid::new(block.edges().len(), levels)?;
+    let grid = Grid::new(block.axes(), levels)?;
     Ok(compile(alloc, block, stats, grid, threshold)?)
 }
 

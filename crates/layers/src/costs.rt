@@ -92,11 +92,11 @@ fn priced(
 ) -> Result<String, Wrong> {
     let place: usize = place.parse()?;
     let plan = plan_of(alloc, written)?;
-    if !db.fits(block) || !is_plan(block, &plan) || block.edges().len() > 6 {
+    if !db.fits(block) || !is_plan(block, &plan) || block.axes() > 6 {
         return Err("a plan of the block, over its tables".into());
     }
     let stats = stats_of(alloc, db, block)?;
-    let grid = Grid::new(block.edges().len(), None)?;
+    let grid = Grid::new(block.axes(), None)?;
     if place >= grid.points() {
         return Err("a point of the grid".into());
     }

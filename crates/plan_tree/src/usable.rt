@@ -2,10 +2,9 @@
 ghost use Rattle.std.specs.Prelude.{◌≡◌, ◌<◌, length, map};
 ghost use Rattle.std.specs.List.{list_any};
 ghost use Rattle.query_block.specs.Conditions.{filter_tree};
-ghost use Rattle.query_block.specs.Blocks.{holds_texts};
 ghost use Rattle.plan_tree.specs.Usable.{is_column, is_literal, is_range, is_usable};
 
-use query_block::{Condition, Operand};
+use query_block::{Condition, Operand, holds_texts};
 use sql_values::{ColumnType, Op};
 
 // Whether an operand is this column.
@@ -25,16 +24,6 @@ fn is_literal(operand: &Operand) -> bool
     match operand {
         Operand::Column(_) => false,
         Operand::Literal(_) => true,
-    }
-}
-
-// Whether a column holds texts.
-fn holds_texts(kind: ColumnType) -> bool
-    ensures { result ≡ holds_texts kind }
-{
-    match kind {
-        ColumnType::Integer => false,
-        ColumnType::Varchar(_) => true,
     }
 }
 

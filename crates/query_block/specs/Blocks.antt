@@ -122,12 +122,20 @@ pub record IsEdge (relations : List RelationTree) (edge : Edge) : Type 0 where
   pub lower : edge.left < edge.right
   pub one_kind : holds_texts (kind_of relations (left_of edge)) ≡ holds_texts (kind_of relations (right_of edge))
 
--- 1 to 6 relations, at most 6 edges, a projection of columns that exist
+-- how many axes the grid of a block has: one for each edge
+abbrev pub axes_of : BlockTree → ℕ
+axes_of block = length block.edges
+
+-- the axis of an edge: they come in the order of the edges
+abbrev pub axis_of_edge : (edge : ℕ) → ℕ
+axis_of_edge edge = edge
+
+-- 1 to 6 relations, at most 6 axes, a projection of columns that exist
 pub record IsBlock (block : BlockTree) : Type 0 where
   pub some : 1 ≤ length block.relations
   pub few : length block.relations ≤ max_relations
   pub relations : All IsRelation block.relations
-  pub axes : length block.edges ≤ max_axes
+  pub axes : axes_of block ≤ max_axes
   pub edges : All (IsEdge block.relations) block.edges
   pub projection : All (IsPlace block.relations) block.projection
 

@@ -1,7 +1,7 @@
 // A block: what a query asks of which tables. It knows tables by their numbers alone.
 ghost use Rattle.std.specs.Prelude.{◌≡◌, ◌*◌, ◌<◌, ◌≤◌, All, length, sum_by};
-ghost use Rattle.sql_values.specs.Limits.{max_relations, max_columns};
-ghost use Rattle.query_block.specs.Blocks.{block_tree, IsBlock, width_of, offset_of};
+ghost use Rattle.sql_values.specs.Limits.{max_axes, max_relations, max_columns};
+ghost use Rattle.query_block.specs.Blocks.{axes_of, axis_of_edge, block_tree, IsBlock, width_of, offset_of};
 
 use crate::condition::Condition;
 use crate::edge::{ColumnAt, Edge};
@@ -67,6 +67,13 @@ fn words_of(relations: &[Relation]) -> usize
     words
 }
 
+/// The axis of an edge of a block.
+pub fn axis_of_edge(edge: u8) -> usize
+    ensures { result ≡ axis_of_edge edge }
+{
+    usize::from(edge)
+}
+
 impl Block {
     /// The block of these relations, in FROM order, of these edges, each of which is an axis, and of the columns that the
     /// query asks for, in written order. It takes no memory.
@@ -101,6 +108,14 @@ impl Block {
         ensures block { IsBlock (block_tree self.now) }
     {
         &self.edges
+    }
+
+    /// How many axes its grid has: at most 6.
+    pub fn axes(&self) -> usize
+        ensures axes { result ≡ axes_of (block_tree self.now) }
+        ensures few { result ≤ max_axes }
+    {
+        self.edges.len()
     }
 
     /// The columns that the query asks for, in written order.

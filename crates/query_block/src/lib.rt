@@ -11,10 +11,12 @@ mod cell;
 mod condition;
 mod edge;
 mod evaluate;
+mod kind;
 mod predicate;
 mod row;
 
-pub use block::{Block, Relation};
+pub use block::{Block, Relation, axis_of_edge};
 pub use condition::{Condition, Operand};
 pub use edge::{ColumnAt, Edge};
 pub use evaluate::{meets_filter, truth};
+pub use kind::holds_texts;

@@ -3,7 +3,7 @@ use Rattle.std.specs.Prelude.{ℕ, ◌^◌, nat_le, nat_lt, length, Option, Some
 use Rattle.std.specs.Option.{option_or}
 use Rattle.sql_values.specs.Limits.{max_points}
 use Rattle.sql_values.specs.declared.limit.LimitName.TheVariants as limit
-use Rattle.query_block.specs.Blocks.{BlockTree}
+use Rattle.query_block.specs.Blocks.{BlockTree, axes_of}
 use Rattle.sql_parse.specs.Trees.{QueryTree}
 use Rattle.db_catalog.specs.Database.{DatabaseState}
 use Rattle.sql_bind.specs.declared.fault.BindFault.{BindFault}
@@ -22,11 +22,11 @@ use Rattle.session.specs.declared.refusal.Refusal.TheVariants as refusal
 use Rattle.session.specs.Outcome.{Outcome, Prints, Refuses}
 use Rattle.session.specs.World.{World}
 
--- what the costs of a block's plans depend on: the counts of its tables, and a grid with an axis for each edge, each with so
--- many levels, or as many as none given say
+-- what the costs of a block's plans depend on: the counts of its tables, and a grid of its axes, each with so many levels,
+-- or as many as none given say
 abbrev pub costing_over : DatabaseState → BlockTree → (levels : Option ℕ) → CostingTree
 costing_over database block levels =
-    let axes = length block.edges in
+    let axes = axes_of block in
     record { block = block; stats = stats_of database.tables block; grid = record { axes = axes; levels = levels_of axes levels } }
 
 -- a grid with so many points, which are too many; where no levels are given there are few enough
@@ -40,7 +40,7 @@ product_refusal database block = option_map (λ value. refusal.PastLimit limit.P
 
 -- the first of the two that comes
 abbrev pub size_refusal : DatabaseState → BlockTree → (levels : Option ℕ) → Option Refusal
-size_refusal database block levels = option_or (points_refusal (length block.edges) levels) (product_refusal database block)
+size_refusal database block levels = option_or (points_refusal (axes_of block) levels) (product_refusal database block)
 
 -- the compiled bouquet of a block, or why it has none
 abbrev pub compiled_over : DatabaseState → (levels : Option ℕ) → (threshold : ℕ) → BlockTree → Option Refusal → Result BouquetTree Refusal

@@ -55,7 +55,7 @@ pub(crate) fn compiled_over(
     ensures counts { IfOk result
         (λ bouquet. HasCountsOf database.now.tables (bouquet_tree bouquet)) }
 {
-    let grid = Grid::new(block.edges().len(), levels)?;
+    let grid = Grid::new(block.axes(), levels)?;
     let stats = stats_of(alloc, database, &block)?;
     Ok(compile(alloc, block, stats, grid, threshold)?)
 }

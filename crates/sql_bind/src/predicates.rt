@@ -2,7 +2,7 @@
 ghost use Rattle.std.specs.Prelude.{◌≡◌, ◌≤◌, ◌<◌, ◌+◌, ◌^◌, [], ◌∷◌, All, IfOk, length, map};
 ghost use Rattle.std.specs.List.{list_all};
 ghost use Rattle.sql_values.specs.Limits.{max_relations, max_columns};
-ghost use Rattle.query_block.specs.Blocks.{holds_texts, is_text};
+ghost use Rattle.query_block.specs.Blocks.{is_text};
 ghost use Rattle.sql_parse.specs.Trees.{condition_tree, operands};
 ghost use Rattle.sql_parse.specs.Counts.{predicates_in, predicates_in_all};
 ghost use Rattle.sql_bind.specs.Names.{first_fault_from};
@@ -12,7 +12,7 @@ ghost use Rattle.sql_bind.specs.Refused.{RefusesBlock};
 
 use crate::fault::BindFault;
 use crate::names::{NamedTable, check_column, place_of};
-use query_block::ColumnAt;
+use query_block::{ColumnAt, holds_texts};
 use sql_parse::{Cond, Term};
 use sql_values::{ColumnType, Value};
 use std::alloc::Global;
@@ -27,15 +27,6 @@ fn kind_in(tables: &[NamedTable<'_>], place: ColumnAt) -> ColumnType
     match table.columns.get(place.column as usize) {
         Some(column) => column.kind,
         None => ColumnType::Integer,
-    }
-}
-
-fn holds_texts(kind: ColumnType) -> bool
-    ensures { result ≡ holds_texts kind }
-{
-    match kind {
-        ColumnType::Integer => false,
-        ColumnType::Varchar(_) => true,
     }
 }
 

@@ -1,0 +1,15 @@
+// The two kinds of values, texts and numbers: values of one kind alone are compared.
+ghost use Rattle.std.specs.Prelude.{◌≡◌};
+ghost use Rattle.query_block.specs.Blocks.{holds_texts};
+
+use sql_values::ColumnType;
+
+/// Whether a column holds texts; else it holds numbers.
+pub fn holds_texts(kind: ColumnType) -> bool
+    ensures { result ≡ holds_texts kind }
+{
+    match kind {
+        ColumnType::Integer => false,
+        ColumnType::Varchar(_) => true,
+    }
+}
