@@ -1,10 +1,9 @@
 use Rattle.std.proofs.Common.{◌≡◌, ◌^◌, cond, length, get_or, ap, ◌∙◌, arith}
-use Rattle.ess_grid.specs.Levels.{selectivity_of}
 use Rattle.query_block.specs.Blocks.{block_tree}
 use Rattle.query_block.specs.Meaning.{is_inside}
 use Rattle.plan_tree.specs.Enumerated.{edge_at}
 use Rattle.plan_tree.specs.Sets.{set_of}
-use Rattle.cost_model.specs.Cards.{scaled, selectivity_at}
+use Rattle.cost_model.specs.Cards.{scaled}
 use Rattle.cost_model.specs.Pricing.{Pricing}
 use Rattle.cost_model.specs.Prices.{IsSetOf, block_at}
 use Rattle.cost_model.proofs.SetCards.{scaled-next, add-scaled}
@@ -20,11 +19,9 @@ loop-set-preserved c =
     let edges : c.edges.result.now ≡ costing.block.edges = c.edges.ensures.edges ∙ ap (λ block. block.edges) c.block-block.ensures.block in
     let inside : c.is_inside-inside.result ≡ is_inside (set_of set) (edge_at costing.block.edges edge) =
     c.is_inside-inside.ensures ∙ ap (λ all. is_inside (set_of set) (edge_at all edge)) edges in
-    let part : c.selectivity-selectivity.result ≡ selectivity_at costing.grid c.args.q.now edge =
-    c.selectivity-selectivity.ensures.selectivity ∙ (λ i. selectivity_of (c.grid.ensures i).levels (get_or (c.levels.ensures.levels i) edge 0)) in
     let count = c.set_count-set-end.ensures.count ∙ ap (λ block. 2 ^ length (block_tree block).relations) c.block-block.ensures.block in
     let below : IsSetOf (block_at at) set = omega (arith, c.loop-set-test.true, count) in
     let next = scaled-next at set edge card c.scaled_inside.result c.requires.edge (c.loop-set.invariant.1 set (omega arith) below)
-    (c.scaled_inside.ensures.scaled ∙ (λ i. cond (inside i) (scaled card (part i)) card)) c.scaled_inside.ensures.few in
+    (c.scaled_inside.ensures.scaled ∙ (λ i. cond (inside i) (scaled card (c.selectivity-selectivity.ensures.selectivity i)) card)) c.scaled_inside.ensures.few in
     add-scaled at c.loop-set.cards set edge c.scaled_inside.result c.loop-set.invariant.2 (omega (arith, c.loop-set-test.true, c.set_count-set-end.ensures.few))
     c.loop-set.invariant.0 c.loop-set.invariant.1 next
