@@ -21,6 +21,6 @@ check_counts-requires-clause-as_many c =
 pub unreachable-requires : goal.unreachable-requires
 unreachable-requires c =
     let levels = c.in_ok-parts.parts.levels in
-    let few = subst (λ edges. levels ^ length edges ≤ max_points) (sym c.edges.ensures.edges) c.in_ok-parts.ensures.points in
-    grid-made (length c.edges.result.now) levels c.new.result c.new.ensures.bad_levels c.new.ensures.too_many_points
+    let few = subst (λ axes. levels ^ axes ≤ max_points) (sym c.axes.ensures.axes) c.in_ok-parts.ensures.points in
+    grid-made c.axes.result levels c.new.result c.new.ensures.bad_levels c.new.ensures.too_many_points
     c.in_ok-parts.ensures.low_levels c.in_ok-parts.ensures.high_levels few c.in_default.field-0 c.in_default.is
