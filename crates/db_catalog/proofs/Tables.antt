@@ -1,5 +1,5 @@
 -- What is seen of tables, read from how they are kept.
-use Rattle.std.proofs.Common.{◌≡◌, ℕ, zero, suc, ◌*◌, ◌<◌, List, [], ◌∷◌, length, map, get_or, Option, Some, None, option_map, Result, ℤ, pos, nat_abs, refl, sym, ap, subst, ◌∙◌, arith, slice_get, position, IfOk, Ok, Err}
+use Rattle.std.proofs.Common.{◌≡◌, ℕ, zero, suc, ◌*◌, ◌^◌, ◌<◌, ◌≤◌, List, [], ◌∷◌, length, map, get_or, Option, Some, None, option_map, Result, ℤ, pos, nat_abs, refl, sym, ap, subst, ◌∙◌, arith, slice_get, position, IfOk, Ok, Err}
 use Rattle.std.specs.Prelude.{Contains, IsSomeAnd}
 use Rattle.std.specs.List.{IsDistinct}
 use Rattle.std.specs.Str.{bytes_eq}
@@ -103,6 +103,9 @@ has_table P (t ∷ ts) (suc number) none has = omega (arith, has_table P ts numb
 pub row_there : (db : DatabaseState) (number i : ℕ) → i < length (table_at db number).rows → number < length db.tables
 row_there db number i = has_table (λ t. i < length t.rows) db.tables number (λ h. omega (arith, h))
 
+pub column_there : (db : DatabaseState) (number column : ℕ) → column < length (table_at db number).columns → number < length db.tables
+column_there db number column = has_table (λ t. column < length t.columns) db.tables number (λ h. omega (arith, h))
+
 pub page_there : (db : DatabaseState) (number page : ℕ) → page < table_pages db number → number < length db.tables
 page_there db number page = has_table (λ t. page < pages_of (length t.columns) (length t.rows)) db.tables number (λ h. omega (arith, h))
 
@@ -133,14 +136,14 @@ is_wide texts table kept = record {
 
 -- so many words make rows of the table at a place
 pub has_words : (names texts : List (List ℕ)) (tables : List Table) (number words rows : ℕ) (columns : List ColumnDef) → AreKept names texts tables → number < length tables →
-    columns ≡ (table_at (database_of texts tables) number).columns → words ≡ rows * length columns → IsSomeAnd (slice_get tables number) (HasWords words rows)
-has_words names texts tables number words rows columns kept there same filled =
+    columns ≡ (table_at (database_of texts tables) number).columns → rows ≤ 2 ^ 62 → words ≡ rows * length columns → IsSomeAnd (slice_get tables number) (HasWords words rows)
+has_words names texts tables number words rows columns kept there same few filled =
     let (table, (at, is)) = some_at tables number there in
     let here : IsKept texts table = kept_at names texts tables number table kept there is in
     let width : length columns ≡ table.heap.columns =
     ap length (same ∙ ap (λ t. t.columns) (table_at-database_of texts tables number table there is)) ∙ sym here.width in
     subst (λ o. IsSomeAnd o (HasWords words rows)) (sym at)
-    (record { is_wide = is_wide texts table here; filled = filled ∙ ap (λ n. rows * n) width; indexes = here.indexes })
+    (record { few = few; is_wide = is_wide texts table here; filled = filled ∙ ap (λ n. rows * n) width; indexes = here.indexes })
 
 -- the table at a place has a column of the table that is seen there
 pub has_column : (names texts : List (List ℕ)) (tables : List Table) (number column : ℕ) → AreKept names texts tables → number < length tables →
@@ -169,4 +172,4 @@ rows_stand names texts tables number kept there i within =
     (words, row_is_seen names texts tables number i table words kept there is row)
 
 -- the table of a read is there
-pub ruleset of_reads = (row_there, page_there, index_there, slot_there)
+pub ruleset of_reads = (row_there, column_there, page_there, index_there, slot_there)

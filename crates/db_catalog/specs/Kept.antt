@@ -1,5 +1,5 @@
 -- How tables and batches are kept: as words, of which each means something.
-use Rattle.std.specs.Prelude.{◌≡◌, ℕ, ◌*◌, ◌<◌, ◌≤◌, ℤ, List, [], ◌∷◌, ◌++◌, All, length, map, nat_eq, take, sum_by, slice_get, slice_index_or, slice_set, Some}
+use Rattle.std.specs.Prelude.{◌≡◌, ℕ, ◌*◌, ◌^◌, ◌<◌, ◌≤◌, ℤ, List, [], ◌∷◌, ◌++◌, All, length, map, nat_eq, take, sum_by, slice_get, slice_index_or, slice_set, Some}
 use Rattle.std.specs.List.{IsDistinct}
 use Rattle.std.specs.Str.{bytes_eq}
 use Rattle.sql_values.specs.declared.column.ColumnDef.{ColumnDef}
@@ -50,8 +50,9 @@ pub record IsWide (table : Table) : Type 0 where
   pub width : table.heap.columns ≡ length table.columns.items
   pub wide : All (λ words. length words ≡ table.heap.columns) table.heap.rows
 
--- so many words make so many rows of a table with indexes
+-- so many words make so many rows, whose number can be added to, of a table with indexes
 pub record HasWords (words rows : ℕ) (table : Table) : Type 0 where
+  pub few : rows ≤ 2 ^ 62
   pub is_wide : IsWide table
   pub filled : words ≡ rows * table.heap.columns
   pub indexes : AreIndexes table

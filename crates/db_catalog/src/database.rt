@@ -13,6 +13,7 @@ ghost use Rattle.db_catalog.specs.Refused.{room_fault, texts_fault};
 ghost use Rattle.db_catalog.specs.Kept.{MeanRows, SameRows, AppendsWords, HasWords, kept_words};
 ghost use Rattle.db_catalog.specs.Kept.{HasColumn, IndexesColumn, IsHeapOf};
 ghost use Rattle.heap_pages.specs.Rows.{cut_rows};
+ghost use Rattle.heap_pages.specs.Changes.{Becomes};
 ghost use Rattle.sql_values.specs.Dictionary.{with_texts};
 
 use crate::batch::Batch;
@@ -122,7 +123,6 @@ fn append_words(
     rows: u64,
 ) -> Result<(), HeapFault>
     requires there { number < length tables.old }
-    requires few { rows ≤ 2 ^ 62 }
     requires filled { IsSomeAnd (slice_get tables.old number) (HasWords (length words.items) rows) }
     ensures appended { OnOk result (AppendsWords number rows words.items tables.old tables.new) }
     ensures unchanged { OnErr result (tables.new ≡ tables.old) }
@@ -179,9 +179,7 @@ impl Database {
     pub fn create_table(&mut self, name: &[u8], columns: &[ColumnDef]) -> Result<u32, DbFault>
         requires some { 1 ≤ length columns.now }
         ensures number { IfOk result (λ number. number ≡ length self.old.tables) }
-        ensures created { OnOk result
-            (self.new ≡ with_table self.old (new_table name.now columns.now)) }
-        ensures unchanged { OnErr result (self.new ≡ self.old) }
+        ensures created { Becomes (with_table self.old (new_table name.now columns.now)) self.old self.new result }
         ensures refuses { Refuses (creation_fault self.old name.now columns.now) result }
     {
         self.check_creation(name, columns)?;
@@ -212,11 +210,10 @@ impl Database {
 
     /// Makes an index, of a name, of a column of a table. The checks, in order: the name, among those of all indexes, then
     /// the column, which is indexed already; that refusal has the column's name.
+    #[tactic(auto, using(crate::proofs::Tables::of_reads))]
     pub fn create_index(&mut self, name: &[u8], table: u32, column: u8) -> Result<(), DbFault>
-        requires there { table < length self.old.tables }
-        requires column { column < length (table_at self.old table).columns }
-        ensures created { OnOk result (self.new ≡ with_index self.old name.now table column) }
-        ensures unchanged { OnErr result (self.new ≡ self.old) }
+        requires { column < length (table_at self.old table).columns }
+        ensures created { Becomes (with_index self.old name.now table column) self.old self.new result }
         ensures refuses { Refuses (index_fault self.old name.now table column) result }
     {
         self.check_index(name, table, column)?;
@@ -231,9 +228,9 @@ impl Database {
     }
 
     // The checks of `create_index`.
+    #[tactic(auto, using(crate::proofs::Tables::of_reads))]
     fn check_index(&self, name: &[u8], table: u32, column: u8) -> Result<(), DbFault>
-        requires there { table < length self.now.tables }
-        requires column { column < length (table_at self.now table).columns }
+        requires { column < length (table_at self.now table).columns }
         ensures { Refuses (index_fault self.now name.now table column) result }
     {
         if self.index_names.code_of(name).is_some() {
@@ -247,11 +244,10 @@ impl Database {
     pub fn append_rows(&mut self, table: u32, rows: &[Value]) -> Result<(), DbFault>
         requires there { table < length self.old.tables }
         requires fill { FillRows (table_at self.old table).columns rows.now }
-        ensures appended { OnOk result (self.new
-            ≡ with_rows self.old table (rows_in (table_at self.old table).columns rows.now)) }
-        ensures unchanged { OnErr result (self.new ≡ self.old) }
-        ensures refuses { Refuses (append_fault self.old table
-            (rows_in (table_at self.old table).columns rows.now)) result }
+        ensures appended { let more = rows_in (table_at self.old table).columns rows.now in
+            Becomes (with_rows self.old table more) self.old self.new result }
+        ensures refuses { let more = rows_in (table_at self.old table).columns rows.now in
+            Refuses (append_fault self.old table more) result }
     {
         let batch = Batch::filled(self.alloc, self.columns(table), rows)?;
         self.append_batch(table, batch)
@@ -263,8 +259,7 @@ impl Database {
         requires there { table < length self.old.tables }
         requires columns { batch.columns ≡ (table_at self.old table).columns }
         requires whole { batch.row ≡ [] }
-        ensures appended { OnOk result (self.new ≡ with_rows self.old table batch.rows) }
-        ensures unchanged { OnErr result (self.new ≡ self.old) }
+        ensures appended { Becomes (with_rows self.old table batch.rows) self.old self.new result }
         ensures refuses { Refuses (append_fault self.old table batch.rows) result }
     {
         self.check_room(table, batch.rows)?;

@@ -3,7 +3,7 @@
 ghost use Rattle.std.specs.Prelude.{◌≡◌, ◌+◌, ◌*◌, ◌<◌, ◌≤◌, ◌^◌, length, filter, drop, Contains};
 ghost use Rattle.std.specs.Prelude.{IfOk, IfSome, OnOk, OnErr};
 ghost use Rattle.btree_index.specs.Entries.{HaveWords, IsOn, entries_left, first_row, is_within, next_charge};
-ghost use Rattle.work_ledger.specs.Account.{IsInBounds};
+ghost use Rattle.work_ledger.specs.Account.{IsInBounds, max_account};
 ghost use Rattle.work_ledger.specs.Charges.{page_charge, row_charge, fetch_charge, node_charge};
 ghost use Rattle.sql_values.specs.Limits.{max_columns, max_rows};
 ghost use Rattle.db_catalog.specs.Database.{table_at, IsRowAt, StandAsWords};
@@ -63,7 +63,7 @@ impl<'d> Metered<'d> {
 
     /// Allows as much work more as the budget says, counted from what is spent. What was left before is gone.
     pub fn grant(&mut self, budget: u128)
-        requires { self.old.account.spent + budget ≤ 2 ^ 126 }
+        requires { self.old.account.spent + budget ≤ max_account }
         ensures spent { self.new.account.spent ≡ self.old.account.spent }
         ensures limit { self.new.account.limit ≡ self.old.account.spent + budget }
         ensures database { self.new.database ≡ self.old.database }
@@ -73,7 +73,7 @@ impl<'d> Metered<'d> {
 
     /// Pays `n` units. A payment that doesn't fit spends what is left and is refused.
     pub fn pay(&mut self, n: u128) -> Result<(), Exhausted>
-        requires { n ≤ 2 ^ 126 }
+        requires { n ≤ max_account }
         ensures reads { Reads n self.old self.new result }
         ensures never_falls { self.old.account.spent ≤ self.new.account.spent }
         ensures bounds { IsInBounds self.new.account }
