@@ -1,7 +1,7 @@
 // Which candidate covers which point: a row of tests for each point of the frontier, in order, all in one list. At each
 // point all nodes are costed once.
 ghost use Rattle.std.specs.Prelude.{◌≡◌, ◌++◌, ◌+◌, ◌*◌, ◌^◌, ◌<◌, ◌≤◌, All, IfOk, OnOk, length, map, nat_le, slice_index};
-ghost use Rattle.sql_values.specs.Limits.{max_threshold};
+ghost use Rattle.sql_values.specs.Limits.{max_threshold, cost_bound};
 ghost use Rattle.cost_model.specs.Costing.{costing_tree, IsCosting};
 ghost use Rattle.anorexic.specs.Frontiers.{IsFrontierPoint, plan_at};
 ghost use Rattle.anorexic.specs.Gathered.{AreCandidates};
@@ -17,7 +17,7 @@ use std::alloc::{AllocError, Global};
 // What a plan that covers a point costs there at the most, a hundredfold.
 fn limit_of(threshold: u32, at: &FrontierPoint) -> u128
     requires threshold { threshold ≤ max_threshold }
-    requires cost { at.now.cost < 2 ^ 113 }
+    requires cost { at.now.cost < cost_bound }
     ensures { result ≡ (100 + threshold) * at.now.cost }
 {
     u128::from(100 + threshold) * at.cost

@@ -1,5 +1,6 @@
 // What all nodes cost at a point: what each costs by itself, and what its sides cost, which stand before it.
 ghost use Rattle.std.specs.Prelude.{◌≡◌, ◌<◌, ◌≤◌, ◌^◌, length, slice_index};
+ghost use Rattle.sql_values.specs.Limits.{cost_bound};
 ghost use Rattle.plan_tree.specs.Plans.{PlanTree};
 ghost use Rattle.plan_tree.specs.Enumerated.{IsSubPlan};
 ghost use Rattle.cost_model.specs.Costing.{costing_tree, IsCosting};
@@ -15,7 +16,7 @@ use plan_tree::Root;
 fn side_costs(node: &Node, costs: &[u128]) -> u128
     requires few { AreSideCostsFew node.now costs.now }
     ensures costs { result ≡ side_costs_of node.now costs.now }
-    ensures bound { result < 2 ^ 114 }
+    ensures bound { result < 2 * cost_bound }
 {
     match node.root {
         Root::Scan(_) | Root::IndexScan(..) => 0,

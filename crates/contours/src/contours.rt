@@ -1,6 +1,6 @@
 // The contours of a compiled bouquet.
 ghost use Rattle.std.specs.Prelude.{◌≡◌, ◌≤◌, ◌^◌, All, IfOk, length};
-ghost use Rattle.sql_values.specs.Limits.{max_threshold};
+ghost use Rattle.sql_values.specs.Limits.{max_threshold, max_contours, max_contour_cost};
 ghost use Rattle.ess_grid.specs.Points.{bottom_of};
 ghost use Rattle.cost_model.specs.Costing.{costing_tree};
 ghost use Rattle.cost_model.specs.Optimal.{optimal_cost};
@@ -28,7 +28,7 @@ fn contour(
     requires threshold { threshold ≤ max_threshold }
     requires outlook { IsOutlook (costing_tree costing.now) outlook.now }
     requires some { optimal_cost (costing_tree costing.now) (bottom_of costing.now.grid) ≤ cost }
-    requires few { cost ≤ 2 ^ 114 }
+    requires few { cost ≤ max_contour_cost }
     ensures cost { IfOk result (λ contour. contour.cost ≡ cost) }
     ensures reduced { IfOk result (IsReduced (costing_tree costing.now) threshold) }
 {
@@ -49,7 +49,7 @@ fn contours_by(
     requires outlook { IsOutlook (costing_tree costing.now) outlook.now }
     ensures compiled { IfOk result (λ contours.
         IsCompiled (bouquet_of (costing_tree costing.now) threshold contours.items)) }
-    ensures few { IfOk result (λ contours. length contours.items ≤ 128) }
+    ensures few { IfOk result (λ contours. length contours.items ≤ max_contours) }
     ensures each { IfOk result (λ contours.
         All (IsContour (costing_tree costing.now).block) contours.items) }
 {
@@ -78,7 +78,7 @@ pub(crate) fn contours(
         IsCompiled (bouquet_of (costing_tree costing.now) threshold contours.items)) }
     ensures sound { IfOk result (λ contours.
         IsSound (bouquet_of (costing_tree costing.now) threshold contours.items)) }
-    ensures few { IfOk result (λ contours. length contours.items ≤ 128) }
+    ensures few { IfOk result (λ contours. length contours.items ≤ max_contours) }
     ensures each { IfOk result (λ contours.
         All (IsContour (costing_tree costing.now).block) contours.items) }
 {

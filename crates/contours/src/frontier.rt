@@ -1,5 +1,6 @@
 // The points of a contour's frontier.
 ghost use Rattle.std.specs.Prelude.{◌≡◌, ◌++◌, ◌<◌, ◌≤◌, ◌^◌, [], ◌∷◌, All, IfOk, OnOk, Some, filter, length, slice_index_or};
+ghost use Rattle.sql_values.specs.Limits.{max_contour_cost};
 ghost use Rattle.ess_grid.specs.Points.{points_of, point_at};
 ghost use Rattle.cost_model.specs.Costing.{costing_tree};
 ghost use Rattle.cost_model.specs.Frontier.{is_on_frontier, frontier};
@@ -39,7 +40,7 @@ fn add_point(
     place: usize,
 ) -> Result<(), AllocError>
     requires outlook { IsOutlook (costing_tree costing.now) outlook.now }
-    requires cost { cost ≤ 2 ^ 114 }
+    requires cost { cost ≤ max_contour_cost }
     requires place { place < length (points_of costing.now.grid) }
     requires best { All (IsFrontierPoint (costing_tree costing.now)) found.old.items }
     ensures points { OnOk result (frontier_points found.new.items ≡ frontier_points found.old.items
@@ -63,7 +64,7 @@ pub(crate) fn frontier(
     cost: u128,
 ) -> Result<Vec<FrontierPoint>, AllocError>
     requires outlook { IsOutlook (costing_tree costing.now) outlook.now }
-    requires cost { cost ≤ 2 ^ 114 }
+    requires cost { cost ≤ max_contour_cost }
     ensures points { IfOk result (λ found.
         frontier_points found.items ≡ frontier (costing_tree costing.now) cost) }
     ensures best { IfOk result (λ found.

@@ -1,5 +1,6 @@
 // What is worked out once for all contours.
 ghost use Rattle.std.specs.Prelude.{◌≡◌, ◌+◌, ◌<◌, ◌≤◌, ◌^◌, [], IfOk, length, map, nat_lt, slice_index, slice_index_or, if◌then◌else◌};
+ghost use Rattle.sql_values.specs.Limits.{max_contour_cost};
 ghost use Rattle.ess_grid.specs.Points.{IsPoint, points_of, bottom_of, top_of};
 ghost use Rattle.ess_grid.specs.Order.{next_point};
 ghost use Rattle.cost_model.specs.Costing.{costing_tree};
@@ -128,7 +129,7 @@ impl<'c> Outlook<'c> {
     /// Whether the point at a place is on the frontier of a contour of this cost.
     pub(crate) fn is_on_frontier(&self, costing: &Costing<'_>, cost: u128, place: usize) -> bool
         requires outlook { IsOutlook (costing_tree costing.now) self.now }
-        requires cost { cost ≤ 2 ^ 114 }
+        requires cost { cost ≤ max_contour_cost }
         requires place { place < length (points_of costing.now.grid) }
         ensures { result ≡ is_on_frontier (costing_tree costing.now) cost
             (slice_index_or (points_of costing.now.grid) place []) }

@@ -1,5 +1,6 @@
 // The best plans of a block at all points of its grid.
 ghost use Rattle.std.specs.Prelude.{◌≡◌, ℕ, ◌^◌, ◌<◌, ◌≤◌, List, Some, IfOk, length};
+ghost use Rattle.sql_values.specs.Limits.{cost_bound};
 ghost use Rattle.ess_grid.specs.Points.{points_of, point_at};
 ghost use Rattle.query_block.specs.Blocks.{block_tree};
 ghost use Rattle.plan_tree.specs.Plans.{plan_tree};
@@ -114,7 +115,7 @@ impl BestPlans<'_> {
         requires { place < length (points_of self.now.grid) }
         ensures cost { (point : List ℕ) → point_at self.now.grid place ≡ Some point →
             result ≡ optimal_cost (costing_tree self.now) point }
-        ensures bound { result < 2 ^ 113 }
+        ensures bound { result < cost_bound }
     {
         let all = set_of_all(self.costing.block());
         self.row(place)[all as usize].cost

@@ -34,4 +34,4 @@ returns-clause-row c =
     let none = entry_row-all c.loop-i.i c.args.columns.now (drop c.loop-i.i (fields_of c.args.entry.now)) last in
     let whole : c.loop-i.batch.row ≡ entry_row c.args.columns.now (fields_of c.args.entry.now) =
     sym (append-nil c.loop-i.batch.row) ∙ ap (λ rest. c.loop-i.batch.row ++ rest) (sym none) ∙ c.loop-i.invariant.row in
-    row_ended c.args.batch.now c.loop-i.batch c.end_row.new.self _ c.in_ok-end_row.ensures.ended (c.loop-i.invariant.columns ∙ sym c.requires.columns) c.loop-i.invariant.rows whole c.requires.whole
+    row_ended c.args.batch.now c.loop-i.batch c.end_row.new.self _ c.in_ok-end_row.ensures.made (c.loop-i.invariant.columns ∙ sym c.requires.columns) c.loop-i.invariant.rows whole c.requires.whole

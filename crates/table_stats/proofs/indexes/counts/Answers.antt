@@ -6,8 +6,8 @@ use Rattle.db_catalog.specs.Database.{table_at}
 use Rattle.table_stats.proofs.Matches.{counted, uncounted}
 use Rattle.table_stats.proofs.indexes.counts.Goals as goal
 
-pub height-height-requires-clause-indexed : goal.height-height-requires-clause-indexed
-height-height-requires-clause-indexed c =
+pub height-height-requires : goal.height-height-requires
+height-height-requires c =
     All-contains (Contains (table_at c.args.db.now c.args.relation.now.table).indexed) c.args.relation.now.indexes c.args.column c.requires.fits.indexes c.requires.indexed
 
 pub returns-then-not-has_usable : goal.returns-then-not-has_usable

@@ -7,8 +7,8 @@ use Rattle.db_catalog.specs.Database.{table_at}
 use Rattle.table_stats.proofs.Matches.{matches-are}
 use Rattle.table_stats.proofs.indexes.matches.Goals as goal
 
-pub entries_within-entries-requires-clause-indexed : goal.entries_within-entries-requires-clause-indexed
-entries_within-entries-requires-clause-indexed c =
+pub entries_within-entries-requires : goal.entries_within-entries-requires
+entries_within-entries-requires c =
     All-contains (Contains (table_at c.args.db.now c.args.relation.now.table).indexed) c.args.relation.now.indexes c.args.column c.requires.fits.indexes c.requires.indexed
 
 pub returns : goal.returns
