@@ -1,12 +1,12 @@
 // What all nodes cost at a point: what each costs by itself, and what its sides cost, which stand before it.
-ghost use Rattle.std.specs.Prelude.{◌≡◌, ◌<◌, ◌≤◌, ◌^◌, length, slice_index};
+ghost use Rattle.std.specs.Prelude.{◌≡◌, ◌<◌, ◌^◌, length};
 ghost use Rattle.sql_values.specs.Limits.{cost_bound};
 ghost use Rattle.plan_tree.specs.Plans.{PlanTree};
 ghost use Rattle.plan_tree.specs.Enumerated.{IsSubPlan};
 ghost use Rattle.cost_model.specs.Costing.{costing_tree, IsCosting};
 ghost use Rattle.cost_model.specs.Costs.{cost_of};
-ghost use Rattle.cost_model.specs.Prices.{block_at, own_at};
-ghost use Rattle.anorexic.specs.Nodes.{node_at, side_costs_of, IsNumbered, AreNodes, AreNodeCosts, AreSideCostsFew};
+ghost use Rattle.cost_model.specs.Prices.{block_at};
+ghost use Rattle.anorexic.specs.Nodes.{side_costs_of, IsNumbered, AreNodes, AreNodeCosts, AreSideCostsFew};
 
 use crate::node::Node;
 use cost_model::Prices;
