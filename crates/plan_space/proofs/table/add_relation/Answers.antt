@@ -8,8 +8,8 @@ use Rattle.cost_model.proofs.Sets.{next-power, sets-below}
 use Rattle.plan_space.proofs.Filled.{add-least}
 use Rattle.plan_space.proofs.table.add_relation.Goals as goal
 
-pub entry_here-requires-clause-ready : goal.entry_here-requires-clause-ready
-entry_here-requires-clause-ready c =
+pub entry_here-requires-clause-filled : goal.entry_here-requires-clause-filled
+entry_here-requires-clause-filled c =
     let relation = c.args.relation in
     let rest = c.loop-rest.rest in
     let all = (block_at c.args.prices.now).relations in
