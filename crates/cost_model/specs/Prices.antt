@@ -77,7 +77,7 @@ pub record IsSplitOf (block : BlockTree) (left set : ℕ) : Type 0 where
   pub of_block : IsSetOf block set
 
 -- of so many pairs of rows of the two sides of a set the columns of an edge are taken to be equal
-pub record AreCandidates (at : Pricing) (edge left set candidates : ℕ) : Type 0 where
+pub record IsCandidateCount (at : Pricing) (edge left set candidates : ℕ) : Type 0 where
   pub pairs : let costing = costing_tree at.costing in
       candidates ≡ candidate_card costing edge at.point (set_card costing at.point left * set_card costing at.point (set - left))
   pub few : candidates ≤ max_product

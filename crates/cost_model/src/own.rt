@@ -7,7 +7,7 @@ ghost use Rattle.cost_model.specs.Costing.{costing_tree, IsCosting};
 ghost use Rattle.cost_model.specs.Costs.{index_stats};
 ghost use Rattle.plan_tree.specs.declared.roots.Root.TheVariants.{Scan, IndexScan, Nest, Hash, Merge, IndexLoop};
 ghost use Rattle.plan_tree.specs.Roots.{Stands};
-ghost use Rattle.cost_model.specs.Prices.{IsSetOf, IsSplitOf, IsPrice, AreCandidates, set_card, block_at};
+ghost use Rattle.cost_model.specs.Prices.{IsSetOf, IsSplitOf, IsPrice, IsCandidateCount, set_card, block_at};
 
 use crate::prices::Prices;
 use plan_tree::{Root, column_of_edge};
@@ -63,7 +63,7 @@ impl Prices<'_> {
     pub fn candidates(&self, edge: u8, left: u8, set: u8) -> u128
         requires edge { edge < length self.now.costing.block.edges }
         requires split { IsSplitOf (block_at self.now) left set }
-        ensures { AreCandidates self.now edge left set result }
+        ensures { IsCandidateCount self.now edge left set result }
     {
         self.candidates_among(edge, self.pairs(left, set))
     }
@@ -72,7 +72,7 @@ impl Prices<'_> {
     #[tactic(auto, unfolding(crate::specs::Prices::own_cost))]
     pub fn hash(&self, edge: u8, left: u8, set: u8, candidates: u128) -> u128
         requires split { IsSplitOf (block_at self.now) left set }
-        requires candidates { AreCandidates self.now edge left set candidates }
+        requires candidates { IsCandidateCount self.now edge left set candidates }
         ensures { IsPrice self.now (Hash edge left) set result }
     {
         charge::HASH_IN * self.card(set - left) + self.card(left) + candidates + self.card(set)
@@ -82,7 +82,7 @@ impl Prices<'_> {
     #[tactic(auto, unfolding(crate::specs::Prices::own_cost))]
     pub fn merge(&self, edge: u8, left: u8, set: u8, candidates: u128) -> u128
         requires split { IsSplitOf (block_at self.now) left set }
-        requires candidates { AreCandidates self.now edge left set candidates }
+        requires candidates { IsCandidateCount self.now edge left set candidates }
         ensures { IsPrice self.now (Merge edge left) set result }
     {
         let right = set - left;

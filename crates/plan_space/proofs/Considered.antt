@@ -11,7 +11,7 @@ use Rattle.plan_tree.specs.declared.roots.Root.{Root}
 use Rattle.plan_tree.specs.declared.roots.Root.TheVariants as root
 use Rattle.plan_space.specs.declared.entry.Entry.{Entry}
 use Rattle.plan_tree.specs.Roots.{Stands}
-use Rattle.plan_space.specs.Table.{entry_at, side_costs, offered, rank, NotLater, IsKept}
+use Rattle.plan_space.specs.Table.{entry_at, side_costs, offered, rank, NotLater, IsFirstOf}
 use Rattle.plan_space.specs.Search.{SearchShape, IsFound}
 use Rattle.cost_model.specs.Prices.{own_at, block_at}
 use Rattle.plan_tree.proofs.Bits.{same-relation}
@@ -31,7 +31,7 @@ module _ (sought : SearchShape) where
   pub nothing : (group : Group) (a : Entry) → ((node : Root) → group node → Stands (block_at sought.at) node sought.set → ⊥) → Considers sought group a a
   nothing group a none = record { kept = λ kept. kept; found = not-later-itself a; all = λ node in-group stands. absurd (none node in-group stands) }
 
-  pub chosen : (a b entry : Entry) (node : Root) → IsFound sought entry → entry.root ≡ node → IsKept a entry b → Considers sought (λ other. other ≡ node) a b
+  pub chosen : (a b entry : Entry) (node : Root) → IsFound sought entry → entry.root ≡ node → IsFirstOf a entry b → Considers sought (λ other. other ≡ node) a b
   chosen a b entry node offers same keeps = record {
     kept = λ kept. elim keeps.either [
       | inl one ↦ subst (IsFound sought) (sym one) kept

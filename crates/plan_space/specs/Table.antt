@@ -9,7 +9,7 @@ use Rattle.plan_tree.specs.declared.roots.Root.{Root}
 use Rattle.plan_tree.specs.declared.roots.Root.TheVariants as root
 use Rattle.plan_space.specs.declared.entry.Entry.{Entry}
 use Rattle.plan_tree.specs.Roots.{root_numbers, Stands}
-use Rattle.cost_model.specs.Prices.{OwnCost}
+use Rattle.cost_model.specs.Prices.{OwnCost, IsSetOf}
 
 -- the entry of a set
 abbrev pub entry_at : List Entry → (set : ℕ) → Entry
@@ -36,7 +36,7 @@ abbrev pub NotLater : Entry → Entry → Type 0
 NotLater entry other = is_gt (slice_cmp nat_cmp (rank entry) (rank other)) ≡ false
 
 -- of what was found and what is offered, the one that is kept is not later than either
-pub record IsKept (found offered kept : Entry) : Type 0 where
+pub record IsFirstOf (found offered kept : Entry) : Type 0 where
   pub either : (kept ≡ found) ⊎ (kept ≡ offered)
   pub to_found : NotLater kept found
   pub to_offered : NotLater kept offered
@@ -59,6 +59,12 @@ AreLeast own block table end = (set : ℕ) → 1 ≤ set → set < end → IsLea
 -- each of these nodes may be the outermost one of a plan of its set
 abbrev pub AreStanding : BlockTree → List Entry → (end : ℕ) → Type 0
 AreStanding block table end = (set : ℕ) → 1 ≤ set → set < end → Stands block (entry_at table set).root set
+
+-- a set of the block's relations that has an entry
+pub record HasEntry (block : BlockTree) (set : ℕ) : Type 0 where
+  pub some : 1 ≤ set
+  pub below : IsSetOf block set
+  pub small : set < 64
 
 -- the plan has in each node the entry of the node's set
 abbrev pub Follows : List Entry → PlanTree → (set : ℕ) → Type 0

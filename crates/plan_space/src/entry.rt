@@ -3,7 +3,7 @@ ghost use Rattle.std.specs.Prelude.{◌≡◌};
 ghost use Rattle.std.specs.Ordering.{nat_cmp};
 ghost use Rattle.std.specs.Cmp.Lexicographic.{slice_cmp};
 ghost use Rattle.plan_tree.specs.Roots.{root_numbers};
-ghost use Rattle.plan_space.specs.Table.{IsKept};
+ghost use Rattle.plan_space.specs.Table.{IsFirstOf};
 
 use plan_tree::Root;
 use std::cmp::Ordering;
@@ -39,7 +39,7 @@ fn root_order(root: Root, other: Root) -> Ordering
 // Of two plans of equal cost, the second where its outermost node is first in plan order.
 fn keep_first(found: Entry, offered: Entry) -> Entry
     requires { found.cost ≡ offered.cost }
-    ensures { IsKept found offered result }
+    ensures { IsFirstOf found offered result }
 {
     match root_order(found.root, offered.root) {
         Ordering::Greater => offered,
@@ -49,7 +49,7 @@ fn keep_first(found: Entry, offered: Entry) -> Entry
 
 /// Of the plan that was found and the plan that is offered, the cheaper one; of equally cheap ones the first in plan order.
 pub(crate) fn keep(found: Entry, offered: Entry) -> Entry
-    ensures { IsKept found offered result }
+    ensures { IsFirstOf found offered result }
 {
     match found.cost.cmp(&offered.cost) {
         Ordering::Less => found,
