@@ -8,7 +8,7 @@ ghost use Rattle.plan_space.specs.Steps.{Considers, IsByEdge, IsBeforeEdge, IsBy
 
 use crate::entry::Entry;
 use crate::steps::Search;
-use plan_tree::{Root, column_of_edge, is_crossed, is_indexed};
+use plan_tree::{Root, Subset, column_of_edge, is_crossed, is_indexed};
 
 impl Search<'_> {
     // A nested loop of the two sides of the set.
@@ -66,7 +66,8 @@ impl Search<'_> {
         requires edge { edge < length self.now.at.costing.block.edges }
         ensures { Considers self.now (IsByEdge edge left) start result }
     {
-        if !is_crossed(self.prices.block(), edge, left, self.set - left) {
+        let (left_side, right_side) = (Subset::new(left), Subset::new(self.set - left));
+        if !is_crossed(self.prices.block(), edge, left_side, right_side) {
             return start;
         }
         let found = self.by_pairs(left, edge, start);

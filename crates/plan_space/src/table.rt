@@ -11,7 +11,7 @@ use crate::alike::alike_place;
 use crate::entry::Entry;
 use crate::steps::{Search, entry_at};
 use cost_model::Prices;
-use plan_tree::{Root, set_of_one};
+use plan_tree::{Root, Subset};
 use sql_values::MAX_AXES;
 
 impl Search<'_> {
@@ -21,7 +21,7 @@ impl Search<'_> {
         ensures { IsLeastFound self.now result }
     {
         let _block = self.prices.block();
-        let alone = set_of_one(relation);
+        let alone = Subset::one(relation).number();
         let start = if self.set == alone {
             self.readings(relation)
         } else {
@@ -67,7 +67,7 @@ fn add_relation(
     ensures { AreLeast (own_at prices.now) (block_at prices.now) table.new (2 ^ (relation + 1)) }
 {
     let _block = prices.block();
-    let alone = set_of_one(relation);
+    let alone = Subset::one(relation).number();
     for rest in 0..alone {
         let set = alone + rest;
         table[set as usize] = entry_here(prices, table, inside, rows, set, relation);
