@@ -24,10 +24,12 @@ fn root_of(p: &Plan) -> Root
     match p {
         Plan::Scan(relation) => Root::Scan(*relation),
         Plan::IndexScan(relation, column) => Root::IndexScan(*relation, *column),
-        Plan::Nest(left, _) => Root::Nest(covers(left)),
-        Plan::Hash(edge, left, _) => Root::Hash(*edge, covers(left)),
-        Plan::Merge(edge, left, _) => Root::Merge(*edge, covers(left)),
-        Plan::IndexLoop(edge, left, relation) => Root::IndexLoop(*edge, covers(left), *relation),
+        Plan::Nest(left, _) => Root::Nest(covers(left).number()),
+        Plan::Hash(edge, left, _) => Root::Hash(*edge, covers(left).number()),
+        Plan::Merge(edge, left, _) => Root::Merge(*edge, covers(left).number()),
+        Plan::IndexLoop(edge, left, relation) => {
+            Root::IndexLoop(*edge, covers(left).number(), *relation)
+        }
     }
 }
 
@@ -39,7 +41,7 @@ fn root_cost(prices: &Prices<'_>, p: &Plan) -> u128
     ensures bound { result ≤ 2 ^ 108 }
 {
     let _block = prices.block();
-    prices.own(root_of(p), covers(p))
+    prices.own(root_of(p), covers(p).number())
 }
 
 // What all nodes of a plan cost.

@@ -8,7 +8,7 @@ ghost use Rattle.query_block.specs.Blocks.{block_tree};
 ghost use Rattle.cost_model.specs.Costing.{costing_tree, IsCosting};
 ghost use Rattle.cost_model.specs.Costs.{relation_stats, index_stats, candidate_card};
 ghost use Rattle.cost_model.specs.Few.{AreFew, IsFewIndex};
-ghost use Rattle.cost_model.specs.Prices.{IsSetOf, block_at, set_card, AreCards};
+ghost use Rattle.cost_model.specs.Prices.{IsSetOf, block_at, set_card};
 
 use crate::arithmetic::times_bits;
 use crate::costing::Costing;
@@ -74,17 +74,6 @@ fn fill_sorts(costing: &Costing<'_>, cards: &[u128; 64], sorts: &mut [u128; 64])
     }
 }
 
-// The card of a set is within the limit of combinations.
-fn card_at(costing: &Costing<'_>, cards: &[u128; 64], q: &Point, set: u8) -> u128
-    requires set { IsSetOf (block_tree costing.now.block) set }
-    requires cards { AreCards (record { costing = costing.now; point = q.now }) cards.now }
-    ensures card { result ≡ set_card (costing_tree costing.now) q.now set }
-    ensures few { result ≤ max_product }
-{
-    let _block = costing.block();
-    cards[set as usize]
-}
-
 impl<'a> Prices<'a> {
     /// The prices at this point of the costing's grid, kept in this room.
     pub fn new(costing: &'a Costing<'a>, q: &'a Point, room: &'a mut PriceRoom) -> Prices<'a>
@@ -126,7 +115,8 @@ impl<'a> Prices<'a> {
         ensures card { result ≡ set_card (costing_tree self.now.costing) self.now.point set }
         ensures few { result ≤ max_product }
     {
-        card_at(self.costing, &self.room.cards, self.q, set)
+        let _block = self.block();
+        self.room.cards[set as usize]
     }
 
     /// What sorting so many rows costs.

@@ -37,3 +37,8 @@ AreLeastRows costing rows =
     (place : ℕ) (point : List ℕ) → place < length rows → point_at costing.grid place ≡ Some point
     → AreLeast (own_at (record { costing = costing; point = point })) (block_tree costing.block)
     (slice_index_or rows place []) (2 ^ length (block_tree costing.block).relations)
+
+-- what is known of earlier points: which edges are inside which sets, and the tables of the first points
+pub record AreEarlier (costing : CostingShape) (inside : List (List Bool)) (rows : List (List Entry)) : Type 0 where
+  pub edges : AreInsideSets (block_tree costing.block) inside
+  pub tables : AreLeastRows costing rows

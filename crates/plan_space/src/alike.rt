@@ -4,18 +4,19 @@ ghost use Rattle.query_block.specs.Blocks.{block_tree};
 ghost use Rattle.cost_model.specs.Prices.{block_at};
 ghost use Rattle.plan_space.specs.Alike.{AreInside, AreInsideSets, IsAlikePlace};
 
-use cost_model::{Prices, is_inside};
+use cost_model::Prices;
+use plan_tree::Subset;
 use query_block::Block;
 use sql_values::MAX_AXES;
 
 // For each edge, whether it is inside a set.
-fn edges_inside(block: &Block, set: u8) -> [bool; MAX_AXES]
+fn edges_inside(block: &Block, set: Subset) -> [bool; MAX_AXES]
     ensures { AreInside (block_tree block.now) set result }
 {
     let edges = block.edges();
     let mut inside = [false; MAX_AXES];
     for edge in 0..edges.len() {
-        inside[edge] = is_inside(set, &edges[edge]);
+        inside[edge] = set.has_both(&edges[edge]);
     }
     inside
 }
@@ -26,7 +27,7 @@ pub(crate) fn edges_inside_sets(block: &Block) -> [[bool; MAX_AXES]; 64]
 {
     let mut sets = [[false; MAX_AXES]; 64];
     for set in 0..64 {
-        sets[set] = edges_inside(block, set as u8);
+        sets[set] = edges_inside(block, Subset::new(set as u8));
     }
     sets
 }

@@ -9,7 +9,7 @@ ghost use Rattle.cost_model.specs.Best.{IsBest};
 ghost use Rattle.cost_model.specs.Optimal.{optimal_cost};
 ghost use Rattle.plan_space.specs.Table.{AreLeast, AreStanding};
 ghost use Rattle.cost_model.specs.Prices.{own_at};
-ghost use Rattle.plan_space.specs.Alike.{AreInsideSets, AreLeastRows};
+ghost use Rattle.plan_space.specs.Alike.{AreEarlier, AreLeastRows};
 
 use crate::alike::edges_inside_sets;
 use crate::entry::Entry;
@@ -56,8 +56,7 @@ fn row_of(
     rows: &[[Entry; 64]],
     place: usize,
 ) -> [Entry; 64]
-    requires inside { AreInsideSets (block_tree costing.now.block) inside.now }
-    requires rows { AreLeastRows costing.now rows.now }
+    requires earlier { AreEarlier costing.now inside.now rows.now }
     requires place { place < length (points_of costing.now.grid) }
     ensures { (point : List ℕ) → point_at costing.now.grid place ≡ Some point →
         AreLeast (own_at (record { costing = costing.now; point = point }))

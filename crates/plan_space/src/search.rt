@@ -6,7 +6,7 @@ ghost use Rattle.plan_tree.specs.Plans.{plan_tree, covers_of};
 ghost use Rattle.cost_model.specs.Costing.{costing_tree};
 ghost use Rattle.cost_model.specs.Best.{IsBest};
 ghost use Rattle.cost_model.specs.Optimal.{optimal_cost};
-ghost use Rattle.plan_space.specs.Table.{Follows, AreStanding};
+ghost use Rattle.plan_space.specs.Table.{Follows, AreStanding, HasEntry};
 
 use crate::alike::edges_inside_sets;
 use crate::entry::Entry;
@@ -28,9 +28,7 @@ fn boxed(
 ) -> Result<Box<Plan>, AllocError>
     requires stands { AreStanding (block_tree block.now) table.now
         (2 ^ length (block_tree block.now).relations) }
-    requires some { 1 ≤ set }
-    requires below { set < 2 ^ length (block_tree block.now).relations }
-    requires small { set < 64 }
+    requires set { HasEntry (block_tree block.now) set }
     ensures follows { IfOk result (λ p. Follows table.now (plan_tree p.value) set) }
     ensures covers { IfOk result (λ p. covers_of (plan_tree p.value) ≡ set) }
 {
@@ -48,9 +46,7 @@ pub(crate) fn rebuilt(
 ) -> Result<Plan, AllocError>
     requires stands { AreStanding (block_tree block.now) table.now
         (2 ^ length (block_tree block.now).relations) }
-    requires some { 1 ≤ set }
-    requires below { set < 2 ^ length (block_tree block.now).relations }
-    requires small { set < 64 }
+    requires set { HasEntry (block_tree block.now) set }
     ensures follows { IfOk result (λ p. Follows table.now (plan_tree p) set) }
     ensures covers { IfOk result (λ p. covers_of (plan_tree p) ≡ set) }
 {

@@ -13,7 +13,7 @@ rebuilt-returns-in_ok-boxed-in-Nest-clause-covers t c =
     let right = c.in_ok-boxed-in-Nest.field-0 in
     let seen : plan_tree (plan.Nest left right) ≡ Nest (plan_tree left.value) (plan_tree right.value) = search (rules, the_lemmas) in
     ap covers_of seen
-    ∙ covers-nest block c.args.table.now c.requires.stands c.args.set c.requires.some c.requires.below c.in-Nest.left _ _ c.in-Nest.is
+    ∙ covers-nest block c.args.table.now c.requires.stands c.args.set c.requires.set.some c.requires.set.below c.in-Nest.left _ _ c.in-Nest.is
     c.in_ok-left-in-Nest.ensures.covers c.in_ok-boxed-in-Nest.ensures.covers
 
 pub rebuilt-returns-in_ok-boxed-in-Hash-clause-covers : goal.rebuilt-returns-in_ok-boxed-in-Hash-clause-covers
@@ -24,7 +24,7 @@ rebuilt-returns-in_ok-boxed-in-Hash-clause-covers t c =
     let right = c.in_ok-boxed-in-Hash.field-0 in
     let seen : plan_tree (plan.Hash edge left right) ≡ Hash edge (plan_tree left.value) (plan_tree right.value) = search (rules, the_lemmas) in
     ap covers_of seen
-    ∙ covers-hash block c.args.table.now c.requires.stands c.args.set c.requires.some c.requires.below edge c.in-Hash.left _ _ c.in-Hash.is
+    ∙ covers-hash block c.args.table.now c.requires.stands c.args.set c.requires.set.some c.requires.set.below edge c.in-Hash.left _ _ c.in-Hash.is
     c.in_ok-left-in-Hash.ensures.covers c.in_ok-boxed-in-Hash.ensures.covers
 
 pub rebuilt-returns-in_ok-boxed-in-Merge-clause-covers : goal.rebuilt-returns-in_ok-boxed-in-Merge-clause-covers
@@ -35,7 +35,7 @@ rebuilt-returns-in_ok-boxed-in-Merge-clause-covers t c =
     let right = c.in_ok-boxed-in-Merge.field-0 in
     let seen : plan_tree (plan.Merge edge left right) ≡ Merge edge (plan_tree left.value) (plan_tree right.value) = search (rules, the_lemmas) in
     ap covers_of seen
-    ∙ covers-merge block c.args.table.now c.requires.stands c.args.set c.requires.some c.requires.below edge c.in-Merge.left _ _ c.in-Merge.is
+    ∙ covers-merge block c.args.table.now c.requires.stands c.args.set c.requires.set.some c.requires.set.below edge c.in-Merge.left _ _ c.in-Merge.is
     c.in_ok-left-in-Merge.ensures.covers c.in_ok-boxed-in-Merge.ensures.covers
 
 pub rebuilt-returns-in_ok-left-in-IndexLoop-clause-covers : goal.rebuilt-returns-in_ok-left-in-IndexLoop-clause-covers
@@ -46,5 +46,5 @@ rebuilt-returns-in_ok-left-in-IndexLoop-clause-covers t c =
     let left = c.in_ok-left-in-IndexLoop.left in
     let seen : plan_tree (plan.IndexLoop edge left relation) ≡ IndexLoop edge (plan_tree left.value) relation = search (rules, the_lemmas) in
     ap covers_of seen
-    ∙ covers-loop block c.args.table.now c.requires.stands c.args.set c.requires.some c.requires.below edge c.in-IndexLoop.left relation _ c.in-IndexLoop.is
+    ∙ covers-loop block c.args.table.now c.requires.stands c.args.set c.requires.set.some c.requires.set.below edge c.in-IndexLoop.left relation _ c.in-IndexLoop.is
     c.in_ok-left-in-IndexLoop.ensures.covers

@@ -2,12 +2,12 @@ use Rattle.std.proofs.Common.{◌≡◌, length}
 use Rattle.plan_tree.specs.declared.roots.Root.TheVariants as root
 use Rattle.plan_space.specs.Steps.{IsByLeft, IsBeforeEdge}
 use Rattle.plan_space.proofs.Considered.{and-then, of-left}
-use Rattle.plan_space.proofs.joins.by_left.Goals as goal
+use Rattle.plan_space.proofs.steps.Search.by_left.Goals as goal
 
 pub returns : goal.returns
 returns c =
-    let at = c.args.prices.now in
+    let sought = c.args.self.now in
     let left = c.args.left in
-    and-then at c.args.table.now c.args.set (λ node. node ≡ root.Nest left) (IsBeforeEdge (length at.costing.block.edges) left) (IsByLeft left)
+    and-then sought (λ node. node ≡ root.Nest left) (IsBeforeEdge (length sought.at.costing.block.edges) left) (IsByLeft left)
     c.args.start c.by_nest-found.result c.by_edges.result c.by_nest-found.ensures c.by_edges.ensures
-    (of-left at c.args.table.now c.args.set left)
+    (of-left sought left)
