@@ -11,7 +11,7 @@ ghost use Rattle.plan_space.specs.Table.{AreLeast, AreStanding};
 ghost use Rattle.cost_model.specs.Prices.{own_at};
 ghost use Rattle.plan_space.specs.Alike.{AreEarlier, AreLeastRows};
 
-use crate::alike::edges_inside_sets;
+use crate::alike::axes_inside_sets;
 use crate::entry::Entry;
 use crate::search::rebuilt;
 use crate::sets::set_of_all;
@@ -72,7 +72,7 @@ fn rows_of(alloc: Global, costing: &Costing<'_>) -> Result<Vec<[Entry; 64]>, All
     ensures rows { IfOk result (λ rows. AreLeastRows costing.now rows.items) }
     ensures all { IfOk result (λ rows. length rows.items ≡ length (points_of costing.now.grid)) }
 {
-    let inside = edges_inside_sets(costing.block());
+    let inside = axes_inside_sets(costing.block());
     let points = costing.grid().points();
     let mut room = PriceRoom::new();
     let mut rows = Vec::with_capacity(alloc, points)?;
@@ -84,7 +84,7 @@ fn rows_of(alloc: Global, costing: &Costing<'_>) -> Result<Vec<[Entry; 64]>, All
 }
 
 /// Finds the best plans at all points at once: each set of relations is searched once for each combination of the levels of
-/// the edges inside it. An error is want of memory.
+/// the axes inside it. An error is want of memory.
 pub fn best_at_all_points<'c>(
     alloc: Global,
     costing: &'c Costing<'c>,

@@ -8,7 +8,7 @@ ghost use Rattle.cost_model.specs.Best.{IsBest};
 ghost use Rattle.cost_model.specs.Optimal.{optimal_cost};
 ghost use Rattle.plan_space.specs.Table.{Follows, AreStanding, HasEntry};
 
-use crate::alike::edges_inside_sets;
+use crate::alike::axes_inside_sets;
 use crate::entry::Entry;
 use crate::sets::set_of_all;
 use crate::table::filled;
@@ -83,7 +83,7 @@ fn best_at(alloc: Global, prices: &Prices<'_>) -> Result<(Plan, u128), AllocErro
         found.1 ≡ optimal_cost (costing_tree prices.now.costing) prices.now.point) }
 {
     let block = prices.block();
-    let table = filled(prices, &edges_inside_sets(block), &[]);
+    let table = filled(prices, &axes_inside_sets(block), &[]);
     let all = set_of_all(block);
     let p = rebuilt(alloc, block, &table, all)?;
     Ok((p, table[all as usize].cost))

@@ -74,7 +74,7 @@ fn add_relation(
     }
 }
 
-/// The entries of all sets of the block's relations, where these are the edges inside the sets and the entries at the first
+/// The entries of all sets of the block's relations, where these are the axes inside the sets and the entries at the first
 /// points of the grid.
 pub(crate) fn filled(
     prices: &Prices<'_>,

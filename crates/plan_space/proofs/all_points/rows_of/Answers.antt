@@ -6,7 +6,7 @@ use Rattle.plan_space.proofs.all_points.rows_of.Goals as goal
 
 pub row_of-row-requires-clause-earlier : goal.row_of-row-requires-clause-earlier
 row_of-row-requires-clause-earlier c = record {
-  edges = subst (λ block. AreInsideSets (block_tree block) c.edges_inside_sets-inside.result) c.block.ensures.block c.edges_inside_sets-inside.ensures;
+  edges = subst (λ block. AreInsideSets (block_tree block) c.axes_inside_sets-inside.result) c.block.ensures.block c.axes_inside_sets-inside.ensures;
   tables = subst (AreLeastRows c.args.costing.now) (sym c.as_slice.ensures.value) c.loop-place.invariant.0;
 }
 
