@@ -66,5 +66,5 @@ returns c =
     let all : take c.loop-entry.entry-index (map row entries) ≡ map row entries = take_all c.loop-entry.entry-index (map row entries) (simp length-map c.loop-entry-test.false) in
     c.loop-entry.invariant
     ∙ ap (count_by test) (all ∙ ap (map row) are)
-    ∙ found-all database relation c.requires.over.fits c.args.column range c.requires.usable (finds c.requires.over.relation.filter)
+    ∙ found-all database relation c.requires.over.fits c.args.column range c.requires.usable (finds c.requires.over.ready.relation.filter)
     c.entries_within-entry-items.ensures.words c.entries_within-entry-items.ensures.rows
