@@ -10,7 +10,7 @@ ghost use Rattle.anorexic.specs.Nodes.{side_costs_of, IsNumbered, AreNodes, AreN
 
 use crate::node::Node;
 use cost_model::Prices;
-use plan_tree::Root;
+use plan_tree::{Root, Subset};
 
 // What the sides of a node cost.
 fn side_costs(node: &Node, costs: &[u128]) -> u128
@@ -36,7 +36,7 @@ fn node_cost(prices: &Prices<'_>, nodes: &[Node], costs: &[u128], number: usize)
         result ≡ cost_of (costing_tree prices.now.costing) p prices.now.point }
 {
     let node = nodes[number];
-    prices.own(node.root, node.set) + side_costs(&node, costs)
+    prices.own(node.root, Subset::new(node.set)) + side_costs(&node, costs)
 }
 
 /// Works out what all nodes cost at the point of the prices.

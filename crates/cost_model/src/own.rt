@@ -10,24 +10,24 @@ ghost use Rattle.plan_tree.specs.Roots.{Stands};
 ghost use Rattle.cost_model.specs.Prices.{IsSetOf, IsSplitOf, IsPrice, IsCandidateCount, set_card, block_at};
 
 use crate::prices::Prices;
-use plan_tree::{Root, column_of_edge};
+use plan_tree::{Root, Subset, column_of_edge};
 use work_ledger::charge;
 
 impl Prices<'_> {
     // So many pairs of rows have the two sides of a set.
-    fn pairs(&self, left: u8, set: u8) -> u128
+    fn pairs(&self, left: Subset, set: Subset) -> u128
         requires { IsSplitOf (block_at self.now) left set }
         ensures pairs { result ≡ set_card (costing_tree self.now.costing) self.now.point left
             * set_card (costing_tree self.now.costing) self.now.point (set - left) }
         ensures few { result ≤ max_product }
     {
         let _block = self.block();
-        self.card(left) * self.card(set - left)
+        self.card(left) * self.card(set.without(left))
     }
 
     /// A scan of the one relation of a set.
     #[tactic(auto, unfolding(crate::specs::Prices::own_cost))]
-    pub fn scan(&self, relation: u8, set: u8) -> u128
+    pub fn scan(&self, relation: u8, set: Subset) -> u128
         requires relation { relation < length self.now.costing.block.relations }
         requires set { IsSetOf (block_at self.now) set }
         ensures { IsPrice self.now (Scan relation) set result }
@@ -39,7 +39,7 @@ impl Prices<'_> {
 
     /// A scan by the index on a column.
     #[tactic(auto, unfolding(crate::specs::Prices::own_cost))]
-    pub fn index_scan(&self, relation: u8, column: u8, set: u8) -> u128
+    pub fn index_scan(&self, relation: u8, column: u8, set: Subset) -> u128
         requires relation { relation < length self.now.costing.block.relations }
         requires set { IsSetOf (block_at self.now) set }
         ensures { IsPrice self.now (IndexScan relation column) set result }
@@ -52,15 +52,15 @@ impl Prices<'_> {
 
     /// A nested loop.
     #[tactic(auto, unfolding(crate::specs::Prices::own_cost))]
-    pub fn nest(&self, left: u8, set: u8) -> u128
+    pub fn nest(&self, left: Subset, set: Subset) -> u128
         requires { IsSplitOf (block_at self.now) left set }
         ensures { IsPrice self.now (Nest left) set result }
     {
-        self.card(set - left) + self.pairs(left, set) + self.card(set)
+        self.card(set.without(left)) + self.pairs(left, set) + self.card(set)
     }
 
     /// How many pairs of rows of the two sides are taken to be equal in the columns of an edge.
-    pub fn candidates(&self, edge: u8, left: u8, set: u8) -> u128
+    pub fn candidates(&self, edge: u8, left: Subset, set: Subset) -> u128
         requires edge { edge < length self.now.costing.block.edges }
         requires split { IsSplitOf (block_at self.now) left set }
         ensures { IsCandidateCount self.now edge left set result }
@@ -70,29 +70,32 @@ impl Prices<'_> {
 
     /// A hash join that has so many candidates.
     #[tactic(auto, unfolding(crate::specs::Prices::own_cost))]
-    pub fn hash(&self, edge: u8, left: u8, set: u8, candidates: u128) -> u128
+    pub fn hash(&self, edge: u8, left: Subset, set: Subset, candidates: u128) -> u128
         requires split { IsSplitOf (block_at self.now) left set }
         requires candidates { IsCandidateCount self.now edge left set candidates }
         ensures { IsPrice self.now (Hash edge left) set result }
     {
-        charge::HASH_IN * self.card(set - left) + self.card(left) + candidates + self.card(set)
+        charge::HASH_IN * self.card(set.without(left))
+            + self.card(left)
+            + candidates
+            + self.card(set)
     }
 
     /// A merge join that has so many candidates.
     #[tactic(auto, unfolding(crate::specs::Prices::own_cost))]
-    pub fn merge(&self, edge: u8, left: u8, set: u8, candidates: u128) -> u128
+    pub fn merge(&self, edge: u8, left: Subset, set: Subset, candidates: u128) -> u128
         requires split { IsSplitOf (block_at self.now) left set }
         requires candidates { IsCandidateCount self.now edge left set candidates }
         ensures { IsPrice self.now (Merge edge left) set result }
     {
-        let right = set - left;
+        let right = set.without(left);
         let sorts = self.sort(left) + self.sort(right);
         sorts + self.card(left) + self.card(right) + candidates + self.card(set)
     }
 
     /// An index loop, by the index of the relation on the right on its column of the edge.
     #[tactic(auto, unfolding(crate::specs::Prices::own_cost))]
-    pub fn index_loop(&self, edge: u8, left: u8, relation: u8, set: u8) -> u128
+    pub fn index_loop(&self, edge: u8, left: Subset, relation: u8, set: Subset) -> u128
         requires edge { edge < length self.now.costing.block.edges }
         requires split { IsSplitOf (block_at self.now) left set }
         requires relation { relation < length self.now.costing.block.relations }
@@ -107,9 +110,9 @@ impl Prices<'_> {
         descents + (charge::ENTRY + charge::FETCH + charge::PAIR) * candidates + self.card(set)
     }
 
-    /// What a node of any kind costs by itself over a set of relations, bit r for relation r: without what the plans of
+    /// What a node of any kind costs by itself over a set of relations: without what the plans of
     /// its sides cost. So the cost of a plan is the sum of this over its nodes.
-    pub fn own(&self, root: Root, set: u8) -> u128
+    pub fn own(&self, root: Root, set: Subset) -> u128
         requires stands { Stands (block_at self.now) root set }
         requires set { IsSetOf (block_at self.now) set }
         ensures { IsPrice self.now root set result }
@@ -117,16 +120,20 @@ impl Prices<'_> {
         match root {
             Root::Scan(relation) => self.scan(relation, set),
             Root::IndexScan(relation, column) => self.index_scan(relation, column, set),
-            Root::Nest(left) => self.nest(left, set),
+            Root::Nest(left) => self.nest(Subset::new(left), set),
             Root::Hash(edge, left) => {
+                let left = Subset::new(left);
                 let candidates = self.candidates(edge, left, set);
                 self.hash(edge, left, set, candidates)
             }
             Root::Merge(edge, left) => {
+                let left = Subset::new(left);
                 let candidates = self.candidates(edge, left, set);
                 self.merge(edge, left, set, candidates)
             }
-            Root::IndexLoop(edge, left, relation) => self.index_loop(edge, left, relation, set),
+            Root::IndexLoop(edge, left, relation) => {
+                self.index_loop(edge, Subset::new(left), relation, set)
+            }
         }
     }
 }

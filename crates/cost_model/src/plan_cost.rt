@@ -41,7 +41,7 @@ fn root_cost(prices: &Prices<'_>, p: &Plan) -> u128
     ensures bound { result ≤ 2 ^ 108 }
 {
     let _block = prices.block();
-    prices.own(root_of(p), covers(p).number())
+    prices.own(root_of(p), covers(p))
 }
 
 // What all nodes of a plan cost.

@@ -16,6 +16,7 @@ use crate::set::set_count;
 use crate::set_cards::fill_cards;
 use crate::stats::{IndexStats, RelationStats};
 use ess_grid::{Grid, Point};
+use plan_tree::Subset;
 use query_block::Block;
 use std::marker::Model;
 
@@ -110,17 +111,17 @@ impl<'a> Prices<'a> {
     }
 
     /// The card of a set.
-    pub(crate) fn card(&self, set: u8) -> u128
+    pub(crate) fn card(&self, set: Subset) -> u128
         requires { IsSetOf (block_at self.now) set }
         ensures card { result ≡ set_card (costing_tree self.now.costing) self.now.point set }
         ensures few { result ≤ max_product }
     {
         let _block = self.block();
-        self.room.cards[set as usize]
+        self.room.cards[set.number() as usize]
     }
 
     /// What sorting so many rows costs.
-    pub(crate) fn sort(&self, set: u8) -> u128
+    pub(crate) fn sort(&self, set: Subset) -> u128
         requires { IsSetOf (block_at self.now) set }
         ensures product { let card = set_card (costing_tree self.now.costing) self.now.point set in
             result ≡ card * bits card }
@@ -128,7 +129,7 @@ impl<'a> Prices<'a> {
     {
         let _block = self.block();
         let _card = self.card(set);
-        self.room.sorts[set as usize]
+        self.room.sorts[set.number() as usize]
     }
 
     /// How many of so many pairs of rows are taken to be equal in the columns of an edge.

@@ -41,13 +41,17 @@ fn kept_level(inside: bool, level: u8) -> u8
 
 /// The place of the first of the points that are alike for a set: it has the levels of the axes inside the set, and level 0
 /// on all others.
-pub(crate) fn alike_place(prices: &Prices<'_>, inside: &[[bool; MAX_AXES]; 64], set: u8) -> usize
+pub(crate) fn alike_place(
+    prices: &Prices<'_>,
+    inside: &[[bool; MAX_AXES]; 64],
+    set: Subset,
+) -> usize
     requires set { set < 64 }
     requires inside { AreInsideSets (block_at prices.now) inside.now }
     ensures { IsAlikePlace prices.now set result }
 {
     let _block = prices.block();
-    let kept = &inside[set as usize];
+    let kept = &inside[set.number() as usize];
     let count = prices.grid().levels();
     let levels = prices.point().levels();
     let mut place = 0;

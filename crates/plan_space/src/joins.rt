@@ -12,28 +12,29 @@ use plan_tree::{Root, Subset, column_of_edge, is_crossed, is_indexed};
 
 impl Search<'_> {
     // A nested loop of the two sides of the set.
-    fn by_nest(&self, left: u8, start: Entry) -> Entry
+    fn by_nest(&self, left: Subset, start: Entry) -> Entry
         requires { IsSplit left self.now.set }
         ensures { Considers self.now (λ node. node ≡ Nest left) start result }
     {
         let own = self.prices.nest(left, self.set);
-        self.consider(Root::Nest(left), own, start)
+        self.consider(Root::Nest(left.number()), own, start)
     }
 
     // A hash join and a merge join of the two sides by an edge.
-    fn by_pairs(&self, left: u8, edge: u8, start: Entry) -> Entry
+    fn by_pairs(&self, left: Subset, edge: u8, start: Entry) -> Entry
         requires { JoinsSides self.now edge left }
         ensures { Considers self.now (IsPairBy edge left) start result }
     {
         let candidates = self.prices.candidates(edge, left, self.set);
+        let side = left.number();
         let own = self.prices.hash(edge, left, self.set, candidates);
-        let found = self.consider(Root::Hash(edge, left), own, start);
+        let found = self.consider(Root::Hash(edge, side), own, start);
         let own = self.prices.merge(edge, left, self.set, candidates);
-        self.consider(Root::Merge(edge, left), own, found)
+        self.consider(Root::Merge(edge, side), own, found)
     }
 
     // The index loop by an edge whose right side is this one relation.
-    fn by_relation(&self, left: u8, edge: u8, relation: u8, start: Entry) -> Entry
+    fn by_relation(&self, left: Subset, edge: u8, relation: u8, start: Entry) -> Entry
         requires sides { JoinsSides self.now edge left }
         requires relation { self.now.set - left ≡ 2 ^ relation }
         ensures { Considers self.now (IsLookUpBy edge left) start result }
@@ -44,15 +45,15 @@ impl Search<'_> {
             return start;
         }
         let own = self.prices.index_loop(edge, left, relation, self.set);
-        self.consider(Root::IndexLoop(edge, left, relation), own, start)
+        self.consider(Root::IndexLoop(edge, left.number(), relation), own, start)
     }
 
     // The index loop by an edge, where the right side of the set is one relation.
-    fn by_look_up(&self, left: u8, edge: u8, start: Entry) -> Entry
+    fn by_look_up(&self, left: Subset, edge: u8, start: Entry) -> Entry
         requires { JoinsSides self.now edge left }
         ensures { Considers self.now (IsLookUpBy edge left) start result }
     {
-        let right = self.set - left;
+        let right = self.set.without(left).number();
         let relation = right.trailing_zeros() as u8;
         if right != 1 << relation {
             return start;
@@ -61,13 +62,12 @@ impl Search<'_> {
     }
 
     // The joins of the two sides of the set by an edge.
-    fn by_edge(&self, left: u8, edge: u8, start: Entry) -> Entry
+    fn by_edge(&self, left: Subset, edge: u8, start: Entry) -> Entry
         requires split { IsSplit left self.now.set }
         requires edge { edge < length self.now.at.costing.block.edges }
         ensures { Considers self.now (IsByEdge edge left) start result }
     {
-        let (left_side, right_side) = (Subset::new(left), Subset::new(self.set - left));
-        if !is_crossed(self.prices.block(), edge, left_side, right_side) {
+        if !is_crossed(self.prices.block(), edge, left, self.set.without(left)) {
             return start;
         }
         let found = self.by_pairs(left, edge, start);
@@ -75,7 +75,7 @@ impl Search<'_> {
     }
 
     // The joins of the two sides of the set by all edges.
-    fn by_edges(&self, left: u8, start: Entry) -> Entry
+    fn by_edges(&self, left: Subset, start: Entry) -> Entry
         requires { IsSplit left self.now.set }
         ensures { let edges = length self.now.at.costing.block.edges in
             Considers self.now (IsBeforeEdge edges left) start result }
@@ -87,16 +87,17 @@ impl Search<'_> {
         found
     }
 
-    // All joins of the set with this left side, where it is one. They aren't looked at where their sides alone cost more than
-    // what was found.
+    // All joins of the set whose left side has this number, where there is one. They aren't looked at where their sides alone
+    // cost more than what was found.
     fn by_left(&self, left: u8, start: Entry) -> Entry
         requires some { 1 ≤ left }
         requires less { left < self.now.set }
         ensures { Considers self.now (IsByLeft left) start result }
     {
-        if left & (self.set - left) != 0 {
+        if left & (self.set.number() - left) != 0 {
             return start;
         }
+        let left = Subset::new(left);
         if self.least_sides(left) > start.cost {
             return start;
         }
@@ -109,7 +110,7 @@ impl Search<'_> {
         ensures { Considers self.now (IsBeforeLeft self.now.set) start result }
     {
         let mut found = start;
-        for left in 1..self.set {
+        for left in 1..self.set.number() {
             found = self.by_left(left, found);
         }
         found

@@ -9,7 +9,7 @@ ghost use Rattle.plan_space.specs.Steps.{Considers, IsByLeft};
 
 use crate::entry::{Entry, keep};
 use cost_model::Prices;
-use plan_tree::Root;
+use plan_tree::{Root, Subset};
 use std::marker::Model;
 
 /// The search for the entry of a set of relations: the prices of nodes, the table, in which the entries of all smaller sets
@@ -18,7 +18,7 @@ use std::marker::Model;
 pub(crate) struct Search<'s> {
     pub(crate) prices: &'s Prices<'s>,
     pub(crate) table: &'s [Entry; 64],
-    pub(crate) set: u8,
+    pub(crate) set: Subset,
 }
 
 impl<'s> Model for Search<'s> {
@@ -37,16 +37,16 @@ impl<'s> Model for Search<'s> {
 }
 
 /// The entry of a set.
-pub(crate) fn entry_at(table: &[Entry; 64], set: u8) -> Entry
+pub(crate) fn entry_at(table: &[Entry; 64], set: Subset) -> Entry
     requires { set < 64 }
     ensures { result ≡ entry_at table.now set }
 {
-    table[set as usize]
+    table[set.number() as usize]
 }
 
 impl<'s> Search<'s> {
     /// The search for the entry of this set, in this table.
-    pub(crate) fn new(prices: &'s Prices<'s>, table: &'s [Entry; 64], set: u8) -> Search<'s>
+    pub(crate) fn new(prices: &'s Prices<'s>, table: &'s [Entry; 64], set: Subset) -> Search<'s>
         requires { IsFilledBelow (record { at = prices.now; table = table.now; set = set }) }
         ensures { result ≡ record { at = prices.now; table = table.now; set = set } }
     {
@@ -54,7 +54,7 @@ impl<'s> Search<'s> {
     }
 
     // What the plan of a side of the set costs.
-    fn side_cost(&self, side: u8) -> u128
+    fn side_cost(&self, side: Subset) -> u128
         requires some { 1 ≤ side }
         requires less { side < self.now.set }
         ensures cost { result ≡ (entry_at self.now.table side).cost }
@@ -73,24 +73,25 @@ impl<'s> Search<'s> {
         match root {
             Root::Scan(_) | Root::IndexScan(_, _) => 0,
             Root::Nest(left) | Root::Hash(_, left) | Root::Merge(_, left) => {
-                self.side_cost(left) + self.side_cost(self.set - left)
+                let left = Subset::new(left);
+                self.side_cost(left) + self.side_cost(self.set.without(left))
             }
-            Root::IndexLoop(_, left, _) => self.side_cost(left),
+            Root::IndexLoop(_, left, _) => self.side_cost(Subset::new(left)),
         }
     }
 
     /// What the plans of the sides of the set cost at the least that a join of them needs: where the right side is one
     /// relation, an index loop needs no plan of it.
-    pub(crate) fn least_sides(&self, left: u8) -> u128
+    pub(crate) fn least_sides(&self, left: Subset) -> u128
         requires { IsSplit left self.now.set }
         ensures { (node : Root) → IsByLeft left node → Stands (block_at self.now.at) node self.now.set →
             result ≤ side_costs self.now.table node self.now.set }
     {
-        let right = self.set - left;
+        let right = self.set.without(left).number();
         if right == 1 << right.trailing_zeros() {
             self.side_cost(left)
         } else {
-            self.side_costs(Root::Nest(left))
+            self.side_costs(Root::Nest(left.number()))
         }
     }
 

@@ -21,11 +21,12 @@ impl Search<'_> {
         ensures { IsLeastFound self.now result }
     {
         let _block = self.prices.block();
-        let alone = Subset::one(relation).number();
-        let start = if self.set == alone {
+        let alone = Subset::one(relation);
+        let side = alone.number();
+        let start = if self.set.number() == side {
             self.readings(relation)
         } else {
-            self.offered(Root::Nest(alone), self.prices.nest(alone, self.set))
+            self.offered(Root::Nest(side), self.prices.nest(alone, self.set))
         };
         self.joins(start)
     }
@@ -37,7 +38,7 @@ fn entry_here(
     table: &[Entry; 64],
     inside: &[[bool; MAX_AXES]; 64],
     rows: &[[Entry; 64]],
-    set: u8,
+    set: Subset,
     relation: u8,
 ) -> Entry
     requires filled { IsFilledBelow (record { at = prices.now; table = table.now; set = set }) }
@@ -70,7 +71,7 @@ fn add_relation(
     let alone = Subset::one(relation).number();
     for rest in 0..alone {
         let set = alone + rest;
-        table[set as usize] = entry_here(prices, table, inside, rows, set, relation);
+        table[set as usize] = entry_here(prices, table, inside, rows, Subset::new(set), relation);
     }
 }
 

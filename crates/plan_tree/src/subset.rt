@@ -1,8 +1,8 @@
 // Sets of relations as numbers, and the edges between two of them.
-ghost use Rattle.std.specs.Prelude.{◌≡◌, ◌↔◌, ◌^◌, ◌<◌, IsTrue, bit_or, length};
+ghost use Rattle.std.specs.Prelude.{◌≡◌, ◌↔◌, ◌-◌, ◌^◌, ◌<◌, ◌≤◌, IsTrue, bit_or, length};
 ghost use Rattle.query_block.specs.Meaning.{is_inside};
 ghost use Rattle.plan_tree.specs.Enumerated.{column_on, edge_at};
-ghost use Rattle.plan_tree.specs.Roots.{IsCrossed};
+ghost use Rattle.plan_tree.specs.Roots.{IsCrossed, IsSplit};
 ghost use Rattle.plan_tree.specs.Sets.{is_between, set_of};
 
 use query_block::{Block, Edge};
@@ -55,6 +55,16 @@ impl Subset {
     {
         Subset {
             bits: self.bits | other.bits,
+        }
+    }
+
+    /// The right side of the set, where this is its left one: the relations that aren't in that.
+    pub fn without(self, left: Subset) -> Subset
+        requires { IsSplit left self }
+        ensures { result ≡ self - left }
+    {
+        Subset {
+            bits: self.bits - left.bits,
         }
     }
 

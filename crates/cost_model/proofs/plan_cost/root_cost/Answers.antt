@@ -15,11 +15,11 @@ covers-requires c = fits-set (block_at c.args.prices.now) (plan_tree c.args.p.no
 pub own-requires-clause-stands : goal.own-requires-clause-stands
 own-requires-clause-stands c =
     let block = block_at c.args.prices.now in
-    subst (λ node. Stands block node c.number.result) (sym c.root_of.ensures)
-    (subst (Stands block _) (sym (c.number.ensures ∙ c.covers.ensures)) (stands block (plan_tree c.args.p.now) c.requires))
+    subst (λ node. Stands block node c.covers.result) (sym c.root_of.ensures)
+    (subst (Stands block _) (sym c.covers.ensures) (stands block (plan_tree c.args.p.now) c.requires))
 
 pub own-requires-clause-set : goal.own-requires-clause-set
-own-requires-clause-set c = omega (arith, (c.number.ensures ∙ c.covers.ensures), covers-below (block_at c.args.prices.now) (plan_tree c.args.p.now) c.requires)
+own-requires-clause-set c = omega (arith, c.covers.ensures, covers-below (block_at c.args.prices.now) (plan_tree c.args.p.now) c.requires)
 
 pub returns-clause-own : goal.returns-clause-own
-returns-clause-own c = c.own.ensures.own ∙ (λ i. own_at c.args.prices.now (c.root_of.ensures i) ((c.number.ensures ∙ c.covers.ensures) i))
+returns-clause-own c = c.own.ensures.own ∙ (λ i. own_at c.args.prices.now (c.root_of.ensures i) (c.covers.ensures i))

@@ -7,6 +7,6 @@ use Rattle.plan_space.proofs.steps.Search.by_look_up.Goals as goal
 
 pub returns-then-right-relation : goal.returns-then-right-relation
 returns-then-right-relation c =
-    let set = ap (λ (one : SearchShape). one.set - c.args.left) c.self.view_is in
+    let right = c.number-right.ensures ∙ c.without.ensures ∙ ap (λ (one : SearchShape). one.set - c.args.left) c.self.view_is in
     nothing c.args.self.now (IsLookUpBy c.args.edge c.args.left) c.args.start
-    (no-look-up c.args.self.now c.args.edge c.args.left (λ relation is. c.if-right-relation.true (lowest-alone _ relation (set ∙ is) (omega (arith, set)))))
+    (no-look-up c.args.self.now c.args.edge c.args.left (λ relation is. c.if-right-relation.true (lowest-alone _ relation (right ∙ is) (omega (arith, right)))))

@@ -5,7 +5,7 @@ use Rattle.plan_tree.specs.declared.roots.Root.TheVariants as root
 use Rattle.plan_tree.specs.Roots.{Stands}
 use Rattle.cost_model.specs.Prices.{block_at}
 use Rattle.plan_space.specs.Search.{SearchShape}
-use Rattle.plan_space.specs.Steps.{IsLookUpBy}
+use Rattle.plan_space.specs.Steps.{Considers, IsLookUpBy}
 use Rattle.plan_space.proofs.Considered.{nothing, narrow, looked-up}
 use Rattle.plan_space.proofs.steps.Search.by_relation.Goals as goal
 
@@ -26,5 +26,6 @@ pub returns : goal.returns
 returns c =
     let edge = c.args.edge in
     let left = c.args.left in
-    narrow c.args.self.now (λ node. node ≡ root.IndexLoop edge left c.args.relation) (IsLookUpBy edge left) c.args.start c.consider.result c.consider.ensures
+    narrow c.args.self.now (λ node. node ≡ root.IndexLoop edge left c.args.relation) (IsLookUpBy edge left) c.args.start c.consider.result
+    (subst (λ side. Considers c.args.self.now (λ node. node ≡ root.IndexLoop edge side c.args.relation) c.args.start c.consider.result) c.number.ensures c.consider.ensures)
     (λ node group stands. looked-up c.args.self.now edge left c.args.relation c.requires.relation node group stands)
