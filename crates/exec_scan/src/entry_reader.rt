@@ -65,7 +65,8 @@ impl EntryReader {
         requires index { IsReaderOf meter.old.database self.old }
         ensures descends { Descends meter.old.database from to self.old self.new result }
         ensures words { IsIndexOfWords meter.old.database self.old.table self.old.column }
-        ensures reads { Reads (descent_charge meter.old.database self.old) meter.old meter.new result }
+        ensures reads { Reads (descent_charge meter.old.database self.old)
+            meter.old meter.new result }
         ensures goes_on { ReadsOn meter.old.database self.old self.new }
     {
         let cursor = meter.seek(self.table, self.column, from, to)?;

@@ -56,7 +56,8 @@ fn read_wanted<'d>(
         let rows = wanted_rows meter.old.database own in
         IfOk result (λ found. MatchOption found
         (AreNone (rows reader.old) (rows reader.new) (wanted_due meter.old.database own reader.new))
-        (λ words. IsFirstRow meter.old.database.texts own (rows reader.old) (rows reader.new) words.now)) }
+        (λ words. IsFirstRow meter.old.database.texts own
+        (rows reader.old) (rows reader.new) words.now)) }
     ensures pays { let due = wanted_due meter.old.database (relation_tree relation.now) in
         PaysFor (due reader.old) (due reader.new) meter.old meter.new result }
     ensures goes_on { ReadsOn meter.old.database reader.old reader.new }
@@ -89,10 +90,12 @@ impl Way {
             let rows = rows_ahead meter.old.database own in
             IfOk result (λ found. MatchOption found
             (AreNone (rows self.old) (rows self.new) (read_due meter.old.database own self.new))
-            (λ words. IsFirstRow meter.old.database.texts own (rows self.old) (rows self.new) words.now)) }
+            (λ words. IsFirstRow meter.old.database.texts own
+            (rows self.old) (rows self.new) words.now)) }
         ensures pays { let due = read_due meter.old.database (relation_tree relation.now) in
             PaysFor (due self.old) (due self.new) meter.old meter.new result }
-        ensures goes_on { FindsOn meter.old.database (relation_tree relation.now) self.old self.new }
+        ensures goes_on { FindsOn meter.old.database (relation_tree relation.now)
+            self.old self.new }
     {
         match self {
             Way::Table(reader) => reader.read(meter),
@@ -111,10 +114,12 @@ impl Way {
             let rows = kept_rows meter.old.database own in
             IfOk result (λ found. MatchOption found
             (AreNone (rows self.old) (rows self.new) (read_due meter.old.database own self.new))
-            (λ words. IsFirstRow meter.old.database.texts own (rows self.old) (rows self.new) words.now)) }
+            (λ words. IsFirstRow meter.old.database.texts own
+            (rows self.old) (rows self.new) words.now)) }
         ensures pays { let due = read_due meter.old.database (relation_tree relation.now) in
             PaysFor (due self.old) (due self.new) meter.old meter.new result }
-        ensures goes_on { FindsOn meter.old.database (relation_tree relation.now) self.old self.new }
+        ensures goes_on { FindsOn meter.old.database (relation_tree relation.now)
+            self.old self.new }
     {
         let filter = relation.filter.as_slice();
         let columns = relation.columns.as_slice();
