@@ -1,5 +1,5 @@
 // What all nodes cost at a point: what each costs by itself, and what its sides cost, which stand before it.
-ghost use Rattle.std.specs.Prelude.{◌≡◌, ◌*◌, ◌<◌, ◌^◌, length};
+ghost use Rattle.std.specs.Prelude.{◌≡◌, ◌*◌, ◌<◌, length};
 ghost use Rattle.sql_values.specs.Limits.{cost_bound};
 ghost use Rattle.plan_tree.specs.Plans.{PlanTree};
 ghost use Rattle.plan_tree.specs.Enumerated.{IsSubPlan};

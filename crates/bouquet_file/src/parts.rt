@@ -79,7 +79,10 @@ pub(crate) fn parts_of<'v>(
         FieldPath::Relations,
     )?;
     let counts = all_counts(alloc, relations)?;
-    let contours = need(list_at(members, "contours", 1, MAX_CONTOURS), FieldPath::Contours)?;
+    let contours = need(
+        list_at(members, "contours", 1, MAX_CONTOURS),
+        FieldPath::Contours,
+    )?;
     contours_fit(contours)?;
     Ok(Parts {
         query,

@@ -179,7 +179,9 @@ impl Database {
     pub fn create_table(&mut self, name: &[u8], columns: &[ColumnDef]) -> Result<u32, DbFault>
         requires some { 1 ≤ length columns.now }
         ensures number { IfOk result (λ number. number ≡ length self.old.tables) }
-        ensures created { Becomes (with_table self.old (new_table name.now columns.now)) self.old self.new result }
+        ensures created { OnOk result
+            (self.new ≡ with_table self.old (new_table name.now columns.now)) }
+        ensures unchanged { OnErr result (self.new ≡ self.old) }
         ensures refuses { Refuses (creation_fault self.old name.now columns.now) result }
     {
         self.check_creation(name, columns)?;
@@ -213,7 +215,8 @@ impl Database {
     #[tactic(auto, using(crate::proofs::Tables::of_reads))]
     pub fn create_index(&mut self, name: &[u8], table: u32, column: u8) -> Result<(), DbFault>
         requires { column < length (table_at self.old table).columns }
-        ensures created { Becomes (with_index self.old name.now table column) self.old self.new result }
+        ensures created { OnOk result (self.new ≡ with_index self.old name.now table column) }
+        ensures unchanged { OnErr result (self.new ≡ self.old) }
         ensures refuses { Refuses (index_fault self.old name.now table column) result }
     {
         self.check_index(name, table, column)?;

@@ -92,6 +92,7 @@ fn fill(alloc: Global, heap: &mut Heap, columns: usize, rows: u64) -> Result<u64
     requires some { 1 ≤ columns }
     requires columns { columns ≡ heap.old.columns }
     requires room { rows ≤ heap.old.spare }
+    requires few { rows ≤ 2 ^ 62 }
 {
     for number in 0..rows {
         let row = vec![in alloc; number as i64; columns]?;

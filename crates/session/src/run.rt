@@ -1,6 +1,5 @@
 // RUN: a bouquet's counts are looked at before a row is read.
 ghost use Rattle.std.specs.Prelude.{◌+◌, ◌^◌, ◌≤◌, OnOk, IsErrAnd};
-ghost use Rattle.work_ledger.specs.Account.{max_account};
 ghost use Rattle.sql_parse.specs.Trees.{Run};
 ghost use Rattle.query_block.specs.Blocks.{block_tree};
 ghost use Rattle.db_catalog.specs.Fits.{Fits};
@@ -42,7 +41,7 @@ impl Session {
         name: &Name,
         book: &mut Book,
     ) -> Result<Vec<u8>, Stop>
-        requires room { book.old + max_work ≤ max_account }
+        requires room { book.old + max_work ≤ 2 ^ 126 }
         ensures due { ReturnsDue (run_outcome max_work (world_of self.now) name.now)
             result (world_of self.now) book.old book.new }
         ensures bounded { OnOk result (IsAnsweredWithin (world_of self.now) (Run name.now)) }

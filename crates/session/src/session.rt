@@ -1,6 +1,5 @@
 // What the statements so far have made, and what one statement more does. A statement that stops changes nothing.
 ghost use Rattle.std.specs.Prelude.{◌≡◌, ◌+◌, ◌^◌, ◌≤◌, OnOk, OnErr};
-ghost use Rattle.work_ledger.specs.Account.{max_account};
 ghost use Rattle.sql_parse.specs.Trees.{statement_tree};
 ghost use Rattle.sql_parse.specs.WellFormed.{IsWellFormed};
 ghost use Rattle.sql_parse.specs.Counts.{predicates_of};
@@ -65,7 +64,7 @@ impl Session {
     ) -> Result<Vec<u8>, Stop>
         requires well_formed { IsWellFormed (statement_tree statement.now) }
         requires predicates { predicates_of (statement_tree statement.now) ≤ max_script_bytes }
-        requires room { book.old + max_work ≤ max_account }
+        requires room { book.old + max_work ≤ 2 ^ 126 }
         ensures due { IsCarriedOut max_work (statement_tree statement.now)
             (F.state folder.old) (F.state folder.new) (world_of self.old) (world_of self.new)
             book.old book.new result }

@@ -1,7 +1,6 @@
 // The fold over the statements of a script: each is carried out and what it prints is put, up to and with the first that is
 // refused. It relies on the session for what a statement prints, and never looks at what a file or an answer holds.
 ghost use Rattle.std.specs.Prelude.{◌≡◌, ◌≢◌, ℕ, ◌+◌, ◌^◌, ◌≤◌, map, All, IfErr, IsErrOf};
-ghost use Rattle.work_ledger.specs.Account.{max_account};
 ghost use Rattle.outside_io.specs.Count.{Rose};
 ghost use Rattle.sql_values.specs.Limits.{max_script_bytes};
 ghost use Rattle.sql_parse.specs.Trees.{statement_tree};
@@ -32,7 +31,7 @@ fn carry_out_one<F: Folder, K: Sink>(
 ) -> Result<(), Status>
     requires well_formed { IsWellFormed (statement_tree statement.now) }
     requires predicates { predicates_of (statement_tree statement.now) ≤ max_script_bytes }
-    requires room { book.old + max_work ≤ max_account }
+    requires room { book.old + max_work ≤ 2 ^ 126 }
     ensures carries { CarriesOne max_work (Rose (K.faults sink.old) (K.faults sink.new))
         (statement_tree statement.now) (F.state folder.old) (F.state folder.new)
         (world_of session.old) (world_of session.new)

@@ -17,7 +17,7 @@ filled-requires c =
     let begun = c.loop-rest.invariant.begun some in
     rw c.loop-rest.invariant.same (record {
       there = there_is c.loop-rest.number c.args.self.now.size c.args.self.now.count c.loop-rest.self.words c.loop-rest.rest.now c.args.self.now.words c.args.more.now
-      c.loop-rest.invariant.all begun c.requires.room some;
+          c.loop-rest.invariant.all begun c.requires.room some;
       begun = begun;
       last = omega (arith, c.loop-rest.invariant.free);
     })
