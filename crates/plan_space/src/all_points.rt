@@ -116,7 +116,7 @@ impl BestPlans<'_> {
         ensures bound { result < 2 ^ 113 }
     {
         let all = set_of_all(self.costing.block());
-        self.row(place)[all as usize].cost
+        self.row(place)[all.number() as usize].cost
     }
 
     /// The best plan at the point at this place of the grid, from 0: of all plans of the block the cheapest, and of equally
