@@ -80,8 +80,8 @@ impl EntryReader {
         ensures row { IfOk result (λ found. MatchOption found
             ((entries_ahead meter.old.database self.new ≡ []) × (self.new ≡ self.old))
             (λ words. ReadsEntry meter.old.database self.old self.new words.now)) }
-        ensures pays { let due = entries_due meter.old.database in
-            PaysFor (due self.old) (due self.new) meter.old meter.new result }
+        ensures pays { PaysFor (entries_due meter.old.database)
+            self.old self.new meter.old meter.new result }
         ensures goes_on { ReadsOn meter.old.database self.old self.new }
     {
         let Some(mut cursor) = self.cursor else {
