@@ -6,8 +6,8 @@ use Rattle.plan_tree.specs.Left.{Left, GivesFirst, IsPart, PaysDue}
 use Rattle.db_catalog.specs.Meter.{MeterState}
 
 -- a call pays for what is no longer due after it, and the database stays
-pub record PaysFor {T E : Type 0} (old new : Left) (before after : MeterState) (result : Result T E) : Type 0 where
-  pub due : PaysDue old new before.account after.account result
+pub record PaysFor {S T E : Type 0} (left : S → Left) (old new : S) (before after : MeterState) (result : Result T E) : Type 0 where
+  pub due : PaysDue (left old) (left new) before.account after.account result
   pub database : after.database ≡ before.database
 
 -- a call gives the first row that is left, whose words of a set's relations these are, and pays for what is no longer due

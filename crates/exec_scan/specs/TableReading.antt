@@ -27,9 +27,7 @@ pub record HasTable (database : DatabaseState) (table : ℕ) : Type 0 where
 -- the table is there and has so many pages; the page at hand is the last that is opened, and its rows are the last on the
 -- opened pages
 pub record IsTableReader (database : DatabaseState) (reader : TableReaderState) : Type 0 where
-  pub there : reader.table < length database.tables
-  pub some : 1 ≤ length (table_at database reader.table).columns
-  pub few : length (table_at database reader.table).columns ≤ max_columns
+  pub table : HasTable database reader.table
   pub pages : reader.pages ≡ table_pages database reader.table
   pub opened : reader.opened ≤ reader.pages
   pub page : reader.page ≡ reader.opened - 1

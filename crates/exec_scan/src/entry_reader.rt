@@ -65,7 +65,8 @@ impl EntryReader {
         requires index { IsReaderOf meter.old.database self.old }
         ensures descends { Descends meter.old.database from to self.old self.new result }
         ensures words { IsIndexOfWords meter.old.database self.old.table self.old.column }
-        ensures reads { Reads (descent_charge meter.old.database self.old) meter.old meter.new result }
+        ensures reads { Reads (descent_charge meter.old.database self.old)
+            meter.old meter.new result }
         ensures goes_on { ReadsOn meter.old.database self.old self.new }
     {
         let cursor = meter.seek(self.table, self.column, from, to)?;
@@ -79,8 +80,8 @@ impl EntryReader {
         ensures row { IfOk result (λ found. MatchOption found
             ((entries_ahead meter.old.database self.new ≡ []) × (self.new ≡ self.old))
             (λ words. ReadsEntry meter.old.database self.old self.new words.now)) }
-        ensures pays { let due = entries_due meter.old.database in
-            PaysFor (due self.old) (due self.new) meter.old meter.new result }
+        ensures pays { PaysFor (entries_due meter.old.database)
+            self.old self.new meter.old meter.new result }
         ensures goes_on { ReadsOn meter.old.database self.old self.new }
     {
         let Some(mut cursor) = self.cursor else {

@@ -80,8 +80,8 @@ impl TableReader {
             ((table_ahead meter.old.database self.old ≡ [])
             × ((table_due meter.old.database self.old).due ≡ 0) × (self.new ≡ self.old))
             (λ words. LooksAt meter.old.database self.old self.new words.now)) }
-        ensures pays { let due = table_due meter.old.database in
-            PaysFor (due self.old) (due self.new) meter.old meter.new result }
+        ensures pays { PaysFor (table_due meter.old.database)
+            self.old self.new meter.old meter.new result }
         ensures goes_on { ReadsTableOn meter.old.database self.old self.new }
     {
         if self.slot == self.slots {

@@ -33,8 +33,8 @@ fn descend_to_wanted(
     ensures entries { OnOk result
         (wanted_entries meter.old.database (relation_tree relation.now) reader.new
         ≡ wanted_entries meter.old.database (relation_tree relation.now) reader.old) }
-    ensures pays { let due = wanted_due meter.old.database (relation_tree relation.now) in
-        PaysFor (due reader.old) (due reader.new) meter.old meter.new result }
+    ensures pays { PaysFor (wanted_due meter.old.database (relation_tree relation.now))
+        reader.old reader.new meter.old meter.new result }
     ensures goes_on { ReadsOn meter.old.database reader.old reader.new }
 {
     if reader.has_descended() {
@@ -56,9 +56,10 @@ fn read_wanted<'d>(
         let rows = wanted_rows meter.old.database own in
         IfOk result (λ found. MatchOption found
         (AreNone (rows reader.old) (rows reader.new) (wanted_due meter.old.database own reader.new))
-        (λ words. IsFirstRow meter.old.database.texts own (rows reader.old) (rows reader.new) words.now)) }
-    ensures pays { let due = wanted_due meter.old.database (relation_tree relation.now) in
-        PaysFor (due reader.old) (due reader.new) meter.old meter.new result }
+        (λ words. IsFirstRow meter.old.database.texts own
+        (rows reader.old) (rows reader.new) words.now)) }
+    ensures pays { PaysFor (wanted_due meter.old.database (relation_tree relation.now))
+        reader.old reader.new meter.old meter.new result }
     ensures goes_on { ReadsOn meter.old.database reader.old reader.new }
 {
     descend_to_wanted(reader, relation, meter)?;
@@ -89,10 +90,12 @@ impl Way {
             let rows = rows_ahead meter.old.database own in
             IfOk result (λ found. MatchOption found
             (AreNone (rows self.old) (rows self.new) (read_due meter.old.database own self.new))
-            (λ words. IsFirstRow meter.old.database.texts own (rows self.old) (rows self.new) words.now)) }
-        ensures pays { let due = read_due meter.old.database (relation_tree relation.now) in
-            PaysFor (due self.old) (due self.new) meter.old meter.new result }
-        ensures goes_on { FindsOn meter.old.database (relation_tree relation.now) self.old self.new }
+            (λ words. IsFirstRow meter.old.database.texts own
+            (rows self.old) (rows self.new) words.now)) }
+        ensures pays { PaysFor (read_due meter.old.database (relation_tree relation.now))
+            self.old self.new meter.old meter.new result }
+        ensures goes_on { FindsOn meter.old.database (relation_tree relation.now)
+            self.old self.new }
     {
         match self {
             Way::Table(reader) => reader.read(meter),
@@ -111,10 +114,12 @@ impl Way {
             let rows = kept_rows meter.old.database own in
             IfOk result (λ found. MatchOption found
             (AreNone (rows self.old) (rows self.new) (read_due meter.old.database own self.new))
-            (λ words. IsFirstRow meter.old.database.texts own (rows self.old) (rows self.new) words.now)) }
-        ensures pays { let due = read_due meter.old.database (relation_tree relation.now) in
-            PaysFor (due self.old) (due self.new) meter.old meter.new result }
-        ensures goes_on { FindsOn meter.old.database (relation_tree relation.now) self.old self.new }
+            (λ words. IsFirstRow meter.old.database.texts own
+            (rows self.old) (rows self.new) words.now)) }
+        ensures pays { PaysFor (read_due meter.old.database (relation_tree relation.now))
+            self.old self.new meter.old meter.new result }
+        ensures goes_on { FindsOn meter.old.database (relation_tree relation.now)
+            self.old self.new }
     {
         let filter = relation.filter.as_slice();
         let columns = relation.columns.as_slice();
