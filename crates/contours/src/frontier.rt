@@ -22,7 +22,7 @@ pub(crate) fn frontier(
         All (IsFrontierPoint (costing_tree outlook.now)) found.items) }
 {
     let mut found = Vec::new(alloc);
-    for place in 0..outlook.costing().grid().points() {
+    for place in 0..outlook.points() {
         if outlook.is_on_frontier(cost, place) {
             found.push(outlook.frontier_point(alloc, place)?)?;
         }

@@ -132,6 +132,13 @@ impl<'c> Outlook<'c> {
         self.costing
     }
 
+    /// How many points the grid has.
+    pub(crate) fn points(&self) -> usize
+        ensures { result ≡ length (points_of self.now.grid) }
+    {
+        self.costing.grid().points()
+    }
+
     /// The optimal cost at the bottom of the grid.
     pub(crate) fn bottom_cost(&self) -> u128
         ensures cost { result ≡ optimal_cost (costing_tree self.now) (bottom_of self.now.grid) }

@@ -17,11 +17,7 @@ returns c =
     let same : c.new.result ≡ costing = λ i. record { block = of.block i; stats = of.stats i; grid = of.grid i } in
     let are = subst (λ (one : CostingShape). AreContours (costing_tree one) c.args.threshold contours) same c.in_ok-contours.ensures in
     let tree : bouquet_tree c.new-2.result ≡ bouquet_of (costing_tree costing) c.args.threshold contours =
-    λ i. record {
-      costing = costing_tree (record { block = made.block i; stats = made.stats i; grid = made.grid i });
-      threshold = made.threshold i;
-      contours = map contour_tree (made.contours i);
-    } in
+    λ i. bouquet_tree (record { block = made.block i; stats = made.stats i; grid = made.grid i; threshold = made.threshold i; contours = made.contours i }) in
     let few : length (map contour_tree contours) ≤ 128 = omega (arith, length-map contours contour_tree, are.few) in
     record {
       block = made.block;

@@ -2,8 +2,8 @@ use Rattle.std.proofs.Common.{◌≤◌, ◌<◌, ◌∙◌, ◌++◌, ◌∷◌
 use Rattle.std.specs.List.{filter}
 use Rattle.std.proofs.lemmas.List.{take_all}
 use Rattle.std.proofs.lemmas.List.Elements.{All-push}
-use Rattle.ess_grid.specs.Points.{GridShape, points_of}
-use Rattle.cost_model.specs.Costing.{CostingShape, costing_tree}
+use Rattle.ess_grid.specs.Points.{points_of}
+use Rattle.cost_model.specs.Costing.{costing_tree}
 use Rattle.cost_model.specs.Frontier.{is_on_frontier, frontier}
 use Rattle.anorexic.specs.Frontiers.{IsFrontierPoint, frontier_points}
 use Rattle.contours.proofs.Places.{point-there}
@@ -15,14 +15,7 @@ pub returns-clause-points : goal.returns-clause-points
 unfolding frontier
 returns-clause-points c =
     let points = points_of c.args.outlook.now.grid in
-    let all : length points ≤ c.loop-place.place =
-    omega (
-      arith,
-      c.loop-place-test.false,
-      c.points-place-end.ensures.count,
-      ap (λ (g : GridShape). length (points_of g)) c.grid.ensures,
-      ap (λ (one : CostingShape). length (points_of one.grid)) c.costing.ensures.same,
-    ) in
+    let all : length points ≤ c.loop-place.place = omega (arith, c.loop-place-test.false, c.points-place-end.ensures) in
     c.loop-place.invariant.points ∙ ap (filter (is_on_frontier (costing_tree c.args.outlook.now) c.args.cost)) (take_all c.loop-place.place points all)
 
 pub loop-place-preserved : goal.loop-place-preserved
@@ -33,14 +26,7 @@ loop-place-preserved c =
     let point = get_or points place [] in
     let test = is_on_frontier costing c.args.cost in
     let found = c.loop-place.found.items in
-    let below : place < length points =
-    omega (
-      arith,
-      c.loop-place-test.true,
-      c.points-place-end.ensures.count,
-      ap (λ (g : GridShape). length (points_of g)) c.grid.ensures,
-      ap (λ (one : CostingShape). length (points_of one.grid)) c.costing.ensures.same,
-    ) in
+    let below : place < length points = omega (arith, c.loop-place-test.true, c.points-place-end.ensures) in
     let next = filtered-next test points place below in
     elim c.if-is_on_frontier.branch [
       | then-is_on_frontier+in_ok-frontier_point+in_ok-push w ↦
