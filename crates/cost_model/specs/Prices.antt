@@ -76,10 +76,14 @@ pub record IsSplitOf (block : BlockTree) (left set : ℕ) : Type 0 where
   pub split : IsSplit left set
   pub of_block : IsSetOf block set
 
+-- how many pairs of rows the two sides of a set have
+abbrev pub side_pairs : Pricing → (left set : ℕ) → ℕ
+side_pairs at left set =
+    set_card (costing_tree at.costing) at.point left * set_card (costing_tree at.costing) at.point (set - left)
+
 -- of so many pairs of rows of the two sides of a set the columns of an edge are taken to be equal
 pub record IsCandidateCount (at : Pricing) (edge left set candidates : ℕ) : Type 0 where
-  pub pairs : let costing = costing_tree at.costing in
-      candidates ≡ candidate_card costing edge at.point (set_card costing at.point left * set_card costing at.point (set - left))
+  pub pairs : candidates ≡ candidate_card (costing_tree at.costing) edge at.point (side_pairs at left set)
   pub few : candidates ≤ max_product
 
 -- the cards of all sets

@@ -7,7 +7,7 @@ ghost use Rattle.cost_model.specs.Costing.{costing_tree, IsCosting};
 ghost use Rattle.cost_model.specs.Costs.{index_stats};
 ghost use Rattle.plan_tree.specs.declared.roots.Root.TheVariants.{Scan, IndexScan, Nest, Hash, Merge, IndexLoop};
 ghost use Rattle.plan_tree.specs.Roots.{Stands};
-ghost use Rattle.cost_model.specs.Prices.{IsSetOf, IsSplitOf, IsPrice, IsCandidateCount, set_card, block_at};
+ghost use Rattle.cost_model.specs.Prices.{IsSetOf, IsSplitOf, IsPrice, IsCandidateCount, side_pairs, block_at};
 
 use crate::prices::Prices;
 use plan_tree::{Root, Subset, column_of_edge};
@@ -17,8 +17,7 @@ impl Prices<'_> {
     // So many pairs of rows have the two sides of a set.
     fn pairs(&self, left: Subset, set: Subset) -> u128
         requires { IsSplitOf (block_at self.now) left set }
-        ensures pairs { result ≡ set_card (costing_tree self.now.costing) self.now.point left
-            * set_card (costing_tree self.now.costing) self.now.point (set - left) }
+        ensures pairs { result ≡ side_pairs self.now left set }
         ensures few { result ≤ max_product }
     {
         let _block = self.block();

@@ -31,12 +31,20 @@ AreInside block set inside =
 abbrev pub AreInsideSets : BlockTree → List (List Bool) → Type 0
 AreInsideSets block inside = (set : ℕ) → set < 64 → AreInside block set (slice_index_or inside set [])
 
--- the tables of the first points of the grid, each a row: its entries are least at its point
+-- the entries of a row are least at a point
+abbrev pub LeastAt : CostingShape → (point : List ℕ) → List Entry → Type 0
+LeastAt costing point row =
+    AreLeast (own_at (record { costing = costing; point = point })) (block_tree costing.block) row (2 ^ length (block_tree costing.block).relations)
+
+-- so at the point at this place of the grid
+abbrev pub IsLeastRow : CostingShape → (place : ℕ) → List Entry → Type 0
+IsLeastRow costing place row = (point : List ℕ) → point_at costing.grid place ≡ Some point → LeastAt costing point row
+
+-- the tables of the first points of the grid, each a row
 abbrev pub AreLeastRows : CostingShape → List (List Entry) → Type 0
 AreLeastRows costing rows =
     (place : ℕ) (point : List ℕ) → place < length rows → point_at costing.grid place ≡ Some point
-    → AreLeast (own_at (record { costing = costing; point = point })) (block_tree costing.block)
-    (slice_index_or rows place []) (2 ^ length (block_tree costing.block).relations)
+    → LeastAt costing point (slice_index_or rows place [])
 
 -- what is known of earlier points: which axes are inside which sets, and the tables of the first points
 pub record AreEarlier (costing : CostingShape) (inside : List (List Bool)) (rows : List (List Entry)) : Type 0 where

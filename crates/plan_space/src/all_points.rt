@@ -7,9 +7,8 @@ ghost use Rattle.plan_tree.specs.Plans.{plan_tree};
 ghost use Rattle.cost_model.specs.Costing.{costing_tree};
 ghost use Rattle.cost_model.specs.Best.{IsBest};
 ghost use Rattle.cost_model.specs.Optimal.{optimal_cost};
-ghost use Rattle.plan_space.specs.Table.{AreLeast, AreStanding};
-ghost use Rattle.cost_model.specs.Prices.{own_at};
-ghost use Rattle.plan_space.specs.Alike.{AreEarlier, AreLeastRows};
+ghost use Rattle.plan_space.specs.Table.{AreStanding};
+ghost use Rattle.plan_space.specs.Alike.{AreEarlier, AreLeastRows, IsLeastRow};
 
 use crate::alike::axes_inside_sets;
 use crate::entry::Entry;
@@ -58,10 +57,7 @@ fn row_of(
 ) -> [Entry; 64]
     requires earlier { AreEarlier costing.now inside.now rows.now }
     requires place { place < length (points_of costing.now.grid) }
-    ensures { (point : List ℕ) → point_at costing.now.grid place ≡ Some point →
-        AreLeast (own_at (record { costing = costing.now; point = point }))
-        (block_tree costing.now.block) result
-        (2 ^ length (block_tree costing.now.block).relations) }
+    ensures { IsLeastRow costing.now place result }
 {
     let q = costing.grid().point(place);
     filled(&Prices::new(costing, &q, room), inside, rows)
@@ -99,10 +95,7 @@ impl BestPlans<'_> {
     // The entries at the point at this place.
     fn row(&self, place: usize) -> &[Entry; 64]
         requires { place < length (points_of self.now.grid) }
-        ensures least { (point : List ℕ) → point_at self.now.grid place ≡ Some point →
-            AreLeast (own_at (record { costing = self.now; point = point }))
-            (block_tree self.now.block) result.now
-            (2 ^ length (block_tree self.now.block).relations) }
+        ensures least { IsLeastRow self.now place result.now }
         ensures stands { AreStanding (block_tree self.now.block) result.now
             (2 ^ length (block_tree self.now.block).relations) }
     {
@@ -117,7 +110,7 @@ impl BestPlans<'_> {
         ensures bound { result < cost_bound }
     {
         let all = set_of_all(self.costing.block());
-        self.row(place)[all as usize].cost
+        self.row(place)[all.number() as usize].cost
     }
 
     /// The best plan at the point at this place of the grid, from 0: of all plans of the block the cheapest, and of equally

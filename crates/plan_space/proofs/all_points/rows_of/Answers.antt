@@ -1,7 +1,7 @@
 use Rattle.std.proofs.Common.{sym, subst, arith}
 use Rattle.query_block.specs.Blocks.{block_tree}
-use Rattle.plan_space.specs.Alike.{AreInsideSets, AreLeastRows}
-use Rattle.plan_space.proofs.Rows.{IsLeastRow, add-row}
+use Rattle.plan_space.specs.Alike.{AreInsideSets, AreLeastRows, IsLeastRow}
+use Rattle.plan_space.proofs.Rows.{add-row}
 use Rattle.plan_space.proofs.all_points.rows_of.Goals as goal
 
 pub row_of-row-requires-clause-earlier : goal.row_of-row-requires-clause-earlier
