@@ -84,7 +84,8 @@ impl<'s> Search<'s> {
     /// relation, an index loop needs no plan of it.
     pub(crate) fn least_sides(&self, left: Subset) -> u128
         requires { IsSplit left self.now.set }
-        ensures { (node : Root) → IsByLeft left node → Stands (block_at self.now.at) node self.now.set →
+        ensures { (node : Root) → IsByLeft left node →
+            Stands (block_at self.now.at) node self.now.set →
             result ≤ side_costs self.now.table node self.now.set }
     {
         let right = self.set.without(left).number();
