@@ -12,7 +12,7 @@ use Rattle.table_stats.specs.Ready.{IsReadyFilter, own}
 
 -- what a block asks of a relation holds of it, and it stands over its table
 pub record StandsIn (database : DatabaseState) (relation : RelationTree) : Type 0 where
-  pub relation : IsRelation relation
+  pub well_formed : IsRelation relation
   pub fits : FitsTable database relation
 
 -- the filter is ready, its relation stands over its table, its texts are the database's, and the table is within its limit

@@ -30,5 +30,5 @@ returns c =
     let usable = rw (c.as_slice-filter.ensures, c.as_slice.ensures) at c.has_usable.ensures in
     let some : Option ℕ = Some (matches_in database.tables own c.args.column) in
     ap Some (ap length entries
-    ∙ matches-are database own c.requires.stands.fits c.args.column range (finds c.requires.stands.relation.filter) c.entries_within-entries.ensures.words c.entries_within-entries.ensures.rows)
+    ∙ matches-are database own c.requires.stands.fits c.args.column range (finds c.requires.stands.well_formed.filter) c.entries_within-entries.ensures.words c.entries_within-entries.ensures.rows)
     ∙ sym (ap (λ (b : Bool). cond b some None) (sym usable ∙ c.if-not-has_usable.false))

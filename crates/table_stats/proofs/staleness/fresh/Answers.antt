@@ -30,22 +30,45 @@ check_relation-requires c =
     let all = subst (λ relations. All fits (map relation_tree relations)) (sym c.relations-relation-items.ensures.relations) c.requires.fits in
     (of_each fits lent c.loop-number.number c.relation-item.result c.loop-number-test.true c.relation-item.is all).there
 
-module _ (c : goal.After-check_relation) where
-  found = stale_in c.args.db.now c.loop-number.number (relation_tree c.relation-item.result) c.index-kept-number.result
-  rest = first_stale c.args.db.now (c.loop-number.number + 1) (map relation_tree (drop (c.loop-number.number + 1) c.relations-relation-items.result.now)) (drop (c.loop-number.number + 1) c.as_slice-kept.result.now)
-
-  -- what is the first of all is the first of this relation and of those behind it
-  here : first_stale c.args.db.now 0 (map relation_tree c.relations-relation-items.result.now) c.as_slice-kept.result.now ≡ option_or found rest
-  here =
-      let there : c.loop-number.number < length c.as_slice-kept.result.now = bounds-kept-number c.before.before in
-      c.loop-number.invariant
-      ∙ next-stale c.args.db.now c.relations-relation-items.result.now c.as_slice-kept.result.now c.loop-number.number c.relation-item.result c.index-kept-number.result c.loop-number-test.true there c.relation-item.is c.index-kept-number.is
-
 pub returns-in_err-check_relation : goal.returns-in_err-check_relation
 returns-in_err-check_relation c =
-    let seen = ap₂ (λ relations stats. first_stale c.args.db.now 0 (map relation_tree relations) stats) c.relations-relation-items.ensures.relations c.as_slice-kept.ensures in
-    subst (λ due. RefusesFirst due c.from_residual.result) (sym (here c.before.before) ∙ seen)
-    (handed-on (found c.before.before) (rest c.before.before) c.from_residual.result c.in_err-check_relation.field-0.0 c.from_residual.ensures.1 c.in_err-check_relation.ensures)
+    let database = c.args.db.now in
+    let lent = c.relations-relation-items.result.now in
+    let kept = c.as_slice-kept.result.now in
+    let number = c.loop-number.number in
+    let there : number < length kept = omega (
+      arith,
+      c.loop-number-test.true,
+      ap length c.relations-relation-items.ensures.relations,
+      ap length c.as_slice-kept.ensures,
+      AllZip-long FitsRelation (map relation_tree c.args.block.now.relations) c.args.stats.now.relations c.requires.stats.relations,
+      length-map c.args.block.now.relations relation_tree,
+    ) in
+    let found = stale_in database number (relation_tree c.relation-item.result) c.index-kept-number.result in
+    let rest = first_stale database (number + 1) (map relation_tree (drop (number + 1) lent)) (drop (number + 1) kept) in
+    let whole : first_stale database 0 (map relation_tree c.args.block.now.relations) c.args.stats.now.relations ≡ option_or found rest =
+    sym (ap₂ (λ relations stats. first_stale database 0 (map relation_tree relations) stats) c.relations-relation-items.ensures.relations c.as_slice-kept.ensures)
+    ∙ c.loop-number.invariant
+    ∙ next-stale database lent kept number c.relation-item.result c.index-kept-number.result c.loop-number-test.true there c.relation-item.is c.index-kept-number.is in
+    subst (λ due. RefusesFirst due c.from_residual.result) (sym whole)
+    (handed-on found rest c.from_residual.result c.in_err-check_relation.field-0.0 c.from_residual.ensures.1 c.in_err-check_relation.ensures)
 
 pub loop-number-preserved : goal.loop-number-preserved
-loop-number-preserved c = here c.before ∙ ap (λ due. option_or due (rest c.before)) c.in_ok-check_relation.ensures.answered
+loop-number-preserved c =
+    let database = c.args.db.now in
+    let lent = c.relations-relation-items.result.now in
+    let kept = c.as_slice-kept.result.now in
+    let number = c.loop-number.number in
+    let there : number < length kept = omega (
+      arith,
+      c.loop-number-test.true,
+      ap length c.relations-relation-items.ensures.relations,
+      ap length c.as_slice-kept.ensures,
+      AllZip-long FitsRelation (map relation_tree c.args.block.now.relations) c.args.stats.now.relations c.requires.stats.relations,
+      length-map c.args.block.now.relations relation_tree,
+    ) in
+    let rest = first_stale database (number + 1) (map relation_tree (drop (number + 1) lent)) (drop (number + 1) kept) in
+    let none = c.in_ok-check_relation.ensures.answered in
+    c.loop-number.invariant
+    ∙ next-stale database lent kept number c.relation-item.result c.index-kept-number.result c.loop-number-test.true there c.relation-item.is c.index-kept-number.is
+    ∙ ap (λ due. option_or due rest) none
