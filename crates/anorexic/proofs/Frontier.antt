@@ -10,8 +10,9 @@ use Rattle.cost_model.proofs.Bounds.{cost-below}
 use Rattle.cost_model.proofs.Sets.{fits-set}
 use Rattle.cost_model.proofs.Least.{optimal-cheapest}
 use Rattle.cost_model.proofs.BestPlans.{best-only}
-use Rattle.anorexic.specs.declared.frontier_point.FrontierPoint.{FrontierPoint}
-use Rattle.anorexic.specs.Frontiers.{IsFrontierPoint, FrontierPlansFit, frontier_points, frontier_plans, plan_at}
+use Rattle.cost_model.specs.declared.frontier_point.FrontierPoint.{FrontierPoint}
+use Rattle.cost_model.specs.FrontierPoints.{IsFrontierPoint, frontier_points}
+use Rattle.anorexic.specs.Frontiers.{FrontierPlansFit, frontier_plans, plan_at}
 
 pub plans-fit : (costing : CostingTree) (frontier : List FrontierPoint) → IsCosting costing → All (IsFrontierPoint costing) frontier → FrontierPlansFit frontier
 plans-fit costing frontier is each =

@@ -18,9 +18,10 @@ use Rattle.cost_model.specs.Greedy.{covers_at}
 use Rattle.cost_model.proofs.Bounds.{cost-below}
 use Rattle.cost_model.specs.Pricing.{Pricing}
 use Rattle.cost_model.specs.Prices.{block_at}
-use Rattle.anorexic.specs.declared.frontier_point.FrontierPoint.{FrontierPoint}
+use Rattle.cost_model.specs.declared.frontier_point.FrontierPoint.{FrontierPoint}
 use Rattle.anorexic.specs.declared.node.Node.{Node}
-use Rattle.anorexic.specs.Frontiers.{IsFrontierPoint, frontier_plans, plan_at}
+use Rattle.cost_model.specs.FrontierPoints.{IsFrontierPoint}
+use Rattle.anorexic.specs.Frontiers.{frontier_plans, plan_at}
 use Rattle.anorexic.specs.Nodes.{IsNumbered, NumbersPlan, AreNodeCosts, IsFew}
 use Rattle.anorexic.specs.Gathered.{AreAmong, AreCandidates}
 use Rattle.anorexic.specs.Turns.{cover_row}

@@ -19,8 +19,9 @@ use Rattle.plan_tree.proofs.PlanOrder as plan-order
 use Rattle.cost_model.specs.Costing.{CostingTree}
 use Rattle.cost_model.specs.Greedy.{greedy_turns, greedy}
 use Rattle.cost_model.specs.Optimal.{best_plan}
-use Rattle.anorexic.specs.declared.frontier_point.FrontierPoint.{FrontierPoint}
-use Rattle.anorexic.specs.Frontiers.{IsFrontierPoint, frontier_points, frontier_plans, plan_at, point_at_place}
+use Rattle.cost_model.specs.declared.frontier_point.FrontierPoint.{FrontierPoint}
+use Rattle.cost_model.specs.FrontierPoints.{IsFrontierPoint, frontier_points}
+use Rattle.anorexic.specs.Frontiers.{frontier_plans, plan_at, point_at_place}
 use Rattle.anorexic.specs.Turns.{IsCoverTable, is_marked, cover_order, turn_order}
 use Rattle.anorexic.proofs.Frontier.{plan-there, best-plans}
 use Rattle.anorexic.specs.Gathered.{AreAmong}

@@ -10,8 +10,9 @@ use Rattle.std.proofs.lemmas.List.Sums.{sum_by-cons}
 use Rattle.plan_tree.specs.Plans.{Scan}
 use Rattle.cost_model.specs.Costing.{CostingTree}
 use Rattle.cost_model.specs.Greedy.{covers_at}
-use Rattle.anorexic.specs.declared.frontier_point.FrontierPoint.{FrontierPoint}
-use Rattle.anorexic.specs.Frontiers.{frontier_points, plan_at, point_at_place}
+use Rattle.cost_model.specs.declared.frontier_point.FrontierPoint.{FrontierPoint}
+use Rattle.cost_model.specs.FrontierPoints.{frontier_points}
+use Rattle.anorexic.specs.Frontiers.{plan_at, point_at_place}
 use Rattle.anorexic.specs.Turns.{cover_row, IsCoverTable, is_marked}
 
 -- rows that are equally long

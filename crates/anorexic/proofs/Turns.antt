@@ -11,7 +11,7 @@ use Rattle.cost_model.specs.Costing.{CostingTree}
 use Rattle.cost_model.specs.Optimal.{first_plan}
 use Rattle.cost_model.specs.Greedy.{covers_at, order_by_cover, greedy_turns}
 use Rattle.cost_model.proofs.BestPlans.{first-only, first-same, by-cover}
-use Rattle.anorexic.specs.declared.frontier_point.FrontierPoint.{FrontierPoint}
+use Rattle.cost_model.specs.declared.frontier_point.FrontierPoint.{FrontierPoint}
 use Rattle.anorexic.specs.Frontiers.{plan_at, point_at_place}
 use Rattle.anorexic.specs.Turns.{IsCoverTable, is_marked, turn_order}
 use Rattle.anorexic.proofs.Table.{marked-is, count-is, filter-is}

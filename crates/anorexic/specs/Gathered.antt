@@ -3,11 +3,12 @@ use Rattle.std.specs.Prelude.{◌≡◌, ℕ, ◌<◌, All, Contains, List, leng
 use Rattle.query_block.specs.Blocks.{BlockTree}
 use Rattle.plan_tree.specs.Plans.{plan_tree}
 use Rattle.plan_tree.specs.Enumerated.{IsSubPlan}
-use Rattle.anorexic.specs.declared.frontier_point.FrontierPoint.{FrontierPoint}
+use Rattle.cost_model.specs.declared.frontier_point.FrontierPoint.{FrontierPoint}
 use Rattle.anorexic.specs.declared.node.Node.{Node}
 use Rattle.anorexic.specs.declared.candidates.Candidates.{Candidates}
 use Rattle.cost_model.specs.Costing.{CostingTree, IsCosting}
-use Rattle.anorexic.specs.Frontiers.{IsFrontierPoint, plan_at}
+use Rattle.cost_model.specs.FrontierPoints.{IsFrontierPoint}
+use Rattle.anorexic.specs.Frontiers.{plan_at}
 use Rattle.anorexic.specs.Nodes.{IsNumbered, AreNodes}
 
 -- each plan before a place is among the candidates

@@ -7,8 +7,9 @@ use Rattle.plan_tree.specs.Plans.{PlanTree}
 use Rattle.plan_tree.specs.Order.{plan_order_of}
 use Rattle.cost_model.specs.Costing.{CostingTree}
 use Rattle.cost_model.specs.Greedy.{covers_at, greedy_turns}
-use Rattle.anorexic.specs.declared.frontier_point.FrontierPoint.{FrontierPoint}
-use Rattle.anorexic.specs.Frontiers.{frontier_points, plan_at}
+use Rattle.cost_model.specs.declared.frontier_point.FrontierPoint.{FrontierPoint}
+use Rattle.cost_model.specs.FrontierPoints.{frontier_points}
+use Rattle.anorexic.specs.Frontiers.{plan_at}
 
 -- which plans cover a point
 abbrev pub cover_row : CostingTree → (threshold : ℕ) → List PlanTree → (point : List ℕ) → List Bool

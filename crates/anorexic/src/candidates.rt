@@ -3,8 +3,8 @@ ghost use Rattle.std.specs.Prelude.{◌+◌, ◌<◌, IfOk, OnOk, length};
 ghost use Rattle.anorexic.specs.Frontiers.{FrontierPlansFit};
 ghost use Rattle.anorexic.specs.Gathered.{Gathers};
 
-use crate::frontier_point::FrontierPoint;
 use crate::nodes::Nodes;
+use cost_model::FrontierPoint;
 use std::alloc::{AllocError, Global};
 
 /// The nodes of the plans of a frontier, and which of the plans are different.

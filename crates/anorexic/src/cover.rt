@@ -3,15 +3,15 @@
 ghost use Rattle.std.specs.Prelude.{◌≡◌, ◌++◌, ◌+◌, ◌*◌, ◌^◌, ◌<◌, ◌≤◌, All, IfOk, OnOk, length, map, nat_le, slice_index};
 ghost use Rattle.sql_values.specs.Limits.{max_threshold, cost_bound};
 ghost use Rattle.cost_model.specs.Costing.{costing_tree};
-ghost use Rattle.anorexic.specs.Frontiers.{IsFrontierPoint, plan_at};
+ghost use Rattle.cost_model.specs.FrontierPoints.{IsFrontierPoint};
+ghost use Rattle.anorexic.specs.Frontiers.{plan_at};
 ghost use Rattle.anorexic.specs.Gathered.{HasCandidates};
 ghost use Rattle.anorexic.specs.Nodes.{IsFew};
 ghost use Rattle.anorexic.specs.Turns.{cover_row, IsCoverTable};
 
 use crate::candidates::Candidates;
-use crate::frontier_point::FrontierPoint;
 use crate::node_costs::cost_nodes;
-use cost_model::{Costing, PriceRoom, Prices};
+use cost_model::{Costing, FrontierPoint, PriceRoom, Prices};
 use std::alloc::{AllocError, Global};
 
 // What a plan that covers a point costs there at the most, a hundredfold.

@@ -7,12 +7,10 @@
 
 mod candidates;
 mod cover;
-mod frontier_point;
 mod node;
 mod node_costs;
 mod nodes;
 mod reduction;
 mod turn;
 
-pub use frontier_point::FrontierPoint;
 pub use reduction::reduce;

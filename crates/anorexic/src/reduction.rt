@@ -5,14 +5,14 @@ ghost use Rattle.sql_values.specs.Limits.{max_threshold};
 ghost use Rattle.plan_tree.specs.Plans.{plan_tree};
 ghost use Rattle.cost_model.specs.Costing.{costing_tree};
 ghost use Rattle.cost_model.specs.Greedy.{greedy};
-ghost use Rattle.anorexic.specs.Frontiers.{IsFrontier, FrontierPlansFit, frontier_points, plan_at};
+ghost use Rattle.cost_model.specs.FrontierPoints.{IsFrontier, frontier_points};
+ghost use Rattle.anorexic.specs.Frontiers.{FrontierPlansFit, plan_at};
 ghost use Rattle.anorexic.specs.Turns.{AreTaken};
 
 use crate::candidates::gather;
 use crate::cover::cover_table;
-use crate::frontier_point::FrontierPoint;
 use crate::turn::{close, first_candidate};
-use cost_model::Costing;
+use cost_model::{Costing, FrontierPoint};
 use plan_tree::{Plan, copy};
 use std::alloc::{AllocError, Global};
 

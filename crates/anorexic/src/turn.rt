@@ -6,7 +6,7 @@ ghost use Rattle.plan_tree.specs.Plans.{plan_tree, FitsSet};
 ghost use Rattle.anorexic.specs.Frontiers.{FrontierPlansFit};
 ghost use Rattle.anorexic.specs.Turns.{is_marked, cover_order, turn_order};
 
-use crate::frontier_point::FrontierPoint;
+use cost_model::FrontierPoint;
 use plan_tree::{Plan, plan_order};
 use std::cmp::Ordering;
 

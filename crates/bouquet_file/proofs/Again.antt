@@ -1,13 +1,12 @@
 -- What is written is read again as it was: no float, not deep, each part fits.
-use Rattle.std.proofs.Common.{◌≡◌, ℕ, ◌+◌, ◌^◌, ◌<◌, ◌≤◌, Bool, true, false, cond, List, [], ◌∷◌, map, length, All, Option, Some, None, Ok, codes, decimal, bytes_eq, nat_eq, nat_le, refl, sym, ap, ◌∙◌, arith}
-use Rattle.std.specs.Prelude.{⊤}
-use Rattle.std.proofs.Math.Dec.{leb-zero}
+use Rattle.std.proofs.Common.{◌≡◌, ℕ, ◌+◌, ◌^◌, ◌≤◌, true, false, List, [], ◌∷◌, map, length, All, Some, None, Ok, bytes_eq, nat_eq, refl, arith}
 use Rattle.std.proofs.lemmas.Bool.{le-leb}
 use Rattle.std.proofs.lemmas.Bool.Decides.{nat_tests}
 use Rattle.std.proofs.lemmas.Slice.Eq.{bytes_eq-Decides}
+use Rattle.std.proofs.lemmas.List.{length-map, map-id}
 use Rattle.std.proofs.lemmas.List.Elements.{All-head, All-tail}
 use Rattle.sql_values.specs.Limits.{max_rows, max_columns, max_points, min_levels, max_levels, max_threshold}
-use Rattle.serde_json.specs.Data.{Data, array, Items, depth, items_depth}
+use Rattle.serde_json.specs.Data.{Data, array, depth, items_depth}
 use Rattle.serde_json.specs.View.{items_of}
 use Rattle.serde_json.specs.Written.{has_float, items_have_float}
 use Rattle.query_block.specs.Blocks.{BlockTree, IsBlock}
@@ -16,15 +15,14 @@ use Rattle.plan_tree.specs.Enumerated.{IsPlan}
 use Rattle.plan_tree.specs.Text.{plan_text_of}
 use Rattle.cost_model.specs.declared.stats.RelationStats.{RelationStats}
 use Rattle.bouquet_type.specs.Trees.{BouquetTree, ContourTree}
-use Rattle.bouquet_file.specs.declared.fault.FieldPath.TheVariants as path
-use Rattle.bouquet_file.specs.declared.fault.OpenFault.TheVariants as fault
 use Rattle.bouquet_file.specs.declared.relations.KeptCounts.{KeptCounts}
-use Rattle.bouquet_file.specs.Steps.{Checked, pure, ◌>>=◌, ◌>>◌, need, check, each, every}
-use Rattle.bouquet_file.specs.Values.{within, list_within, item_count, decimal_number}
+use Rattle.bouquet_file.specs.Steps.{Checked, each}
+use Rattle.bouquet_file.specs.Values.{within, list_within}
 use Rattle.bouquet_file.specs.Written.{plan_value, contour_value, relation_value, file_value}
-use Rattle.bouquet_file.specs.Checks.{levels_within, counts_at, plan_fits, contour_fits, changed_in, changed_counts, unless_changed, plan_here, contour_at}
-use Rattle.bouquet_file.specs.Parts.{FileParts, parts_of}
+use Rattle.bouquet_file.specs.Checks.{FileContour, levels_within, counts_at, plan_fits, contour_fits, changed_counts, plan_here, contour_at}
+use Rattle.bouquet_file.specs.Parts.{parts_of}
 use Rattle.bouquet_file.specs.Opened.{file_of}
+use Rattle.bouquet_file.proofs.Lists.{listed_items}
 use Rattle.bouquet_file.proofs.Numbers.{number-again}
 use Rattle.bouquet_file.proofs.Plans.{found-by-text, plan-has_text}
 
@@ -39,23 +37,14 @@ module _ {A : Type 0} (write : A → Data) where
   shallow most low [] = omega arith
   shallow most low (x ∷ xs) = omega (arith, low x, shallow most low xs)
 
-  count-written : (xs : List A) → item_count (items_of (map write xs)) ≡ length xs
-  count-written [] = refl
-  count-written (x ∷ xs) = omega (arith, count-written xs)
+  list-written : (least most : ℕ) (xs : List A) → least ≤ length xs → length xs ≤ most → list_within least most (Some (array (items_of (map write xs)))) ≡ Some (map write xs)
+  list-written least most xs low high = rw (listed_items (map write xs), length-map xs write, le-leb least (length xs) low, le-leb (length xs) most high) refl
 
-  list-written : (least most : ℕ) (xs : List A) → least ≤ length xs → length xs ≤ most → list_within least most (Some (array (items_of (map write xs)))) ≡ Some (items_of (map write xs))
-  list-written least most xs low high = rw (count-written xs, le-leb least (length xs) low, le-leb (length xs) most high) refl
-
-  each-written : {B : Type 0} (read : ℕ → Data → Checked B) (see : A → B) (P : A → Type 0) → ((n : ℕ) (x : A) → P x → read n (write x) ≡ Ok (see x)) → (n : ℕ) (xs : List A) → All P xs
-      → each read n (items_of (map write xs)) ≡ Ok (map see xs)
-  each-written read see P again n [] all = refl
-  each-written read see P again n (x ∷ xs) all =
-      rw (again n x (All-head P x xs all), each-written read see P again (n + 1) xs (All-tail P x xs all)) refl
-
-  every-written : (test : ℕ → Data → Checked ⊤) (P : A → Type 0) → ((n : ℕ) (x : A) → P x → test n (write x) ≡ Ok tt) → (n : ℕ) (xs : List A) → All P xs
-      → every test n (items_of (map write xs)) ≡ Ok tt
-  every-written test P again n [] all = refl
-  every-written test P again n (x ∷ xs) all = rw (again n x (All-head P x xs all)) (every-written test P again (n + 1) xs (All-tail P x xs all))
+each-written : {A B X : Type 0} (write : A → X) (read : ℕ → X → Checked B) (see : A → B) (P : A → Type 0) → ((n : ℕ) (x : A) → P x → read n (write x) ≡ Ok (see x)) → (n : ℕ) (xs : List A)
+    → All P xs → each read n (map write xs) ≡ Ok (map see xs)
+each-written write read see P again n [] all = refl
+each-written write read see P again n (x ∷ xs) all =
+    rw (again n x (All-head P x xs all), each-written write read see P again (n + 1) xs (All-tail P x xs all)) refl
 
 same-text : (text : List ℕ) → bytes_eq text text ≡ true
 same-text text = (bytes_eq-Decides text text).1 refl
@@ -86,8 +75,9 @@ unchanged n (one ∷ stats) = rw (same-number one.rows, same-number one.kept, sa
 
 -- ---- contours
 
-plan-fits : (contour n : ℕ) (p : PlanTree) → plan_fits contour n (plan_value p) ≡ Ok tt
-plan-fits contour n p = refl
+-- what stands in a contour that is written
+abbrev pub parts_written : ContourTree → FileContour
+parts_written contour = record { cost = contour.cost; texts = map plan_text_of contour.plans }
 
 pub record IsContourTree (block : BlockTree) (contour : ContourTree) : Type 0 where
   pub cost : contour.cost ≤ 2 ^ 114
@@ -95,28 +85,23 @@ pub record IsContourTree (block : BlockTree) (contour : ContourTree) : Type 0 wh
   pub few : length contour.plans ≤ max_points
   pub plans : All (IsPlan block) contour.plans
 
-contour-fits : (block : BlockTree) (n : ℕ) (contour : ContourTree) → IsContourTree block contour → contour_fits n (contour_value contour) ≡ Ok tt
+contour-fits : (block : BlockTree) (n : ℕ) (contour : ContourTree) → IsContourTree block contour → contour_fits n (contour_value contour) ≡ Ok (parts_written contour)
 contour-fits block n contour is =
     rw (
       number-again contour.cost (omega (arith, is.cost)),
       list-written plan_value 1 max_points contour.plans is.some is.few,
-    ) (every-written plan_value (plan_fits n) (IsPlan block) (λ number p plan. plan-fits n number p) 1 contour.plans is.plans)
+      each-written plan_value (plan_fits n) plan_text_of (IsPlan block) (λ number p plan. refl) 1 contour.plans is.plans,
+    ) refl
 
-plan-again : (block : BlockTree) → IsBlock block → (contour n : ℕ) (p : PlanTree) → IsPlan block p → plan_here block contour n (plan_value p) ≡ Ok p
+plan-again : (block : BlockTree) → IsBlock block → (contour n : ℕ) (p : PlanTree) → IsPlan block p → plan_here block contour n (plan_text_of p) ≡ Ok p
 plan-again block is contour n p plan = rw (found-by-text block p (plan_text_of p) is plan (plan-has_text block p is plan)) refl
 
-map-same : {A : Type 0} (xs : List A) → map (λ x. x) xs ≡ xs
-map-same [] = refl
-map-same (x ∷ xs) = ap (λ more. x ∷ more) (map-same xs)
-
-contour-again : (block : BlockTree) → IsBlock block → (n : ℕ) (contour : ContourTree) → IsContourTree block contour → contour_at block n (contour_value contour) ≡ Ok contour
+contour-again : (block : BlockTree) → IsBlock block → (n : ℕ) (contour : ContourTree) → IsContourTree block contour → contour_at block n (parts_written contour) ≡ Ok contour
 contour-again block is_block n contour is =
     rw (
-      number-again contour.cost (omega (arith, is.cost)),
       le-leb contour.cost (2 ^ 114) is.cost,
-      list-written plan_value 1 max_points contour.plans is.some is.few,
-      each-written plan_value (plan_here block n) (λ p. p) (IsPlan block) (plan-again block is_block n) 1 contour.plans is.plans,
-      map-same contour.plans,
+      each-written plan_text_of (plan_here block n) (λ p. p) (IsPlan block) (plan-again block is_block n) 1 contour.plans is.plans,
+      map-id contour.plans,
     ) refl
 
 -- ---- a file
@@ -144,7 +129,7 @@ parts-again : (bouquet : BouquetTree) (query : List ℕ) → IsWritable bouquet 
       levels = bouquet.costing.grid.levels;
       threshold = bouquet.threshold;
       counts = map kept_of bouquet.costing.stats.relations;
-      contours = items_of (map contour_value bouquet.contours);
+      contours = map parts_written bouquet.contours;
     })
 parts-again bouquet query is =
     let block = bouquet.costing.block in
@@ -155,7 +140,7 @@ parts-again bouquet query is =
       list-written relation_value (length block.relations) (length block.relations) stats (omega (arith, is.relations)) (omega (arith, is.relations)),
       each-written relation_value counts_at kept_of AreFew counts-again 1 stats is.counts,
       list-written contour_value 1 128 bouquet.contours is.some is.few,
-      every-written contour_value contour_fits (IsContourTree block) (contour-fits block) 1 bouquet.contours is.contours,
+      each-written contour_value contour_fits parts_written (IsContourTree block) (contour-fits block) 1 bouquet.contours is.contours,
     ) refl
 
 pub file_again : (bouquet : BouquetTree) (query : List ℕ) → IsWritable bouquet → file_of (Some (file_value bouquet query)) query bouquet.costing.block bouquet.costing.stats ≡ Ok bouquet
@@ -164,8 +149,8 @@ file_again bouquet query is =
       parts-again bouquet query is,
       same-text query,
       unchanged 0 bouquet.costing.stats.relations,
-      each-written contour_value (contour_at bouquet.costing.block) (λ contour. contour) (IsContourTree bouquet.costing.block) (contour-again bouquet.costing.block is.block) 1 bouquet.contours is.contours,
-      map-same bouquet.contours,
+      each-written parts_written (contour_at bouquet.costing.block) (λ contour. contour) (IsContourTree bouquet.costing.block) (contour-again bouquet.costing.block is.block) 1 bouquet.contours is.contours,
+      map-id bouquet.contours,
       is.axes,
     ) refl
 

@@ -1,18 +1,18 @@
 -- Each bouquet can be written, and what is opened is one.
-use Rattle.std.proofs.Common.{◌≡◌, Some, Result, Ok, Err, IfOk, Vec, Global, ℕ, ◌+◌, ◌^◌, ◌<◌, ◌≤◌, true, List, [], ◌∷◌, map, length, All, nat_eq, refl, sym, ap, subst, arith}
+use Rattle.std.proofs.Common.{◌≡◌, Some, Result, Ok, Err, IfOk, Vec, Global, ℕ, ◌^◌, ◌<◌, ◌≤◌, List, [], ◌∷◌, length, All, nat_eq, ap, subst, arith}
 use Rattle.std.proofs.Math.ListN.{length-map}
-use Rattle.std.specs.List.{AllZip, list_any}
+use Rattle.std.specs.List.{AllZip}
 use Rattle.std.specs.Str.{IsUtf8}
 use Rattle.std.proofs.lemmas.Str.{is_utf8-from_IsUtf8}
 use Rattle.std.proofs.lemmas.Bool.Decides.{nat_tests}
 use Rattle.std.proofs.lemmas.List.Elements.{All-nil, All-cons, All-head, All-tail, All-map, All-weaker, All-contains}
 use Rattle.std.proofs.lemmas.Slice.Zip.{AllZip-long}
 use Rattle.std.proofs.lemmas.Map.Steps.{length-le_from_distinct_below}
-use Rattle.sql_values.specs.Limits.{min_levels, max_levels, max_points, max_threshold}
-use Rattle.ess_grid.specs.Points.{GridShape}
+use Rattle.sql_values.specs.Limits.{max_points}
+use Rattle.ess_grid.specs.Points.{GridShape, IsGrid}
 use Rattle.serde_json.specs.Read.{read}
 use Rattle.query_block.specs.Shape.{BlockShape}
-use Rattle.query_block.specs.Blocks.{RelationTree, BlockTree, IsRelation, IsBlock, block_tree}
+use Rattle.query_block.specs.Blocks.{RelationTree, BlockTree, IsRelation, IsBlock, axes_of, block_tree}
 use Rattle.plan_tree.specs.Plans.{plan_tree}
 use Rattle.plan_tree.specs.Enumerated.{IsPlan}
 use Rattle.plan_tree.proofs.Members.{contained-in, of-any}
@@ -90,9 +90,6 @@ opened-if bouquet query (Ok bytes) is utf8 reads = opened bouquet query bytes.it
 opened-if bouquet query (Err why) is utf8 reads = tt
 
 -- parts that fit are those of a bouquet
-pub is-costing : (block : BlockShape) (stats : Stats) (grid : GridShape) (levels : ℕ) → IsBlock (block_tree block) → FitsBlock (block_tree block) stats
-    → grid ≡ record { axes = length block.edges; levels = levels } → min_levels ≤ levels → levels ≤ max_levels → levels ^ length block.edges ≤ max_points
+pub is-costing : (block : BlockShape) (stats : Stats) (grid : GridShape) → IsBlock (block_tree block) → FitsBlock (block_tree block) stats → IsGrid grid → grid.axes ≡ axes_of (block_tree block)
     → IsCosting (costing_tree (record { block = block; stats = stats; grid = grid }))
-is-costing block stats grid levels is_block fits is low high few =
-    subst (λ one. IsCosting (costing_tree (record { block = block; stats = stats; grid = one }))) (sym is)
-    (record { block = is_block; grid = record { few_axes = is_block.axes; some_levels = low; few_levels = high; few_points = few }; stats = fits; axes = refl })
+is-costing block stats grid is_block fits is_grid axes = record { block = is_block; grid = is_grid; stats = fits; axes = axes }

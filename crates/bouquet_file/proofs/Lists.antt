@@ -1,18 +1,21 @@
 -- Lists of values, as they are counted and written.
-use Rattle.std.proofs.Common.{◌≡◌, ◌&&◌, ℕ, ◌+◌, ◌<◌, List, [], ◌∷◌, ◌++◌, map, take, length, get_or, string_bytes, refl, sym, ap, ap₂, ◌∙◌, arith}
+use Rattle.std.proofs.Common.{◌≡◌, ◌&&◌, ℕ, ◌+◌, ◌<◌, List, [], ◌∷◌, ◌++◌, map, take, length, get_or, string_bytes, refl, sym, ap, ap₂, ◌∙◌}
 use Rattle.std.specs.List.{list_all}
 use Rattle.std.specs.Map.{keys_of}
-use Rattle.std.proofs.lemmas.List.{take_more, map_push}
+use Rattle.std.proofs.lemmas.List.{length-map, take_more, map_push}
 use Rattle.serde_json.specs.Data.{Data}
-use Rattle.serde_json.specs.View.{view, items_view, members_view}
+use Rattle.serde_json.specs.View.{view, items_of, items_view, members_view}
 use Rattle.serde_json.specs.declared.value.Value.{Value}
 use Rattle.serde_json.proofs.Views.{Entry}
 use Rattle.bouquet_file.specs.declared.values.ObjectKind.{ObjectKind}
-use Rattle.bouquet_file.specs.Values.{item_count, is_key, has_only}
+use Rattle.bouquet_file.specs.Values.{item_list, is_key, has_only}
 
-pub counted_items : (values : List Value) → item_count (items_view values) ≡ length values
-counted_items [] = refl
-counted_items (value ∷ values) = omega (arith, counted_items values)
+pub listed_items : (ds : List Data) → item_list (items_of ds) ≡ ds
+listed_items [] = refl
+listed_items (d ∷ ds) = ap (λ more. d ∷ more) (listed_items ds)
+
+pub counted_items : (values : List Value) → length (item_list (items_view values)) ≡ length values
+counted_items values = ap length (listed_items (map view values)) ∙ length-map values view
 
 -- one more of a list is seen
 pub one_more : {A B : Type 0} (see : A → B) (xs : List A) (i : ℕ) (x : A) → i < length xs → x ≡ get_or xs i x → map see (take (i + 1) xs) ≡ map see (take i xs) ++ see x ∷ []
@@ -24,11 +27,6 @@ pub write_more : {A : Type 0} (write : A → Data) (values : List Value) (value 
     → view value ≡ write x → map view values ≡ map write (take i xs) → map view (values ++ value ∷ []) ≡ map write (take (i + 1) xs)
 write_more write values value xs i x there is same before =
     map_push view values value ∙ ap₂ (λ some one. some ++ one ∷ []) before same ∙ sym (one_more write xs i x there is)
-
--- what is written of what is seen
-pub seen_twice : {A B C : Type 0} (write : B → C) (see : A → B) (xs : List A) → map write (map see xs) ≡ map (λ x. write (see x)) xs
-seen_twice write see [] = refl
-seen_twice write see (x ∷ xs) = ap (λ more. write (see x) ∷ more) (seen_twice write see xs)
 
 -- the keys of a map are those of its members
 pub keys_seen : (kind : ObjectKind) (entries : List Entry) → has_only kind (members_view entries) ≡ list_all (λ key. is_key kind (string_bytes key)) (keys_of entries)

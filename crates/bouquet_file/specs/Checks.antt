@@ -2,7 +2,7 @@
 use Rattle.std.specs.Prelude.{ℕ, ◌+◌, ◌^◌, ⊤, nat_eq, nat_le, List, [], ◌∷◌, length, Option, Some, None, codes, if◌then◌else◌, option_and_then, bytes_eq, Err}
 use Rattle.std.specs.Option.{option_or}
 use Rattle.sql_values.specs.Limits.{max_rows, max_columns, max_points, min_levels, max_levels, max_contour_cost}
-use Rattle.serde_json.specs.Data.{Data, Items, Members}
+use Rattle.serde_json.specs.Data.{Data, Members}
 use Rattle.serde_json.specs.Find.{get_member, as_object, as_str}
 use Rattle.query_block.specs.Blocks.{BlockTree}
 use Rattle.plan_tree.specs.Plans.{PlanTree}
@@ -17,7 +17,7 @@ use Rattle.bouquet_file.specs.declared.fault.FieldPath.TheVariants as path
 use Rattle.bouquet_file.specs.declared.fault.OpenFault.TheVariants as fault
 use Rattle.bouquet_file.specs.declared.relations.KeptCounts.{KeptCounts}
 use Rattle.bouquet_file.specs.declared.values.ObjectKind.TheVariants.{File, Relation, Contour}
-use Rattle.bouquet_file.specs.Steps.{Checked, pure, ◌>>=◌, ◌>>◌, need, check, each, every}
+use Rattle.bouquet_file.specs.Steps.{Checked, pure, ◌>>=◌, ◌>>◌, need, check, each}
 use Rattle.bouquet_file.specs.Values.{unsigned, within, string_of, list_within, has_only, object_of, decimal_number}
 
 -- the members of a file of version 1
@@ -51,19 +51,25 @@ counts_at number value = do
 abbrev pub cost_in : Members → Option ℕ
 cost_in members = option_and_then decimal_number (string_of (get_member (codes "cost") members))
 
-abbrev pub plans_in : Members → Option Items
+abbrev pub plans_in : Members → Option (List Data)
 plans_in members = list_within 1 max_points (get_member (codes "plans") members)
 
 -- a plan is a text
-abbrev pub plan_fits : (contour number : ℕ) → Data → Checked ⊤
-plan_fits contour number value = need (fault.Field (path.Plan contour number)) (as_str value) >> pure tt
+abbrev pub plan_fits : (contour number : ℕ) → Data → Checked (List ℕ)
+plan_fits contour number value = need (fault.Field (path.Plan contour number)) (as_str value)
 
-abbrev pub contour_fits : (number : ℕ) → Data → Checked ⊤
+-- what stands in a contour: its cost, and the texts of its plans
+pub record FileContour : Type 0 where
+  pub cost : ℕ
+  pub texts : List (List ℕ)
+
+abbrev pub contour_fits : (number : ℕ) → Data → Checked FileContour
 contour_fits number value = do
   members ← need (fault.Field (path.Contour number)) (object_of Contour value)
-  need (fault.Field (path.Cost number)) (cost_in members)
+  cost ← need (fault.Field (path.Cost number)) (cost_in members)
   plans ← need (fault.Field (path.Plans number)) (plans_in members)
-  every (plan_fits number) 1 plans
+  texts ← each (plan_fits number) 1 plans
+  pure (record { cost = cost; texts = texts })
 
 -- the first count of a relation that isn't that of its table
 abbrev pub changed_in : (number : ℕ) → KeptCounts → RelationStats → Option Stale
@@ -88,17 +94,12 @@ abbrev pub first_with_text : (text : List ℕ) → List PlanTree → Option Plan
 first_with_text text [] = None
 first_with_text text (p ∷ more) = if bytes_eq (plan_text_of p) text then Some p else first_with_text text more
 
-abbrev pub plan_here : BlockTree → (contour number : ℕ) → Data → Checked PlanTree
-plan_here block contour number value = do
-  text ← need (fault.Field (path.Plan contour number)) (as_str value)
-  need (fault.NotAPlan contour number) (first_with_text text (plans_of block))
+abbrev pub plan_here : BlockTree → (contour number : ℕ) → (text : List ℕ) → Checked PlanTree
+plan_here block contour number text = need (fault.NotAPlan contour number) (first_with_text text (plans_of block))
 
 -- a contour that fits: its cost is one that a bouquet may have, and its texts are those of plans of the block
-abbrev pub contour_at : BlockTree → (number : ℕ) → Data → Checked ContourTree
-contour_at block number value = do
-  members ← need (fault.Field (path.Contour number)) (as_object value)
-  cost ← need (fault.Field (path.Cost number)) (cost_in members)
-  check (fault.BudgetLimit number) (nat_le cost max_contour_cost)
-  texts ← need (fault.Field (path.Plans number)) (plans_in members)
-  plans ← each (plan_here block number) 1 texts
-  pure (record { cost = cost; plans = plans })
+abbrev pub contour_at : BlockTree → (number : ℕ) → FileContour → Checked ContourTree
+contour_at block number parts = do
+  check (fault.BudgetLimit number) (nat_le parts.cost max_contour_cost)
+  plans ← each (plan_here block number) 1 parts.texts
+  pure (record { cost = parts.cost; plans = plans })

@@ -1,5 +1,5 @@
 -- The bouquet of a file, or the first fault.
-use Rattle.std.specs.Prelude.{ℕ, List, length, Option, None, bytes_eq, if◌then◌else◌}
+use Rattle.std.specs.Prelude.{ℕ, List, Option, None, bytes_eq, if◌then◌else◌}
 use Rattle.std.specs.Str.{is_utf8}
 use Rattle.serde_json.specs.Data.{Data}
 use Rattle.serde_json.specs.Read.{read}

@@ -1,6 +1,5 @@
 -- Checks one after another: each gives a value, or the first fault ends them.
 use Rattle.std.specs.Prelude.{◌≡◌, ◌≢◌, ℕ, ◌+◌, ⊤, Bool, true, false, List, [], ◌∷◌, Option, Some, None, Result, Ok, Err}
-use Rattle.serde_json.specs.Data.{Data, Items, no_items, item}
 use Rattle.bouquet_file.specs.declared.fault.OpenFault.{OpenFault}
 use Rattle.bouquet_file.specs.declared.fault.OpenFault.TheVariants as fault
 
@@ -32,17 +31,12 @@ check why true = Ok tt
 check why false = Err why
 
 -- each item with its number read, the first of which has this number
-abbrev pub each : {A : Type 0} → (ℕ → Data → Checked A) → (number : ℕ) → Items → Checked (List A)
-each read number no_items = pure []
-each read number (item value more) = do
-  first ← read number value
+abbrev pub each : {X A : Type 0} → (ℕ → X → Checked A) → (number : ℕ) → List X → Checked (List A)
+each read number [] = pure []
+each read number (item ∷ more) = do
+  first ← read number item
   others ← each read (number + 1) more
   pure (first ∷ others)
-
--- the same where nothing is kept of them
-abbrev pub every : (ℕ → Data → Checked ⊤) → (number : ℕ) → Items → Checked ⊤
-every test number no_items = pure tt
-every test number (item value more) = test number value >> every test (number + 1) more
 
 -- a call gives what is due, as it is seen, or the fault that is due; out of memory fits anything
 abbrev pub GivesChecked : {T A : Type 0} → (view : T → A) → Result T OpenFault → Checked A → Type 0

@@ -1,5 +1,5 @@
 -- What stands in a value of a file, where it is of the right kind and in its range.
-use Rattle.std.specs.Prelude.{ℕ, ◌+◌, ◌^◌, ◌&&◌, Bool, true, nat_le, nat_lt, List, [], ◌∷◌, Option, Some, None, option_and_then, is_some, codes, if◌then◌else◌, decimal, bytes_eq}
+use Rattle.std.specs.Prelude.{ℕ, ◌^◌, ◌&&◌, Bool, true, nat_le, nat_lt, List, [], ◌∷◌, Option, Some, None, option_and_then, is_some, codes, if◌then◌else◌, decimal, bytes_eq, length}
 use Rattle.std.specs.List.{list_all, list_any}
 use Rattle.std.specs.Str.Parse.{digits_value}
 use Rattle.serde_json.specs.Data.{Data, Items, no_items, item, Members, no_members, member}
@@ -20,15 +20,16 @@ within least most (Some number) = if nat_le least number && nat_le number most t
 abbrev pub string_of : Option Data → Option (List ℕ)
 string_of value = option_and_then as_str value
 
--- how many items there are
-abbrev pub item_count : Items → ℕ
-item_count no_items = 0
-item_count (item value more) = item_count more + 1
+-- items as a list
+abbrev pub item_list : Items → List Data
+item_list no_items = []
+item_list (item value more) = value ∷ item_list more
 
 -- a list of at least, and at most so many items
-abbrev pub list_within : (least most : ℕ) → Option Data → Option Items
-list_within least most value =
-    option_and_then (λ items. if nat_le least (item_count items) && nat_le (item_count items) most then Some items else None) (option_and_then as_array value)
+abbrev pub list_within : (least most : ℕ) → Option Data → Option (List Data)
+list_within least most value = option_and_then
+    (λ items. if nat_le least (length (item_list items)) && nat_le (length (item_list items)) most then Some (item_list items) else None)
+    (option_and_then as_array value)
 
 -- the keys of a file, of a relation in it, of a contour
 abbrev pub key_list : ObjectKind → List (List ℕ)

@@ -1,6 +1,6 @@
 -- What is written for a bouquet.
-use Rattle.std.specs.Prelude.{ℕ, List, [], ◌∷◌, length, map, codes, decimal}
-use Rattle.serde_json.specs.Data.{Data, number, unsigned, string, array, object, Items, Members, no_members, member}
+use Rattle.std.specs.Prelude.{ℕ, List, length, map, codes, decimal}
+use Rattle.serde_json.specs.Data.{Data, number, unsigned, string, array, object, Items, no_members, member}
 use Rattle.serde_json.specs.View.{items_of}
 use Rattle.serde_json.specs.Written.{compact_text}
 use Rattle.plan_tree.specs.Plans.{PlanTree}

@@ -1,14 +1,15 @@
-// The contours of a file: first that all of them fit, then their costs and plans.
+// The contours of a file: first what stands in them, where all of it fits, then their plans.
 ghost use Rattle.std.specs.Prelude.{◌≡◌, ◌≤◌, All, IfOk, IfSome, length, map, option_map};
 ghost use Rattle.sql_values.specs.Limits.{max_points, max_contours};
-ghost use Rattle.serde_json.specs.View.{view, items_view, members_view};
+ghost use Rattle.serde_json.specs.View.{view, members_view};
 ghost use Rattle.query_block.specs.Blocks.{block_tree};
 ghost use Rattle.plan_tree.specs.Plans.{plan_tree};
 ghost use Rattle.plan_tree.specs.AllPlans.{plans_of};
 ghost use Rattle.plan_tree.specs.Enumerated.{IsPlan};
 ghost use Rattle.bouquet_type.specs.Trees.{IsContour, contour_tree};
-ghost use Rattle.bouquet_file.specs.Steps.{GivesChecked, each, every};
-ghost use Rattle.bouquet_file.specs.Checks.{cost_in, plans_in, plan_fits, contour_fits, first_with_text, plan_here, contour_at};
+ghost use Rattle.bouquet_file.specs.Steps.{GivesChecked, each};
+ghost use Rattle.bouquet_file.specs.Checks.{cost_in, plan_fits, contour_fits, first_with_text, plan_here, contour_at};
+ghost use Rattle.bouquet_file.specs.Parts.{contour_seen, HasTexts};
 
 use crate::fault::{FieldPath, OpenFault};
 use crate::values::{Members, ObjectKind, decimal_number, list_at, need, object_of, text_at};
@@ -19,6 +20,15 @@ use serde_json::Value;
 use sql_values::{MAX_CONTOUR_COST, MAX_POINTS};
 use std::alloc::{AllocError, Global};
 
+/// What stands in a contour of a file.
+#[derive(Drop)]
+pub(crate) struct ContourParts<'v> {
+    /// Its cost.
+    pub cost: u128,
+    /// The texts of its plans.
+    pub texts: Vec<&'v [u8]>,
+}
+
 // The cost of a contour.
 fn cost_in(members: &Members) -> Option<u128>
     ensures { result ≡ cost_in (members_view members.now.entries) }
@@ -26,57 +36,57 @@ fn cost_in(members: &Members) -> Option<u128>
     decimal_number(text_at(members, "cost")?)
 }
 
-// The texts of its plans.
-fn plans_in(members: &Members) -> Option<&[Value]>
-    ensures value { option_map (λ plans. items_view plans.now) result
-        ≡ plans_in (members_view members.now.entries) }
-    ensures some { IfSome result (λ plans. 1 ≤ length plans.now) }
-    ensures few { IfSome result (λ plans. length plans.now ≤ max_points) }
-{
-    list_at(members, "plans", 1, MAX_POINTS as usize)
-}
-
-// Refuses a plan that isn't a text.
-fn plan_fits(contour: u32, number: u32, value: &Value) -> Result<(), OpenFault>
-    ensures { result ≡ plan_fits contour number (view value.now) }
-{
-    need(value.as_str(), FieldPath::Plan(contour, number))?;
-    Ok(())
-}
-
-// Refuses the first plan of a contour that isn't a text.
-fn plans_fit(contour: u32, plans: &[Value]) -> Result<(), OpenFault>
+// The texts of the plans of a contour, or the first that isn't a text.
+fn texts_of<'v>(alloc: Global, contour: u32, plans: &'v [Value]) -> Result<Vec<&'v [u8]>, OpenFault>
     requires { length plans.now ≤ max_points }
-    ensures { result ≡ every (plan_fits contour) 1 (items_view plans.now) }
+    ensures texts { GivesChecked (λ texts. map (λ text. text.now) texts.items) result
+        (each (plan_fits contour) 1 (map view plans.now)) }
+    ensures count { IfOk result (λ texts. length texts.items ≡ length plans.now) }
 {
+    let mut texts = Vec::new(alloc);
     for (place, plan) in plans.iter().enumerate() {
-        plan_fits(contour, place as u32 + 1, plan)?;
+        let text = need(plan.as_str(), FieldPath::Plan(contour, place as u32 + 1))?;
+        texts.push(text.as_bytes())?;
     }
-    Ok(())
+    Ok(texts)
 }
 
-// Refuses the first value of the contour of this number, from 1, that doesn't fit.
-fn contour_fits(number: u32, value: &Value) -> Result<(), OpenFault>
-    ensures { result ≡ contour_fits number (view value.now) }
+// What stands in the contour of this number, from 1, or the first value of it that doesn't fit.
+fn contour_fits<'v>(
+    alloc: Global,
+    number: u32,
+    value: &'v Value,
+) -> Result<ContourParts<'v>, OpenFault>
+    ensures parts { GivesChecked contour_seen result (contour_fits number (view value.now)) }
+    ensures texts { IfOk result HasTexts }
 {
     let members = need(
         object_of(value, ObjectKind::Contour),
         FieldPath::Contour(number),
     )?;
-    need(cost_in(members), FieldPath::Cost(number))?;
-    let plans = need(plans_in(members), FieldPath::Plans(number))?;
-    plans_fit(number, plans)
+    let cost = need(cost_in(members), FieldPath::Cost(number))?;
+    let plans = list_at(members, "plans", 1, MAX_POINTS as usize);
+    let plans = need(plans, FieldPath::Plans(number))?;
+    let texts = texts_of(alloc, number, plans)?;
+    Ok(ContourParts { cost, texts })
 }
 
-/// Refuses the first value of the contours that doesn't fit.
-pub(crate) fn contours_fit(contours: &[Value]) -> Result<(), OpenFault>
+/// What stands in the contours, or the first value of them that doesn't fit.
+pub(crate) fn contours_fit<'v>(
+    alloc: Global,
+    contours: &'v [Value],
+) -> Result<Vec<ContourParts<'v>>, OpenFault>
     requires { length contours.now ≤ max_contours }
-    ensures { result ≡ every contour_fits 1 (items_view contours.now) }
+    ensures parts { GivesChecked (λ parts. map contour_seen parts.items) result
+        (each contour_fits 1 (map view contours.now)) }
+    ensures texts { IfOk result (λ parts. All HasTexts parts.items) }
+    ensures count { IfOk result (λ parts. length parts.items ≡ length contours.now) }
 {
+    let mut parts = Vec::new(alloc);
     for (place, contour) in contours.iter().enumerate() {
-        contour_fits(place as u32 + 1, contour)?;
+        parts.push(contour_fits(alloc, place as u32 + 1, contour)?)?;
     }
-    Ok(())
+    Ok(parts)
 }
 
 // The plan of the block that has this text.
@@ -105,14 +115,13 @@ fn plan_here(
     block: &Block,
     contour: u32,
     number: u32,
-    value: &Value,
+    text: &[u8],
 ) -> Result<Plan, OpenFault>
     ensures plan { GivesChecked plan_tree result
-        (plan_here (block_tree block.now) contour number (view value.now)) }
+        (plan_here (block_tree block.now) contour number text.now) }
     ensures is_plan { IfOk result (λ p. IsPlan (block_tree block.now) (plan_tree p)) }
 {
-    let text = need(value.as_str(), FieldPath::Plan(contour, number))?;
-    match plan_with_text(alloc, block, text.as_bytes())? {
+    match plan_with_text(alloc, block, text)? {
         Some(plan) => Ok(plan),
         None => Err(OpenFault::NotAPlan {
             contour,
@@ -126,11 +135,11 @@ fn plans_of(
     alloc: Global,
     block: &Block,
     contour: u32,
-    texts: &[Value],
+    texts: &[&[u8]],
 ) -> Result<Vec<Plan>, OpenFault>
     requires { length texts.now ≤ max_points }
     ensures plans { GivesChecked (λ plans. map plan_tree plans.items) result
-        (each (plan_here (block_tree block.now) contour) 1 (items_view texts.now)) }
+        (each (plan_here (block_tree block.now) contour) 1 (map (λ text. text.now) texts.now)) }
     ensures count { IfOk result (λ plans. length plans.items ≡ length texts.now) }
     ensures are_plans { IfOk result
         (λ plans. All (λ p. IsPlan (block_tree block.now) (plan_tree p)) plans.items) }
@@ -147,38 +156,38 @@ fn contour_at(
     alloc: Global,
     block: &Block,
     number: u32,
-    value: &Value,
+    parts: &ContourParts<'_>,
 ) -> Result<Contour, OpenFault>
+    requires { HasTexts parts.now }
     ensures contour { GivesChecked contour_tree result
-        (contour_at (block_tree block.now) number (view value.now)) }
+        (contour_at (block_tree block.now) number (contour_seen parts.now)) }
     ensures is_contour { IfOk result (IsContour (block_tree block.now)) }
 {
-    let members = need(value.as_object(), FieldPath::Contour(number))?;
-    let cost = need(cost_in(members), FieldPath::Cost(number))?;
+    let cost = parts.cost;
     if cost > MAX_CONTOUR_COST {
         return Err(OpenFault::BudgetLimit { contour: number });
     }
-    let texts = need(plans_in(members), FieldPath::Plans(number))?;
-    let plans = plans_of(alloc, block, number, texts)?;
+    let plans = plans_of(alloc, block, number, parts.texts.as_slice())?;
     Ok(Contour { cost, plans })
 }
 
-/// The contours of a file, with their costs and plans, where all of them fit.
+/// The contours of a file, with their costs and plans.
 pub(crate) fn contours_of(
     alloc: Global,
     block: &Block,
-    values: &[Value],
+    parts: &[ContourParts<'_>],
 ) -> Result<Vec<Contour>, OpenFault>
-    requires { length values.now ≤ max_contours }
+    requires few { length parts.now ≤ max_contours }
+    requires texts { All HasTexts parts.now }
     ensures contours { GivesChecked (λ contours. map contour_tree contours.items) result
-        (each (contour_at (block_tree block.now)) 1 (items_view values.now)) }
-    ensures count { IfOk result (λ contours. length contours.items ≡ length values.now) }
+        (each (contour_at (block_tree block.now)) 1 (map contour_seen parts.now)) }
+    ensures count { IfOk result (λ contours. length contours.items ≡ length parts.now) }
     ensures are_contours { IfOk result
         (λ contours. All (IsContour (block_tree block.now)) contours.items) }
 {
     let mut contours = Vec::new(alloc);
-    for (place, value) in values.iter().enumerate() {
-        contours.push(contour_at(alloc, block, place as u32 + 1, value)?)?;
+    for (place, one) in parts.iter().enumerate() {
+        contours.push(contour_at(alloc, block, place as u32 + 1, one)?)?;
     }
     Ok(contours)
 }

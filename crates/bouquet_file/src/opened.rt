@@ -13,7 +13,6 @@ use crate::parts::parts_of;
 use crate::relations::check_counts;
 use bouquet_type::Bouquet;
 use cost_model::Stats;
-use ess_grid::Grid;
 use query_block::Block;
 use serde_json::{Category, Value};
 use std::alloc::Global;
@@ -50,13 +49,10 @@ pub fn from_bytes(
 {
     let file = value_of(alloc, bytes)?;
     let parts = parts_of(alloc, &file, &block)?;
-    if parts.query.as_bytes() != query {
+    if parts.query != query {
         return Err(OpenFault::OtherQuery);
     }
     check_counts(parts.counts.as_slice(), stats.relations.as_slice())?;
-    let contours = contours_of(alloc, &block, parts.contours)?;
-    let Ok(grid) = Grid::new(block.axes(), Some(parts.levels)) else {
-        unreachable!()
-    };
-    Ok(Bouquet::new(block, stats, grid, parts.threshold, contours))
+    let contours = contours_of(alloc, &block, parts.contours.as_slice())?;
+    Ok(Bouquet::new(block, stats, parts.grid, parts.threshold, contours))
 }

@@ -1,7 +1,7 @@
 // What a file says was counted of the relations, and whether it is what is counted now.
-ghost use Rattle.std.specs.Prelude.{◌≡◌, ◌≤◌, IfOk, length};
+ghost use Rattle.std.specs.Prelude.{◌≡◌, ◌≤◌, IfOk, length, map};
 ghost use Rattle.sql_values.specs.Limits.{max_relations};
-ghost use Rattle.serde_json.specs.View.{view, items_view};
+ghost use Rattle.serde_json.specs.View.{view};
 ghost use Rattle.cost_model.specs.Staleness.{RefusesFirst};
 ghost use Rattle.bouquet_file.specs.Steps.{GivesChecked, each};
 ghost use Rattle.bouquet_file.specs.Checks.{counts_at, changed_in, changed_counts};
@@ -55,7 +55,7 @@ fn counts_at(number: u32, value: &Value) -> Result<KeptCounts, OpenFault>
 pub(crate) fn all_counts(alloc: Global, relations: &[Value]) -> Result<Vec<KeptCounts>, OpenFault>
     requires { length relations.now ≤ max_relations }
     ensures counts { GivesChecked (λ counts. counts.items) result
-        (each counts_at 1 (items_view relations.now)) }
+        (each counts_at 1 (map view relations.now)) }
     ensures count { IfOk result (λ counts. length counts.items ≡ length relations.now) }
 {
     let mut counts = Vec::new(alloc);

@@ -1,7 +1,8 @@
 // What stands in a value of a file. Nothing here takes memory.
-ghost use Rattle.std.specs.Prelude.{◌≡◌, ◌≤◌, IfSome, is_some, length, option_map};
+ghost use Rattle.std.specs.Prelude.{◌≡◌, ◌≤◌, IfSome, bytes_eq, is_some, length, map, option_map};
+ghost use Rattle.std.specs.List.{list_all, list_any};
 ghost use Rattle.serde_json.specs.Find.{get_member};
-ghost use Rattle.serde_json.specs.View.{view, items_view, members_view};
+ghost use Rattle.serde_json.specs.View.{view, members_view};
 ghost use Rattle.bouquet_file.specs.Steps.{need};
 ghost use Rattle.bouquet_file.specs.Values.{unsigned, within, string_of, list_within, is_key, has_only, has_all, object_of, decimal_number};
 
@@ -68,7 +69,7 @@ pub(crate) fn text_at<'v>(members: &'v Members, key: &str) -> Option<&'v str>
     member(members, key)?.as_str()
 }
 
-#[tactic(auto, using(crate::proofs::Lists::counted_items))]
+#[tactic(auto, using(crate::proofs::Lists::listed_items, crate::proofs::Lists::counted_items))]
 /// The value of a key, where it is a list of at least, and at most so many items.
 pub(crate) fn list_at<'v>(
     members: &'v Members,
@@ -76,7 +77,7 @@ pub(crate) fn list_at<'v>(
     least: usize,
     most: usize,
 ) -> Option<&'v [Value]>
-    ensures value { option_map (λ items. items_view items.now) result
+    ensures value { option_map (λ items. map view items.now) result
         ≡ list_within least most (get_member key.now (members_view members.now.entries)) }
     ensures least { IfSome result (λ items. least ≤ length items.now) }
     ensures most { IfSome result (λ items. length items.now ≤ most) }
@@ -89,21 +90,34 @@ pub(crate) fn list_at<'v>(
     }
 }
 
+static FILE_KEYS: [&str; 6] = [
+    "bouquet",
+    "query",
+    "levels",
+    "threshold",
+    "relations",
+    "contours",
+];
+
+static RELATION_KEYS: [&str; 3] = ["rows", "kept", "indexes"];
+
+static CONTOUR_KEYS: [&str; 2] = ["cost", "plans"];
+
+// Whether a text is one of these keys.
+fn is_among(text: &str, keys: &[&str]) -> bool
+    ensures { result ≡ list_any (λ key. bytes_eq text.now key.now) keys.now }
+{
+    keys.iter().any(|key| text == *key)
+}
+
 // Whether a text is a key of an object of this kind.
 fn is_key(kind: ObjectKind, text: &str) -> bool
     ensures { result ≡ is_key kind text.now }
 {
     match kind {
-        ObjectKind::File => {
-            text == "bouquet"
-                || text == "query"
-                || text == "levels"
-                || text == "threshold"
-                || text == "relations"
-                || text == "contours"
-        }
-        ObjectKind::Relation => text == "rows" || text == "kept" || text == "indexes",
-        ObjectKind::Contour => text == "cost" || text == "plans",
+        ObjectKind::File => is_among(text, &FILE_KEYS),
+        ObjectKind::Relation => is_among(text, &RELATION_KEYS),
+        ObjectKind::Contour => is_among(text, &CONTOUR_KEYS),
     }
 }
 
@@ -120,11 +134,12 @@ pub(crate) fn has_only(members: &Members, kind: ObjectKind) -> bool
     true
 }
 
-// Whether it has this key.
-fn has(members: &Members, key: &str) -> bool
-    ensures { result ≡ is_some (get_member key.now (members_view members.now.entries)) }
+// Whether it has each of these keys.
+fn has_each(members: &Members, keys: &[&str]) -> bool
+    ensures { result ≡ list_all
+        (λ key. is_some (get_member key.now (members_view members.now.entries))) keys.now }
 {
-    member(members, key).is_some()
+    keys.iter().all(|key| member(members, key).is_some())
 }
 
 // Whether it has each key of its kind.
@@ -132,18 +147,9 @@ fn has_all(members: &Members, kind: ObjectKind) -> bool
     ensures { result ≡ has_all kind (members_view members.now.entries) }
 {
     match kind {
-        ObjectKind::File => {
-            has(members, "bouquet")
-                && has(members, "query")
-                && has(members, "levels")
-                && has(members, "threshold")
-                && has(members, "relations")
-                && has(members, "contours")
-        }
-        ObjectKind::Relation => {
-            has(members, "rows") && has(members, "kept") && has(members, "indexes")
-        }
-        ObjectKind::Contour => has(members, "cost") && has(members, "plans"),
+        ObjectKind::File => has_each(members, &FILE_KEYS),
+        ObjectKind::Relation => has_each(members, &RELATION_KEYS),
+        ObjectKind::Contour => has_each(members, &CONTOUR_KEYS),
     }
 }
 

@@ -1,8 +1,5 @@
 pub mod SomePlan
 pub mod Extremes
-pub mod Places
-pub mod Beyond
-pub mod FrontierPoints
 pub mod Reduced
 pub mod Doubling
 pub mod Soundness

@@ -10,12 +10,11 @@ use Rattle.cost_model.specs.Optimal.{optimal_cost}
 use Rattle.cost_model.specs.Frontier.{frontier}
 use Rattle.cost_model.specs.Greedy.{greedy}
 use Rattle.cost_model.proofs.BestPlans.{best-there}
-use Rattle.cost_model.proofs.Frontiers.{frontier-above}
+use Rattle.cost_model.proofs.Frontiers.{frontier-above, frontier-few}
 use Rattle.bouquet_type.specs.declared.contour.Contour.{Contour}
 use Rattle.contours.specs.Contours.{IsReduced}
 use Rattle.cost_model.proofs.Covers.{greedy-covers, greedy-best, greedy-few}
 use Rattle.contours.proofs.SomePlan.{some-plan}
-use Rattle.contours.proofs.FrontierPoints.{frontier-few}
 
 contained-some : {X : Type 0} (xs : List X) (x : X) → Contains xs x → 1 ≤ length xs
 contained-some xs x is = omega (arith, is.1)

@@ -1,2 +1,1 @@
-pub mod Outlook
 pub mod Contours

@@ -6,11 +6,10 @@ ghost use Rattle.cost_model.specs.Costing.{costing_tree};
 ghost use Rattle.cost_model.specs.Optimal.{optimal_cost};
 ghost use Rattle.contours.specs.Contours.{AreContours, IsReduced};
 
-use crate::frontier::frontier;
-use crate::outlook::Outlook;
 use anorexic::reduce;
 use bouquet_type::Contour;
 use cost_model::Costing;
+use plan_space::Outlook;
 use std::alloc::{AllocError, Global};
 
 // The contour of this cost.
@@ -26,7 +25,7 @@ fn contour(
     ensures cost { IfOk result (λ contour. contour.cost ≡ cost) }
     ensures reduced { IfOk result (IsReduced (costing_tree outlook.now) threshold) }
 {
-    let points = frontier(alloc, outlook, cost)?;
+    let points = outlook.frontier(alloc, cost)?;
     let plans = reduce(alloc, outlook.costing(), &points, threshold)?;
     Ok(Contour { cost, plans })
 }
@@ -41,6 +40,7 @@ fn contours_by(
     ensures { IfOk result (λ contours.
         AreContours (costing_tree outlook.now) threshold contours.items) }
 {
+    let _costing = outlook.costing();
     let top = outlook.top_cost();
     let bottom = outlook.bottom_cost();
     let mut cost = bottom;

@@ -6,9 +6,7 @@
 
 mod compiled;
 mod contours;
-mod frontier;
 mod law;
-mod outlook;
 
 pub use compiled::compile;
 pub use law::compiled_bouquets_are_sound;

@@ -1,14 +1,16 @@
--- From a point within a contour's cost steps up come to a point of its frontier.
-use Rattle.std.proofs.Common.{◌≡◌, inl, inr, ℕ, zero, suc, ◌+◌, ◌-◌, ◌*◌, ◌≤◌, List, ap, subst, arith, sum}
+-- From a point within a contour's cost steps up come to a point of its frontier, which has no more points than the grid.
+use Rattle.std.proofs.Common.{◌≡◌, inl, inr, ℕ, zero, suc, ◌+◌, ◌-◌, ◌*◌, ◌≤◌, List, length, ap, subst, arith, sum}
 use Rattle.std.specs.Prelude.{Contains, slice_index, true, false, not, nat_lt, filter}
 use Rattle.std.specs.List.{list_any, range_with_len}
 use Rattle.std.proofs.lemmas.Bool.{cases_Bool, and_from, ltb-true, le-leb}
+use Rattle.std.proofs.lemmas.List.Sums.{length-filter, count_by-le-length}
 use Rattle.std.proofs.lemmas.Option.{slice_get_within, get_or_from_slice_get}
+use Rattle.sql_values.specs.Limits.{max_points}
 use Rattle.ess_grid.specs.Points.{GridShape, IsGrid, IsPoint, points_of}
 use Rattle.ess_grid.specs.Order.{PointBelow, next_point, successors}
 use Rattle.ess_grid.proofs.PointsAmong.{place_at}
 use Rattle.ess_grid.proofs.PointOrder.{PointBelow-refl, PointBelow-trans, PointBelow-next_point}
-use Rattle.ess_grid.proofs.GridPoints.{IsPoint-next_point, sum-next_point, sum-below, slice_get-place_at}
+use Rattle.ess_grid.proofs.GridPoints.{IsPoint-next_point, sum-next_point, sum-below, slice_get-place_at, length-points_of}
 use Rattle.plan_tree.proofs.Members.{IsIn, in-contained, contained-in, of-map, of-filter, in-filter, of-range, of-any}
 use Rattle.cost_model.specs.Costing.{CostingTree}
 use Rattle.cost_model.specs.Optimal.{optimal_cost}
@@ -86,3 +88,9 @@ pub frontier-above : (costing : CostingTree) (cost : ℕ) (point : List ℕ) →
 frontier-above costing cost point is_grid is_point within =
     let found = climb costing cost (costing.grid.axes * (costing.grid.levels - 1)) point is_grid is_point (le-leb _ _ within) (omega arith) in
     (found.0, contained-in found.0 (frontier costing cost) found.1, found.2)
+
+-- a frontier has no more points than the grid
+pub frontier-few : (costing : CostingTree) (cost : ℕ) → IsGrid costing.grid → length (frontier costing cost) ≤ max_points
+unfolding frontier
+frontier-few costing cost is =
+    omega (arith, length-filter (is_on_frontier costing cost) (points_of costing.grid), count_by-le-length (is_on_frontier costing cost) (points_of costing.grid), length-points_of costing.grid, is.few_points)

@@ -7,6 +7,7 @@ pub mod Costs
 pub mod Best
 pub mod Optimal
 pub mod Frontier
+pub mod FrontierPoints
 pub mod Greedy
 pub mod Rounding
 pub mod Few

@@ -1,7 +1,7 @@
 //! What plans cost: the exact counts of a block's tables, how many rows each set of relations is taken to give at a
 //! point of the grid (its card), what each node of a plan costs by itself there (its price), and the cost of each plan.
 //! The definitions of the exact counts, of the optimal cost and the best plan, of frontiers and of greedy reduction stand
-//! here too.
+//! here too, and a point of a frontier with its best plan, as plain data.
 //! To the layers above it promises that `card`, `cost` and `own` are exactly those of the definitions, rounded up and
 //! without loss of a bit, that cards and costs grow with selectivity, and that a plan costs the sum of its nodes' prices.
 //! It never reads a table, never looks for a plan, and never takes memory.
@@ -9,6 +9,7 @@
 
 mod arithmetic;
 mod costing;
+mod frontier_point;
 mod law;
 mod own;
 mod plan_cost;
@@ -19,6 +20,7 @@ mod stale;
 mod stats;
 
 pub use costing::Costing;
+pub use frontier_point::FrontierPoint;
 pub use law::{
     a_card_is_rounded_once, cards_see_the_set_alone, costs_are_bounded, costs_are_sums,
     costs_grow_with_selectivity, frontiers_lie_above, greedy_plans_cover_all_points,

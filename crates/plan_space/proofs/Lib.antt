@@ -6,3 +6,6 @@ pub mod LookedUp
 pub mod Places
 pub mod Followed
 pub mod Rows
+pub mod ByPlaces
+pub mod Beyond
+pub mod FrontierPoints

@@ -4,7 +4,8 @@ use Rattle.std.proofs.lemmas.Result.{IfOk-weaker}
 use Rattle.plan_tree.specs.Plans.{plan_tree}
 use Rattle.cost_model.specs.Costing.{costing_tree}
 use Rattle.cost_model.specs.Greedy.{greedy}
-use Rattle.anorexic.specs.Frontiers.{plan_at, frontier_points}
+use Rattle.cost_model.specs.FrontierPoints.{frontier_points}
+use Rattle.anorexic.specs.Frontiers.{plan_at}
 use Rattle.anorexic.specs.Turns.{cover_row, IsCoverTable}
 use Rattle.anorexic.proofs.Frontier.{plans-fit}
 use Rattle.anorexic.proofs.Table.{table-long}

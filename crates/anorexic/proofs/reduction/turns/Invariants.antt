@@ -1,7 +1,8 @@
 use Rattle.std.proofs.Common.{◌≡◌, ℕ, ◌-◌, ◌<◌, ◌++◌, All, length, map}
 use Rattle.cost_model.specs.Costing.{CostingTree}
 use Rattle.cost_model.specs.Greedy.{greedy_turns}
-use Rattle.anorexic.specs.Frontiers.{frontier_points, plan_at, point_at_place}
+use Rattle.cost_model.specs.FrontierPoints.{frontier_points}
+use Rattle.anorexic.specs.Frontiers.{plan_at, point_at_place}
 use Rattle.anorexic.specs.Turns.{IsCoverTable}
 use Rattle.anorexic.proofs.reduction.turns.Given as goal
 

@@ -8,7 +8,7 @@ use Rattle.bouquet_file.proofs.contours.plans_of.Given as goal
 
 abbrev pub invariant-loop-place : goal.invariant-loop-place
 invariant-loop-place l = record {
-  walked : Walked (plan_here (block_tree l.block) l.contour) l.texts l.place (map plan_tree l.plans.items);
+  walked : Walked (λ text. text.now) (plan_here (block_tree l.block) l.contour) l.texts l.place (map plan_tree l.plans.items);
   count : length l.plans.items ≡ l.place;
   are_plans : All (λ p. IsPlan (block_tree l.block) (plan_tree p)) l.plans.items;
 }

@@ -1,16 +1,16 @@
-use Rattle.std.proofs.Common.{◌≡◌, ◌∙◌, sym, ap, ap₂, map}
+use Rattle.std.proofs.Common.{◌∙◌, sym, ap, ap₂, map}
 use Rattle.std.proofs.lemmas.Result.{IfOk-weaker}
-use Rattle.serde_json.specs.View.{view, items_of}
+use Rattle.serde_json.specs.View.{items_of}
 use Rattle.bouquet_type.specs.Trees.{contour_tree}
 use Rattle.bouquet_file.specs.Written.{contour_value, relation_value, file_with}
-use Rattle.bouquet_file.proofs.Lists.{seen_twice}
+use Rattle.std.proofs.lemmas.Simd.{map-map}
 use Rattle.bouquet_file.proofs.written.file_value.Goals as goal
 
 pub returns : goal.returns
 returns c =
     let query = c.args.query.now in
     let bouquet = c.args.bouquet.now in
-    let contours = c.in_ok-contours.ensures ∙ ap (map (λ contour. contour_value (contour_tree contour))) c.contours.ensures.contours ∙ sym (seen_twice contour_value contour_tree bouquet.contours) in
+    let contours = c.in_ok-contours.ensures ∙ ap (map (λ contour. contour_value (contour_tree contour))) c.contours.ensures.contours ∙ sym (map-map contour_value contour_tree bouquet.contours) in
     let relations = c.in_ok-relations.ensures ∙ ap (map relation_value) (c.as_slice.ensures ∙ ap (λ stats. stats.relations) c.stats.ensures) in
     let levels = c.levels-levels.ensures.levels ∙ ap (λ grid. grid.levels) c.grid.ensures in
     IfOk-weaker c.file_with.result _ _ (λ value built. built

@@ -1,24 +1,15 @@
-use Rattle.std.proofs.Common.{◌≡◌, ◌∙◌, All, length, ap, arith, subst, sym}
-use Rattle.std.proofs.lemmas.List.{length-map}
+use Rattle.std.proofs.Common.{◌≡◌, ◌∙◌, ap, subst, sym}
 use Rattle.cost_model.specs.Costing.{CostingShape, costing_tree}
 use Rattle.cost_model.specs.Frontier.{frontier}
 use Rattle.cost_model.specs.Greedy.{greedy}
-use Rattle.anorexic.specs.declared.frontier_point.FrontierPoint.{FrontierPoint}
-use Rattle.anorexic.specs.Frontiers.{IsFrontierPoint, IsFrontier, frontier_points}
-use Rattle.contours.proofs.FrontierPoints.{frontier-few}
+use Rattle.cost_model.specs.FrontierPoints.{IsFrontier, frontier_points}
 use Rattle.contours.proofs.Reduced.{is-reduced}
 use Rattle.contours.proofs.contours.contour.Goals as goal
 
 pub reduce-requires-clause-frontier : goal.reduce-requires-clause-frontier
 reduce-requires-clause-frontier c =
-    let costing = costing_tree c.args.outlook.now in
-    let points = c.deref.result.now in
-    let found : frontier_points points ≡ frontier costing c.args.cost = ap frontier_points c.deref.ensures.value ∙ c.in_ok-points.ensures.points in
-    let few = frontier-few costing c.args.cost c.costing.ensures.costing.grid in
-    subst (λ (one : CostingShape). IsFrontier (costing_tree one) points) (sym c.costing.ensures.same) (record {
-      each = subst (All (IsFrontierPoint costing)) (sym c.deref.ensures.value) c.in_ok-points.ensures.best;
-      few = omega (arith, length-map points (λ (at : FrontierPoint). at.point), ap length found, few);
-    })
+    subst (λ (one : CostingShape). IsFrontier (costing_tree one) c.deref.result.now) (sym c.costing.ensures.same)
+    (subst (IsFrontier (costing_tree c.args.outlook.now)) (sym c.deref.ensures.value) c.in_ok-points.ensures.frontier)
 
 pub returns-clause-reduced : goal.returns-clause-reduced
 returns-clause-reduced c =

@@ -20,16 +20,16 @@ loop-cost-init c =
     let first : contour_cost costing 1 ≡ optimal_cost costing (bottom_of costing.grid) = omega arith in
     record {
       first = subst (AreFirst costing c.args.threshold) (sym none) (first-none costing c.args.threshold);
-      cost = c.bottom_cost-bottom.ensures.cost ∙ sym first ∙ ap (contour_cost costing) (sym one);
+      cost = c.bottom_cost-bottom.ensures ∙ sym first ∙ ap (contour_cost costing) (sym one);
       below = λ other below some. absurd (omega (arith, below, some, one));
-      some = omega (arith, c.bottom_cost-bottom.ensures.cost);
-      few = omega (arith, c.bottom_cost-bottom.ensures.cost, optimal-below costing (bottom_of costing.grid) c.bottom_cost-bottom.ensures.costing);
+      some = omega (arith, c.bottom_cost-bottom.ensures);
+      few = omega (arith, c.bottom_cost-bottom.ensures, optimal-below costing (bottom_of costing.grid) c.costing-costing.ensures.costing);
     }
 
 pub loop-cost-smaller : goal.loop-cost-smaller
 loop-cost-smaller c =
     let costing = costing_tree c.args.outlook.now in
-    omega (arith, c.loop-cost-test.true, c.loop-cost.invariant.some, optimal-some costing (bottom_of costing.grid) c.bottom_cost-bottom.ensures.costing)
+    omega (arith, c.loop-cost-test.true, c.loop-cost.invariant.some, optimal-some costing (bottom_of costing.grid) c.costing-costing.ensures.costing)
 
 pub loop-cost-preserved : goal.loop-cost-preserved
 loop-cost-preserved c =
@@ -54,7 +54,7 @@ loop-cost-preserved c =
                 subst (λ n. contour_cost costing n < top) (sym same) here
           ];
       some = omega (arith, c.loop-cost.invariant.some);
-      few = omega (arith, c.loop-cost-test.true, c.top_cost-top.ensures, optimal-below costing (top_of costing.grid) c.bottom_cost-bottom.ensures.costing);
+      few = omega (arith, c.loop-cost-test.true, c.top_cost-top.ensures, optimal-below costing (top_of costing.grid) c.costing-costing.ensures.costing);
     }
 
 pub returns : goal.returns
@@ -62,5 +62,5 @@ returns c =
     let costing = costing_tree c.args.outlook.now in
     let cost = c.in_ok-last.ensures.cost in
     last-more costing c.args.threshold c.top_cost-top.result c.loop-cost.contours.items c.push-2.new.self.items c.in_ok-last.last
-    c.bottom_cost-bottom.ensures.costing c.loop-cost.invariant.first c.in_ok-push-2.ensures.items c.in_ok-last.ensures.reduced (cost ∙ c.loop-cost.invariant.cost)
+    c.costing-costing.ensures.costing c.loop-cost.invariant.first c.in_ok-push-2.ensures.items c.in_ok-last.ensures.reduced (cost ∙ c.loop-cost.invariant.cost)
     c.loop-cost.invariant.below c.top_cost-top.ensures (omega (arith, cost, c.loop-cost-test.false))

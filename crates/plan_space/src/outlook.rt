@@ -1,25 +1,24 @@
-// What is worked out once for all contours.
-ghost use Rattle.std.specs.Prelude.{◌≡◌, ◌+◌, ◌<◌, ◌≤◌, [], IfOk, Some, length, nat_lt, slice_index, slice_index_or, if◌then◌else◌};
+// The frontiers of a block: what is worked out once for all costs, and the points of each frontier.
+ghost use Rattle.std.specs.Prelude.{◌≡◌, ℕ, ◌+◌, ◌<◌, ◌≤◌, List, IfOk, Some, length, nat_lt, slice_index, if◌then◌else◌};
 ghost use Rattle.sql_values.specs.Limits.{max_contour_cost};
-ghost use Rattle.ess_grid.specs.Points.{IsPoint, points_of, point_at, bottom_of, top_of};
+ghost use Rattle.ess_grid.specs.Points.{IsGrid, IsPoint, points_of, point_at, bottom_of, top_of};
 ghost use Rattle.ess_grid.specs.Order.{next_point};
 ghost use Rattle.cost_model.specs.Costing.{costing_tree, IsCosting};
 ghost use Rattle.cost_model.specs.Optimal.{optimal_cost};
-ghost use Rattle.cost_model.specs.Frontier.{is_on_frontier};
-ghost use Rattle.anorexic.specs.Frontiers.{IsFrontierPoint};
-ghost use Rattle.contours.specs.Outlook.{past_all_costs, cost_beyond, optimal_costs, costs_beyond};
+ghost use Rattle.cost_model.specs.Frontier.{is_on_frontier, frontier};
+ghost use Rattle.cost_model.specs.FrontierPoints.{IsFrontierPoint, IsFrontier, frontier_points};
+ghost use Rattle.plan_space.specs.Outlook.{past_all_costs, cost_beyond, optimal_costs, costs_beyond};
 
-use anorexic::FrontierPoint;
-use cost_model::Costing;
+use crate::all_points::{BestPlans, best_at_all_points};
+use cost_model::{Costing, FrontierPoint};
 use ess_grid::Point;
-use plan_space::{BestPlans, best_at_all_points};
 use std::alloc::{AllocError, Global};
 use std::marker::Model;
 
 /// The best plans of a costing's block, and the costs that decide which points are on which frontier, all by the places of
 /// points.
 #[derive(Drop)]
-pub(crate) struct Outlook<'c> {
+pub struct Outlook<'c> {
     costing: &'c Costing<'c>,
     best: BestPlans<'c>,
     // The optimal cost at each point.
@@ -32,7 +31,7 @@ impl<'c> Model for Outlook<'c> {
     ghost use Rattle.query_block.specs.contracts.condition.Condition as condition;
     ghost use Rattle.std.specs.Coded.{codes};
     ghost use Rattle.cost_model.specs.Costing.{CostingShape};
-    ghost use Rattle.contours.specs.Outlook.{IsOutlook};
+    ghost use Rattle.plan_space.specs.Outlook.{IsOutlook};
 
     ghost Value = { CostingShape };
 
@@ -108,8 +107,8 @@ fn costs_beyond(
 }
 
 impl<'c> Outlook<'c> {
-    /// That of a costing.
-    pub(crate) fn new(alloc: Global, costing: &'c Costing<'c>) -> Result<Outlook<'c>, AllocError>
+    /// That of a costing. An error is want of memory.
+    pub fn new(alloc: Global, costing: &'c Costing<'c>) -> Result<Outlook<'c>, AllocError>
         ensures { IfOk result (λ outlook. outlook ≡ costing.now) }
     {
         let _block = costing.block();
@@ -125,52 +124,57 @@ impl<'c> Outlook<'c> {
     }
 
     /// The costing.
-    pub(crate) fn costing(&self) -> &Costing<'c>
+    pub fn costing(&self) -> &Costing<'c>
         ensures same { result.now ≡ self.now }
         ensures costing { IsCosting (costing_tree self.now) }
     {
         self.costing
     }
 
-    /// How many points the grid has.
-    pub(crate) fn points(&self) -> usize
-        ensures { result ≡ length (points_of self.now.grid) }
+    // How many points the grid has.
+    fn points(&self) -> usize
+        ensures count { result ≡ length (points_of self.now.grid) }
+        ensures grid { IsGrid self.now.grid }
     {
         self.costing.grid().points()
     }
 
+    /// The optimal cost at the point at this place of the grid, from 0.
+    pub fn cost(&self, place: usize) -> u128
+        requires { place < length (points_of self.now.grid) }
+        ensures { (point : List ℕ) → point_at self.now.grid place ≡ Some point →
+            result ≡ optimal_cost (costing_tree self.now) point }
+    {
+        self.costs[place]
+    }
+
     /// The optimal cost at the bottom of the grid.
-    pub(crate) fn bottom_cost(&self) -> u128
-        ensures cost { result ≡ optimal_cost (costing_tree self.now) (bottom_of self.now.grid) }
-        ensures costing { IsCosting (costing_tree self.now) }
+    pub fn bottom_cost(&self) -> u128
+        ensures { result ≡ optimal_cost (costing_tree self.now) (bottom_of self.now.grid) }
     {
         prove!(self.costing.grid().points() > 0);
         self.costs[0]
     }
 
     /// The optimal cost at its top.
-    pub(crate) fn top_cost(&self) -> u128
+    pub fn top_cost(&self) -> u128
         ensures { result ≡ optimal_cost (costing_tree self.now) (top_of self.now.grid) }
     {
         self.costs[self.costing.grid().points() - 1]
     }
 
-    /// Whether the point at a place is on the frontier of a contour of this cost.
-    pub(crate) fn is_on_frontier(&self, cost: u128, place: usize) -> bool
+    /// Whether the point at this place of the grid, from 0, is on the frontier of a contour of this cost.
+    pub fn is_on_frontier(&self, cost: u128, place: usize) -> bool
         requires cost { cost ≤ max_contour_cost }
         requires place { place < length (points_of self.now.grid) }
-        ensures { result ≡ is_on_frontier (costing_tree self.now) cost
-            (slice_index_or (points_of self.now.grid) place []) }
+        ensures { (point : List ℕ) → point_at self.now.grid place ≡ Some point →
+            result ≡ is_on_frontier (costing_tree self.now) cost point }
     {
         self.costs[place] <= cost && cost < self.beyond[place]
     }
 
-    /// The point at a place with its best plan.
-    pub(crate) fn frontier_point(
-        &self,
-        alloc: Global,
-        place: usize,
-    ) -> Result<FrontierPoint, AllocError>
+    // The point at a place with its best plan.
+    fn frontier_point(&self, alloc: Global, place: usize) -> Result<FrontierPoint, AllocError>
         requires { place < length (points_of self.now.grid) }
         ensures point { IfOk result (λ at. point_at self.now.grid place ≡ Some at.point) }
         ensures best { IfOk result (IsFrontierPoint (costing_tree self.now)) }
@@ -179,5 +183,22 @@ impl<'c> Outlook<'c> {
         let plan = self.best.plan(alloc, place)?;
         let cost = self.costs[place];
         Ok(FrontierPoint { point, plan, cost })
+    }
+
+    /// The points of the frontier of a contour of this cost, in the grid's order, with their best plans. An error is want of
+    /// memory.
+    pub fn frontier(&self, alloc: Global, cost: u128) -> Result<Vec<FrontierPoint>, AllocError>
+        requires { cost ≤ max_contour_cost }
+        ensures points { IfOk result (λ found.
+            frontier_points found.items ≡ frontier (costing_tree self.now) cost) }
+        ensures frontier { IfOk result (λ found. IsFrontier (costing_tree self.now) found.items) }
+    {
+        let mut found = Vec::new(alloc);
+        for place in 0..self.points() {
+            if self.is_on_frontier(cost, place) {
+                found.push(self.frontier_point(alloc, place)?)?;
+            }
+        }
+        Ok(found)
     }
 }

@@ -2,9 +2,9 @@ use Rattle.std.proofs.Common.{◌∙◌, sym, ap}
 use Rattle.std.specs.Prelude.{slice_get}
 use Rattle.ess_grid.specs.Points.{points_of}
 use Rattle.cost_model.specs.Costing.{costing_tree}
-use Rattle.contours.specs.Outlook.{cost_beyond}
-use Rattle.contours.proofs.Places.{number-more}
-use Rattle.contours.proofs.outlook.costs_beyond.Goals as goal
+use Rattle.plan_space.specs.Outlook.{cost_beyond}
+use Rattle.plan_space.proofs.ByPlaces.{number-more}
+use Rattle.plan_space.proofs.outlook.costs_beyond.Goals as goal
 
 pub loop-place-preserved : goal.loop-place-preserved
 loop-place-preserved c =

@@ -3,8 +3,8 @@ use Rattle.std.specs.Prelude.{nat_lt, slice_index}
 use Rattle.ess_grid.specs.Order.{next_point}
 use Rattle.cost_model.specs.Costing.{costing_tree}
 use Rattle.cost_model.specs.Optimal.{optimal_cost}
-use Rattle.contours.proofs.Beyond.{least_up_to}
-use Rattle.contours.proofs.outlook.least_above.Given as goal
+use Rattle.plan_space.proofs.Beyond.{least_up_to}
+use Rattle.plan_space.proofs.outlook.least_above.Given as goal
 
 abbrev pub invariant-loop-axis : goal.invariant-loop-axis
 invariant-loop-axis l =
