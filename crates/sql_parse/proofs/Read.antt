@@ -8,8 +8,10 @@ use Rattle.sql_parse.specs.declared.mark.Mark.{Mark}
 use Rattle.sql_parse.specs.declared.mark.Mark.TheVariants as m
 use Rattle.sql_parse.specs.declared.tree.Term.TheVariants as term
 use Rattle.sql_parse.specs.Lexemes.{Lexeme, Word, Number, Text, Sign, mark, is_reserved}
+use Rattle.sql_parse.specs.Trees.{StatementTree}
 use Rattle.sql_parse.specs.Grammar.{Rule, IsName, Separated, InParentheses, IsColRef, IsInteger, IsTerm}
 use Rattle.sql_parse.specs.Reading.{Reader, ◌>>=◌, choose, same, after_mark, name_at, number_at, text_token_at, more_at, list_with_first, list_at, in_parentheses_at, colref_at, unsigned_at, integer_at, token_kind_at, operand_of_kind, operand_at}
+use Rattle.sql_parse.specs.Statements.{IsStatement}
 
 -- where there is a value, this holds of it
 abbrev pub IfFound : {A : Type 0} → (A → Type 0) → Option A → Type 0
@@ -191,3 +193,7 @@ in_parentheses-reads reads = record {
       then_after m.CloseParen x.1 _ _ (λ end closes.
       (mark m.OpenParen ∷ (inside.0 ++ mark m.CloseParen ∷ []), opens ∙ ap (λ all. mark m.OpenParen ∷ all) (also _ _ _ inside.1 closes), (inside.0, refl, inside.2)))));
 }
+
+-- a statement whose first keywords are read
+abbrev pub IsAfter : List Lexeme → Rule StatementTree
+IsAfter keywords tokens statement = IsStatement (keywords ++ tokens) statement

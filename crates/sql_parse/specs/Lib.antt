@@ -7,4 +7,5 @@ pub mod Counts
 pub mod WellFormed
 pub mod Reading
 pub mod Canonical
+pub mod Statements
 pub mod Printing
