@@ -150,9 +150,9 @@ sound-again (Comparison ops.Ge) sound = refl
 
 -- keywords and signs are sound
 
-keyword-sound : (word : List ℕ) → starts_word (slice_index word 0) ≡ true → list_all is_word_byte word ≡ true → nat_le (length word) 128 ≡ true
+pub word-sound : (word : List ℕ) → starts_word (slice_index word 0) ≡ true → list_all is_word_byte word ≡ true → nat_le (length word) 128 ≡ true
     → bytes_eq (word_value_of word) word ≡ true → IsSound (Word word)
-keyword-sound word starts all limit upper = (
+word-sound word starts all limit upper = (
   (starts, AllPass-from_list_all is_word_byte word all),
   grind (arith, nat_tests),
   (bytes_eq-Decides (word_value_of word) word).0 upper,
@@ -166,4 +166,4 @@ mark-sound m.Plus = (43, refl, refl)
 mark-sound m.Comma = (44, refl, refl)
 mark-sound m.Minus = (45, refl, refl)
 mark-sound m.Dot = (46, refl, refl)
-mark-sound other = keyword-sound _ refl refl refl refl
+mark-sound other = word-sound _ refl refl refl refl

@@ -8,27 +8,27 @@ pub mod Load
 pub mod Named
 pub mod OpenFile
 pub mod SaveFile
-use Rattle.std.proofs.Common.{◌≡◌, ◌≤◌, cond, eqb, List, [], ◌∷◌, ◌++◌, length, Option, Some, None, refl, sym, ap, subst, ◌∙◌, arith}
+use Rattle.std.proofs.Common.{ℕ, codes, ◌≡◌, ◌≤◌, cond, eqb, List, [], ◌∷◌, ◌++◌, length, Option, Some, None, refl, sym, ap, subst, ◌∙◌, arith}
 use Rattle.std.proofs.Math.Dec.{eqb-suc-zero}
 use Rattle.std.proofs.lemmas.List.{append-nil}
 use Rattle.sql_parse.specs.declared.mark.Mark.{Mark}
 use Rattle.sql_parse.specs.declared.mark.Mark.TheVariants as m
-use Rattle.sql_parse.specs.Lexemes.{Lexeme, mark}
+use Rattle.sql_parse.specs.Lexemes.{Word, Lexeme, mark}
 use Rattle.sql_parse.specs.Trees as tree
 use Rattle.sql_parse.specs.Trees.{QueryTree, StatementTree}
 use Rattle.sql_parse.specs.Counts.{predicates_of, operands_of, condition_of}
 use Rattle.sql_parse.specs.WellFormed.{IsWellFormed}
-use Rattle.sql_parse.specs.Reading.{Reader, ◌>>=◌, after_mark, name_at, select_at}
+use Rattle.sql_parse.specs.Reading.{after_word, Reader, ◌>>=◌, after_mark, name_at, select_at}
 use Rattle.sql_parse.specs.Statements.{IsStatement, create_at, productions, among, statement_at, statement_of, statement_parts}
 use Rattle.sql_parse.specs.Statements.CreateTable.{create_table_at}
 use Rattle.sql_parse.specs.Statements.CreateIndex.{create_index_at}
 use Rattle.sql_parse.specs.Statements.Named.{named_at}
-use Rattle.sql_parse.proofs.Read.{IfFound, found_weaker, IsRead, IsAfter, Reads, then_read, then_after, either_after}
+use Rattle.sql_parse.proofs.Read.{either_word, then_word, IfFound, found_weaker, IsRead, IsAfter, Reads, then_read, then_after, either_after}
 use Rattle.sql_parse.proofs.ReadQueries.{select-reads}
 use Rattle.sql_parse.proofs.AgainQueries.{select-again}
 use Rattle.sql_parse.proofs.PrintedForms.{IsPrintedBy}
 use Rattle.sql_parse.proofs.PrintedQueries.{select-printed}
-use Rattle.sql_parse.proofs.Sound.{EachSound}
+use Rattle.sql_parse.proofs.Sound.{word-sound, EachSound}
 use Rattle.sql_parse.proofs.SoundForms.{IsWritable, select-writable}
 use Rattle.sql_parse.proofs.CountedQueries.{IsCounted, select-counted, condition-few}
 use Rattle.sql_parse.proofs.WellFormedQueries.{query-well_formed}
@@ -43,21 +43,21 @@ use Rattle.sql_parse.proofs.Statements.SaveFile.{save_file-reads, save_file-agai
 
 -- what is read is written by the grammar
 
-create-reads : Reads (IsAfter (mark m.Create ∷ [])) create_at
+create-reads : Reads (IsAfter (Word (codes "CREATE") ∷ [])) create_at
 unfolding create_at
 create-reads = record {
   each = λ tokens.
       either_after m.Table tokens _ _ _
-      (then_after m.Index tokens _ _ (λ rest index.
-      found_weaker (IsRead (IsAfter (mark m.Create ∷ mark m.Index ∷ [])) rest) _ (create_index_at rest)
-      (λ statement form. (mark m.Index ∷ form.0, index ∙ ap (λ all. mark m.Index ∷ all) form.1, form.2)) (create_index-reads.each rest)))
-      (λ rest table. found_weaker (IsRead (IsAfter (mark m.Create ∷ mark m.Table ∷ [])) rest) _ (create_table_at rest)
+      (then_word (codes "INDEX") tokens _ _ (λ rest index.
+      found_weaker (IsRead (IsAfter (Word (codes "CREATE") ∷ Word (codes "INDEX") ∷ [])) rest) _ (create_index_at rest)
+      (λ statement form. (Word (codes "INDEX") ∷ form.0, index ∙ ap (λ all. Word (codes "INDEX") ∷ all) form.1, form.2)) (create_index-reads.each rest)))
+      (λ rest table. found_weaker (IsRead (IsAfter (Word (codes "CREATE") ∷ mark m.Table ∷ [])) rest) _ (create_table_at rest)
       (λ statement form. (mark m.Table ∷ form.0, table ∙ ap (λ all. mark m.Table ∷ all) form.1, form.2)) (create_table-reads.each rest));
 }
 
-abbrev AreRead : List (Mark × Reader StatementTree) → Type 0
+abbrev AreRead : List (List ℕ × Reader StatementTree) → Type 0
 AreRead [] = Unit {0}
-AreRead (production ∷ others) = Reads (IsAfter (mark production.0 ∷ [])) production.1 × AreRead others
+AreRead (production ∷ others) = Reads (IsAfter (Word production.0 ∷ [])) production.1 × AreRead others
 
 infixr 5 ◌&◌
 ◌&◌ : {A B : Type 0} → A → B → A × B
@@ -68,27 +68,27 @@ each-read =
     create-reads
     & load-reads
     & compile-reads
-    & named-reads m.Run tree.Run (λ tokens name form. form)
-    & named-reads m.Explain tree.Explain (λ tokens name form. form)
+    & named-reads (codes "RUN") tree.Run (λ tokens name form. form)
+    & named-reads (codes "EXPLAIN") tree.Explain (λ tokens name form. form)
     & save_file-reads
     & open_file-reads
     & audit-reads
     & tt
 
-after_keyword : (sign : Mark) (tokens rest : List Lexeme) (read : Option (StatementTree × List Lexeme)) → tokens ≡ mark sign ∷ rest
-    → IfFound (IsRead (IsAfter (mark sign ∷ [])) rest) read → IfFound (IsRead IsStatement tokens) read
-after_keyword sign tokens rest read first found =
-    found_weaker (IsRead (IsAfter (mark sign ∷ [])) rest) (IsRead IsStatement tokens) read
-    (λ statement form. (mark sign ∷ form.0, first ∙ ap (λ all. mark sign ∷ all) form.1, form.2)) found
+after_keyword : (word : List ℕ) (tokens rest : List Lexeme) (read : Option (StatementTree × List Lexeme)) → tokens ≡ Word word ∷ rest
+    → IfFound (IsRead (IsAfter (Word word ∷ [])) rest) read → IfFound (IsRead IsStatement tokens) read
+after_keyword word tokens rest read first found =
+    found_weaker (IsRead (IsAfter (Word word ∷ [])) rest) (IsRead IsStatement tokens) read
+    (λ statement form. (Word word ∷ form.0, first ∙ ap (λ all. Word word ∷ all) form.1, form.2)) found
 
-among-reads : (all : List (Mark × Reader StatementTree)) → AreRead all → (tokens : List Lexeme) → IfFound (IsRead IsStatement tokens) (among all tokens)
+among-reads : (all : List (List ℕ × Reader StatementTree)) → AreRead all → (tokens : List Lexeme) → IfFound (IsRead IsStatement tokens) (among all tokens)
 among-reads [] known tokens = then_read select-reads tokens _ _ (λ query form. form)
 among-reads (production ∷ others) known tokens =
-    either_after production.0 tokens _ _ _ (among-reads others known.1 tokens)
+    either_word production.0 tokens _ _ _ (among-reads others known.1 tokens)
     (λ rest first. after_keyword production.0 tokens rest _ first (known.0.each rest))
 
 statement-reads : Reads IsStatement statement_at
-unfolding statement_at
+unfolding statement_at after_word
 statement-reads = record { each = among-reads productions each-read }
 
 ended_by : (tokens : List Lexeme) (statement : StatementTree) (rest : List Lexeme) → IsRead IsStatement tokens (statement, rest)
@@ -109,11 +109,11 @@ statement_of-reads tokens = then_read statement-reads tokens _ _ (ended tokens)
 
 select-first : (tokens : List Lexeme) (query : QueryTree) → select_at tokens ≡ Some (query, []) → (rest : List Lexeme) → tokens ≡ mark m.Select ∷ rest
     → statement_at tokens ≡ Some (tree.Select query, [])
-unfolding statement_at after_mark
+unfolding statement_at after_mark after_word
 select-first tokens query found rest first = rw first (ap (λ read. read >>= λ query. Some (tree.Select query.0, query.1)) (ap select_at (sym first) ∙ found))
 
 statement-again : (tokens : List Lexeme) (statement : StatementTree) → IsStatement tokens statement → statement_at tokens ≡ Some (statement, [])
-unfolding statement_at named_at name_at after_mark
+unfolding statement_at named_at name_at after_mark after_word
 statement-again tokens (tree.CreateTable table) form = create_table-again tokens table form
 statement-again tokens (tree.CreateIndex index) form = create_index-again tokens index form
 statement-again tokens (tree.Load load) form = load-again tokens load form
@@ -141,8 +141,8 @@ statement-printed tokens (tree.CreateIndex index) form = create_index-printed to
 statement-printed tokens (tree.Load load) form = load-printed tokens load form
 statement-printed tokens (tree.Select query) form = select-printed tokens query form
 statement-printed tokens (tree.Compile name levels threshold query) form = compile-printed name levels threshold tokens query form
-statement-printed tokens (tree.Run name) form = named-printed m.Run tokens name form
-statement-printed tokens (tree.Explain name) form = named-printed m.Explain tokens name form
+statement-printed tokens (tree.Run name) form = named-printed (codes "RUN") tokens name form
+statement-printed tokens (tree.Explain name) form = named-printed (codes "EXPLAIN") tokens name form
 statement-printed tokens (tree.SaveFile save) form = save_file-printed tokens save form
 statement-printed tokens (tree.OpenFile name file query) form = open_file-printed name file tokens query form
 statement-printed tokens (tree.Audit audit) form = audit-printed tokens audit form
@@ -153,8 +153,8 @@ statement-writable tokens (tree.CreateIndex index) sound form = create_index-wri
 statement-writable tokens (tree.Load load) sound form = load-writable tokens load sound form
 statement-writable tokens (tree.Select query) sound form = select-writable tokens query sound form
 statement-writable tokens (tree.Compile name levels threshold query) sound form = compile-writable name levels threshold tokens query sound form
-statement-writable tokens (tree.Run name) sound form = named-writable m.Run (λ name. tt) tokens name sound form
-statement-writable tokens (tree.Explain name) sound form = named-writable m.Explain (λ name. tt) tokens name sound form
+statement-writable tokens (tree.Run name) sound form = named-writable (codes "RUN") (word-sound (codes "RUN") refl refl refl refl) tokens name sound form
+statement-writable tokens (tree.Explain name) sound form = named-writable (codes "EXPLAIN") (word-sound (codes "EXPLAIN") refl refl refl refl) tokens name sound form
 statement-writable tokens (tree.SaveFile save) sound form = save_file-writable tokens save sound form
 statement-writable tokens (tree.OpenFile name file query) sound form = open_file-writable name file tokens query sound form
 statement-writable tokens (tree.Audit audit) sound form = audit-writable tokens audit sound form

@@ -18,7 +18,7 @@ use Rattle.sql_values.specs.declared.op.Op.{Op}
 use Rattle.sql_values.specs.declared.op.Op.TheVariants as ops
 use Rattle.sql_parse.specs.declared.mark.Mark.TheVariants as m
 use Rattle.sql_parse.specs.Lexemes.{lexeme_of, lexemes}
-use Rattle.sql_parse.specs.Canonical.{Part, Fixed, Name, Number, Text, Operator, part_lexeme, spelled, lexeme_kind, joins_next, with_spaces, parts_text}
+use Rattle.sql_parse.specs.Canonical.{Part, Fixed, Keyword, Name, Number, Text, Operator, part_lexeme, spelled, lexeme_kind, joins_next, with_spaces, parts_text}
 use Rattle.sql_parse.proofs.PrintedForms.{tokens_of}
 use Rattle.sql_parse.proofs.Sound.{IsSound, sound-form, sound-limit, sound-again, decimal-digits, decimal-length}
 
@@ -125,6 +125,7 @@ stops (Fixed m.Comma) parts follows sound = refl
 stops (Fixed m.Dot) parts follows sound = refl
 stops (Fixed m.Minus) parts follows sound = minus-stops parts follows sound
 stops (Fixed other) parts follows sound = word-stops parts
+stops (Keyword upper) parts follows sound = word-stops parts
 stops (Name upper) parts follows sound = word-stops parts
 stops (Number n) parts follows sound = quiet-stops is_ascii_digit refl refl refl refl refl _ (next-quiet parts)
 stops (Text text) parts follows sound = quiet-stops (λ b. nat_eq b 39) refl refl refl refl refl _ (next-quiet parts)

@@ -19,8 +19,10 @@ use Rattle.sql_parse.specs.Trees.{ConditionTree, ConditionTrees, Compare, Betwee
 
 -- what canonical text is made of
 pub data Part : Type 0 where
-  -- a keyword or a sign
+  -- a keyword or a sign that productions share
   Fixed : Mark → Part
+  -- a keyword of one production
+  Keyword : (upper : List ℕ) → Part
   Name : (upper : List ℕ) → Part
   Number : (value : ℕ) → Part
   Text : (value : List ℕ) → Part
@@ -29,6 +31,7 @@ pub data Part : Type 0 where
 -- the token that a part is
 abbrev pub part_lexeme : Part → Lexeme
 part_lexeme (Fixed keyword) = mark keyword
+part_lexeme (Keyword upper) = lexeme.Word upper
 part_lexeme (Name upper) = lexeme.Word upper
 part_lexeme (Number n) = lexeme.Number n
 part_lexeme (Text text) = lexeme.Text text

@@ -69,6 +69,11 @@ unfoldable pub after_mark : Mark → List Lexeme → Option (List Lexeme)
 after_mark sign [] = None
 after_mark sign (first ∷ rest) = if same first (mark sign) then Some rest else None
 
+-- what follows the word
+unfoldable pub after_word : (upper : List ℕ) → List Lexeme → Option (List Lexeme)
+after_word word [] = None
+after_word word (first ∷ rest) = if same first (Word word) then Some rest else None
+
 unfoldable pub name_at : Reader (List ℕ)
 name_at (Word word ∷ rest) = if is_reserved word then None else Some (word, rest)
 name_at other = None

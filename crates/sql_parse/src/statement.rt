@@ -41,7 +41,7 @@ fn create<'s>(alloc: Global, piece: Piece<'s>) -> Result<(Statement, Piece<'s>),
     if let Some(after) = piece.after(Mark::Table) {
         return create_table(alloc, after);
     }
-    let after = piece.expect(Mark::Index)?;
+    let after = piece.expect_word(b"INDEX")?;
     create_index(alloc, after)
 }
 
@@ -50,30 +50,30 @@ fn create<'s>(alloc: Global, piece: Piece<'s>) -> Result<(Statement, Piece<'s>),
 fn statement<'s>(alloc: Global, piece: Piece<'s>) -> Result<(Statement, Piece<'s>), ReadFault>
     ensures { GivesStatement result (statement_at piece.entry) }
 {
-    if let Some(after) = piece.after(Mark::Create) {
+    if let Some(after) = piece.after_word(b"CREATE") {
         return create(alloc, after);
     }
-    if let Some(after) = piece.after(Mark::Load) {
+    if let Some(after) = piece.after_word(b"LOAD") {
         return load(alloc, after);
     }
-    if let Some(after) = piece.after(Mark::Compile) {
+    if let Some(after) = piece.after_word(b"COMPILE") {
         return compile(alloc, after);
     }
-    if let Some(after) = piece.after(Mark::Run) {
+    if let Some(after) = piece.after_word(b"RUN") {
         let (name, rest) = after.name(alloc)?;
         return Ok((Statement::Run(name), rest));
     }
-    if let Some(after) = piece.after(Mark::Explain) {
+    if let Some(after) = piece.after_word(b"EXPLAIN") {
         let (name, rest) = after.name(alloc)?;
         return Ok((Statement::Explain(name), rest));
     }
-    if let Some(after) = piece.after(Mark::Save) {
+    if let Some(after) = piece.after_word(b"SAVE") {
         return save_file(alloc, after);
     }
-    if let Some(after) = piece.after(Mark::Open) {
+    if let Some(after) = piece.after_word(b"OPEN") {
         return open_file(alloc, after);
     }
-    if let Some(after) = piece.after(Mark::Audit) {
+    if let Some(after) = piece.after_word(b"AUDIT") {
         return audit(alloc, after);
     }
     let (query, rest) = select(alloc, piece)?;
@@ -111,8 +111,8 @@ pub(crate) fn print_statement(writer: &mut Writer, statement: &Statement) -> Res
         Statement::Load(load) => print_load(writer, load),
         Statement::Select(query) => print_select(writer, query),
         Statement::Compile(compile) => print_compile(writer, compile),
-        Statement::Run(name) => print_named(writer, Mark::Run, name),
-        Statement::Explain(name) => print_named(writer, Mark::Explain, name),
+        Statement::Run(name) => print_named(writer, b"RUN", name),
+        Statement::Explain(name) => print_named(writer, b"EXPLAIN", name),
         Statement::SaveFile(save) => print_save_file(writer, save),
         Statement::OpenFile(opened) => print_open_file(writer, opened),
         Statement::Audit(audit) => print_audit(writer, audit),

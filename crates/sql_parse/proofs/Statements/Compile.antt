@@ -1,44 +1,43 @@
 -- What is written by the grammar for COMPILE, what is read and what is printed are the same.
-use Rattle.std.proofs.Common.{◌≡◌, ◌∙◌, ◌≤◌, ℕ, List, [], ◌∷◌, ◌++◌, length, Option, Some, None, refl, ap, subst, length-append, arith}
+use Rattle.std.proofs.Common.{codes, ◌≡◌, ◌∙◌, ◌≤◌, ℕ, List, [], ◌∷◌, ◌++◌, length, Option, Some, None, refl, ap, subst, length-append, arith}
 use Rattle.std.specs.Str.{IsUtf8}
-use Rattle.sql_parse.specs.declared.mark.Mark.{Mark}
 use Rattle.sql_parse.specs.declared.mark.Mark.TheVariants as m
 use Rattle.sql_parse.specs.Lexemes.{Lexeme, Word, mark}
 use Rattle.sql_parse.specs.Trees.{QueryTree, Compile}
 use Rattle.sql_parse.specs.Counts.{operands_in, of_condition}
 use Rattle.sql_parse.specs.WellFormed.{IsWellFormedQuery}
-use Rattle.sql_parse.specs.Reading.{after_mark, name_at, number_at}
+use Rattle.sql_parse.specs.Reading.{after_word, after_mark, name_at, number_at}
 use Rattle.sql_parse.specs.Canonical.{Fixed, query_parts, canonical_query}
 use Rattle.sql_parse.specs.Statements.{statement_at}
 use Rattle.sql_parse.specs.Statements.Compile.{option_of, IsCompile, option_at, compile_at, option_parts, compile_parts}
-use Rattle.sql_parse.proofs.Read.{IsAfter, Reads, then_read, also, then_after, either_after, name-reads, number-reads}
+use Rattle.sql_parse.proofs.Read.{either_word, IsAfter, Reads, then_read, also, then_after, name-reads, number-reads}
 use Rattle.sql_parse.proofs.ReadQueries.{select-reads}
 use Rattle.sql_parse.proofs.AgainQueries.{select-again}
 use Rattle.sql_parse.proofs.PrintedForms.{tokens_of, tokens-append, IsPrintedBy}
 use Rattle.sql_parse.proofs.PrintedQueries.{select-printed}
-use Rattle.sql_parse.proofs.Sound.{EachSound, mark-sound}
+use Rattle.sql_parse.proofs.Sound.{word-sound, EachSound, mark-sound}
 use Rattle.sql_parse.proofs.SoundForms.{IsWritable, sound-front, sound-back, select-writable}
 use Rattle.sql_parse.proofs.WrittenParts.{Writable, writable-append}
 use Rattle.sql_parse.proofs.CountedQueries.{select-counted}
 use Rattle.sql_parse.proofs.CanonicalUtf8.{query-utf8}
 use Rattle.sql_parse.proofs.WellFormedQueries.{query-well_formed}
 
-option-reads : (keyword : Mark) → Reads (λ tokens n. tokens ≡ option_of keyword n) (option_at keyword)
+option-reads : (keyword : List ℕ) → Reads (λ tokens n. tokens ≡ option_of keyword n) (option_at keyword)
 unfolding option_at
 option-reads keyword = record {
   each = λ tokens.
-      either_after keyword tokens _ _ _ ([], refl, refl)
+      either_word keyword tokens _ _ _ ([], refl, refl)
       (λ rest first. then_read number-reads rest _ _ (λ n form.
-      (mark keyword ∷ form.0, first ∙ ap (λ all. mark keyword ∷ all) form.1, ap (λ all. mark keyword ∷ all) form.2)));
+      (Word keyword ∷ form.0, first ∙ ap (λ all. Word keyword ∷ all) form.1, ap (λ all. Word keyword ∷ all) form.2)));
 }
 
-pub compile-reads : Reads (IsAfter (mark m.Compile ∷ [])) compile_at
+pub compile-reads : Reads (IsAfter (Word (codes "COMPILE") ∷ [])) compile_at
 unfolding compile_at
 compile-reads = record {
   each = λ tokens.
       then_read name-reads tokens _ _ (λ name a.
-      then_read (option-reads m.Levels) name.1 _ _ (λ levels b.
-      then_read (option-reads m.Threshold) levels.1 _ _ (λ threshold c.
+      then_read (option-reads (codes "LEVELS")) name.1 _ _ (λ levels b.
+      then_read (option-reads (codes "THRESHOLD")) levels.1 _ _ (λ threshold c.
       then_after m.As threshold.1 _ _ (λ rest keyword.
       then_read select-reads rest _ _ (λ query d.
       let last = also c.0 (mark m.As ∷ d.0) query.1 c.1 (keyword ∙ ap (λ all. mark m.As ∷ all) d.1) in
@@ -47,51 +46,51 @@ compile-reads = record {
 
 pub compile-again : (name : List ℕ) (levels threshold : Option ℕ) (query : QueryTree) (tokens : List Lexeme) → IsCompile name levels threshold tokens query
     → statement_at tokens ≡ Some (Compile name levels threshold query, [])
-unfolding statement_at compile_at option_at name_at number_at after_mark
+unfolding statement_at compile_at option_at name_at number_at after_mark after_word
 compile-again name None None query tokens form = rw (form.1, form.2, select-again form.0 query form.3) refl
 compile-again name None (Some n) query tokens form = rw (form.1, form.2, select-again form.0 query form.3) refl
 compile-again name (Some n) None query tokens form = rw (form.1, form.2, select-again form.0 query form.3) refl
 compile-again name (Some n) (Some k) query tokens form = rw (form.1, form.2, select-again form.0 query form.3) refl
 
-option-printed : (keyword : Mark) (number : Option ℕ) → tokens_of (option_parts keyword number) ≡ option_of keyword number
+option-printed : (keyword : List ℕ) (number : Option ℕ) → tokens_of (option_parts keyword number) ≡ option_of keyword number
 option-printed keyword None = refl
 option-printed keyword (Some n) = refl
 
 pub compile-printed : (name : List ℕ) (levels threshold : Option ℕ) → IsPrintedBy (IsCompile name levels threshold) (compile_parts name levels threshold)
 compile-printed name levels threshold tokens query form =
-    let later = option_parts m.Threshold threshold ++ Fixed m.As ∷ query_parts query in (
+    let later = option_parts (codes "THRESHOLD") threshold ++ Fixed m.As ∷ query_parts query in (
       tokens_of (query_parts query),
-      ap (λ ts. mark m.Compile ∷ Word name ∷ ts) (tokens-append (option_parts m.Levels levels) later
-          ∙ (ap (λ ts. ts ++ tokens_of later) (option-printed m.Levels levels)
-          ∙ ap (λ ts. option_of m.Levels levels ++ ts) (tokens-append (option_parts m.Threshold threshold) (Fixed m.As ∷ query_parts query)
-          ∙ ap (λ ts. ts ++ mark m.As ∷ tokens_of (query_parts query)) (option-printed m.Threshold threshold)))),
+      ap (λ ts. Word (codes "COMPILE") ∷ Word name ∷ ts) (tokens-append (option_parts (codes "LEVELS") levels) later
+          ∙ (ap (λ ts. ts ++ tokens_of later) (option-printed (codes "LEVELS") levels)
+          ∙ ap (λ ts. option_of (codes "LEVELS") levels ++ ts) (tokens-append (option_parts (codes "THRESHOLD") threshold) (Fixed m.As ∷ query_parts query)
+          ∙ ap (λ ts. ts ++ mark m.As ∷ tokens_of (query_parts query)) (option-printed (codes "THRESHOLD") threshold)))),
       form.2,
       select-printed form.0 query form.3,
     )
 
-levels-writable : (number : Option ℕ) → EachSound (option_of m.Levels number) → Writable (option_parts m.Levels number)
+levels-writable : (number : Option ℕ) → EachSound (option_of (codes "LEVELS") number) → Writable (option_parts (codes "LEVELS") number)
 levels-writable None sound = tt
-levels-writable (Some n) sound = (mark-sound m.Levels, tt, (sound.1.0, tt, tt))
+levels-writable (Some n) sound = (word-sound (codes "LEVELS") refl refl refl refl, tt, (sound.1.0, tt, tt))
 
-threshold-writable : (number : Option ℕ) → EachSound (option_of m.Threshold number) → Writable (option_parts m.Threshold number)
+threshold-writable : (number : Option ℕ) → EachSound (option_of (codes "THRESHOLD") number) → Writable (option_parts (codes "THRESHOLD") number)
 threshold-writable None sound = tt
-threshold-writable (Some n) sound = (mark-sound m.Threshold, tt, (sound.1.0, tt, tt))
+threshold-writable (Some n) sound = (word-sound (codes "THRESHOLD") refl refl refl refl, tt, (sound.1.0, tt, tt))
 
 pub compile-writable : (name : List ℕ) (levels threshold : Option ℕ) → IsWritable (IsCompile name levels threshold) (compile_parts name levels threshold)
 compile-writable name levels threshold tokens query sound form =
-    let rest = option_of m.Threshold threshold ++ mark m.As ∷ form.0 in
-    let all : EachSound (mark m.Compile ∷ Word name ∷ (option_of m.Levels levels ++ rest)) = subst EachSound form.1 sound in
-    let later : EachSound rest = sound-back (option_of m.Levels levels) rest all.1.1 in
-    let last : EachSound (mark m.As ∷ form.0) = sound-back (option_of m.Threshold threshold) (mark m.As ∷ form.0) later in (
-      mark-sound m.Compile,
+    let rest = option_of (codes "THRESHOLD") threshold ++ mark m.As ∷ form.0 in
+    let all : EachSound (Word (codes "COMPILE") ∷ Word name ∷ (option_of (codes "LEVELS") levels ++ rest)) = subst EachSound form.1 sound in
+    let later : EachSound rest = sound-back (option_of (codes "LEVELS") levels) rest all.1.1 in
+    let last : EachSound (mark m.As ∷ form.0) = sound-back (option_of (codes "THRESHOLD") threshold) (mark m.As ∷ form.0) later in (
+      word-sound (codes "COMPILE") refl refl refl refl,
       tt,
       (
         all.1.0,
         tt,
-        writable-append (option_parts m.Levels levels) (option_parts m.Threshold threshold ++ Fixed m.As ∷ query_parts query)
-            (levels-writable levels (sound-front (option_of m.Levels levels) rest all.1.1))
-            (writable-append (option_parts m.Threshold threshold) (Fixed m.As ∷ query_parts query)
-            (threshold-writable threshold (sound-front (option_of m.Threshold threshold) (mark m.As ∷ form.0) later))
+        writable-append (option_parts (codes "LEVELS") levels) (option_parts (codes "THRESHOLD") threshold ++ Fixed m.As ∷ query_parts query)
+            (levels-writable levels (sound-front (option_of (codes "LEVELS") levels) rest all.1.1))
+            (writable-append (option_parts (codes "THRESHOLD") threshold) (Fixed m.As ∷ query_parts query)
+            (threshold-writable threshold (sound-front (option_of (codes "THRESHOLD") threshold) (mark m.As ∷ form.0) later))
             (mark-sound m.As, tt, select-writable form.0 query last.1 form.3)),
       ),
     )
@@ -99,8 +98,8 @@ compile-writable name levels threshold tokens query sound form =
 pub compile-counted : (name : List ℕ) (levels threshold : Option ℕ) (tokens : List Lexeme) (query : QueryTree) → IsCompile name levels threshold tokens query
     → of_condition operands_in query.condition ≤ length tokens
 compile-counted name levels threshold tokens query form =
-    let before = option_of m.Levels levels in
-    let between = option_of m.Threshold threshold in
+    let before = option_of (codes "LEVELS") levels in
+    let between = option_of (codes "THRESHOLD") threshold in
     rw form.1 (omega (
       arith,
       length-append before (between ++ mark m.As ∷ form.0),
@@ -111,8 +110,8 @@ compile-counted name levels threshold tokens query form =
 pub compile-well_formed : (name : List ℕ) (levels threshold : Option ℕ) (tokens : List Lexeme) (query : QueryTree) → EachSound tokens → IsCompile name levels threshold tokens query
     → IsWellFormedQuery query × IsUtf8 (canonical_query query)
 compile-well_formed name levels threshold tokens query sound form =
-    let given = option_of m.Threshold threshold ++ mark m.As ∷ form.0 in
-    let all : EachSound (mark m.Compile ∷ Word name ∷ (option_of m.Levels levels ++ given)) = subst EachSound form.1 sound in
+    let given = option_of (codes "THRESHOLD") threshold ++ mark m.As ∷ form.0 in
+    let all : EachSound (Word (codes "COMPILE") ∷ Word name ∷ (option_of (codes "LEVELS") levels ++ given)) = subst EachSound form.1 sound in
     let last : EachSound (mark m.As ∷ form.0) =
-    sound-back (option_of m.Threshold threshold) (mark m.As ∷ form.0) (sound-back (option_of m.Levels levels) given all.1.1) in
+    sound-back (option_of (codes "THRESHOLD") threshold) (mark m.As ∷ form.0) (sound-back (option_of (codes "LEVELS") levels) given all.1.1) in
     (query-well_formed form.0 query form.3, query-utf8 form.0 query last.1 form.3)

@@ -1,20 +1,20 @@
 -- What is written by the grammar for CREATE INDEX, what is read and what is printed are the same.
-use Rattle.std.proofs.Common.{◌≡◌, ◌∙◌, ℕ, List, [], ◌∷◌, ◌++◌, Some, refl, ap, subst}
+use Rattle.std.proofs.Common.{codes, ◌≡◌, ◌∙◌, ℕ, List, [], ◌∷◌, ◌++◌, Some, refl, ap, subst}
 use Rattle.sql_parse.specs.declared.mark.Mark.TheVariants as m
 use Rattle.sql_parse.specs.declared.tree.IndexDef.{IndexDef}
 use Rattle.sql_parse.specs.Lexemes.{Lexeme, Word, mark}
 use Rattle.sql_parse.specs.Trees.{CreateIndex}
 use Rattle.sql_parse.specs.Grammar.{IsName}
-use Rattle.sql_parse.specs.Reading.{after_mark, name_at, in_parentheses_at}
+use Rattle.sql_parse.specs.Reading.{after_word, after_mark, name_at, in_parentheses_at}
 use Rattle.sql_parse.specs.Canonical.{Name}
 use Rattle.sql_parse.specs.Statements.{create_at, statement_at}
 use Rattle.sql_parse.specs.Statements.CreateIndex.{IsCreateIndex, create_index_at, create_index_parts}
 use Rattle.sql_parse.proofs.Read.{IsAfter, Reads, then_read, also, then_after, name-reads, in_parentheses-reads}
 use Rattle.sql_parse.proofs.PrintedForms.{IsPrintedBy}
-use Rattle.sql_parse.proofs.Sound.{EachSound, mark-sound}
+use Rattle.sql_parse.proofs.Sound.{word-sound, EachSound, mark-sound}
 use Rattle.sql_parse.proofs.SoundForms.{IsWritable, group-writable}
 
-pub create_index-reads : Reads (IsAfter (mark m.Create ∷ mark m.Index ∷ [])) create_index_at
+pub create_index-reads : Reads (IsAfter (Word (codes "CREATE") ∷ Word (codes "INDEX") ∷ [])) create_index_at
 unfolding create_index_at
 create_index-reads = record {
   each = λ tokens.
@@ -29,13 +29,13 @@ create_index-reads = record {
 }
 
 index-again : (name table column : List ℕ) → IsName name → IsName table → IsName column
-    → create_at (mark m.Index ∷ Word name ∷ mark m.On ∷ Word table ∷ mark m.OpenParen ∷ Word column ∷ mark m.CloseParen ∷ [])
+    → create_at (Word (codes "INDEX") ∷ Word name ∷ mark m.On ∷ Word table ∷ mark m.OpenParen ∷ Word column ∷ mark m.CloseParen ∷ [])
     ≡ Some (CreateIndex (record { name = name; table = table; column = column }), [])
-unfolding create_at create_index_at in_parentheses_at name_at after_mark
+unfolding create_at create_index_at in_parentheses_at name_at after_mark after_word
 index-again name table column is_name is_table is_column = rw (is_name, is_table, is_column) refl
 
 pub create_index-again : (tokens : List Lexeme) (index : IndexDef) → IsCreateIndex tokens index → statement_at tokens ≡ Some (CreateIndex index, [])
-unfolding statement_at after_mark
+unfolding statement_at after_mark after_word
 create_index-again tokens index form = rw form.0 (index-again index.name index.table index.column form.1 form.2 form.3)
 
 pub create_index-printed : IsPrintedBy IsCreateIndex create_index_parts
@@ -44,4 +44,4 @@ create_index-printed tokens index form = (refl, form.1, form.2, form.3)
 pub create_index-writable : IsWritable IsCreateIndex create_index_parts
 create_index-writable tokens index sound form =
     let all = subst EachSound form.0 sound in
-    (mark-sound m.Create, tt, (mark-sound m.Index, tt, (all.1.1.0, tt, (mark-sound m.On, tt, (all.1.1.1.1.0, tt, group-writable (Name index.column ∷ []) (all.1.1.1.1.1.1.0, tt, tt))))))
+    (word-sound (codes "CREATE") refl refl refl refl, tt, (word-sound (codes "INDEX") refl refl refl refl, tt, (all.1.1.0, tt, (mark-sound m.On, tt, (all.1.1.1.1.0, tt, group-writable (Name index.column ∷ []) (all.1.1.1.1.1.1.0, tt, tt))))))

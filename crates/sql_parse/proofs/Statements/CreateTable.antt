@@ -1,5 +1,5 @@
 -- What is written by the grammar for CREATE TABLE, what is read and what is printed are the same.
-use Rattle.std.proofs.Common.{◌≡◌, ◌∙◌, ◌<◌, ℕ, inl, inr, Bool, true, false, List, [], ◌∷◌, ◌++◌, length, Some, None, refl, ap, append_assoc, subst}
+use Rattle.std.proofs.Common.{codes, ◌≡◌, ◌∙◌, ◌<◌, ℕ, inl, inr, Bool, true, false, List, [], ◌∷◌, ◌++◌, length, Some, None, refl, ap, append_assoc, subst}
 use Rattle.std.proofs.lemmas.List.{append-nil}
 use Rattle.sql_values.specs.declared.column.ColumnType.{ColumnType}
 use Rattle.sql_values.specs.declared.column.ColumnType.TheVariants as types
@@ -8,7 +8,7 @@ use Rattle.sql_parse.specs.declared.tree.TableDef.{TableDef}
 use Rattle.sql_parse.specs.Lexemes.{Lexeme, Word, mark}
 use Rattle.sql_parse.specs.Trees.{CreateTable}
 use Rattle.sql_parse.specs.Grammar.{IsName, Separated, InParentheses, written_if}
-use Rattle.sql_parse.specs.Reading.{after_mark, name_at, number_at, list_at, in_parentheses_at}
+use Rattle.sql_parse.specs.Reading.{after_word, after_mark, name_at, number_at, list_at, in_parentheses_at}
 use Rattle.sql_parse.specs.Canonical.{listed, in_parentheses, kept_if}
 use Rattle.sql_parse.specs.Statements.{create_at, statement_at}
 use Rattle.sql_parse.specs.Statements.CreateTable.{IsColumnType, IsColumn, IsCreateTable, varchar_at, column_type_at, column_at, create_table_at, type_parts, definition_parts, create_table_parts}
@@ -16,7 +16,7 @@ use Rattle.sql_parse.proofs.Read.{IsAfter, Reads, then_read, also, then_after, e
 use Rattle.sql_parse.proofs.Again.{IsReadAgain, list-again, in_parentheses-again}
 use Rattle.sql_parse.proofs.AgainQueries.{read_to_end}
 use Rattle.sql_parse.proofs.PrintedForms.{tokens_of, tokens-append, IsPrintedBy, kept-printed, separated-printed, in_parentheses-printed}
-use Rattle.sql_parse.proofs.Sound.{EachSound, mark-sound}
+use Rattle.sql_parse.proofs.Sound.{word-sound, EachSound, mark-sound}
 use Rattle.sql_parse.proofs.SoundForms.{IsWritable, sound-front, listed-writable, in_parentheses-writable}
 use Rattle.sql_parse.proofs.WrittenParts.{Writable, writable-append}
 use Rattle.sql_parse.proofs.WellFormedQueries.{separated-some}
@@ -56,7 +56,7 @@ column-reads = record {
       ((a.0 ++ b.0) ++ written, also _ written _ front (not ∙ ap (λ all. mark m.Not ∷ all) null), (b.0, rw a.2.0 refl, a.2.1, b.2))))));
 }
 
-pub create_table-reads : Reads (IsAfter (mark m.Create ∷ mark m.Table ∷ [])) create_table_at
+pub create_table-reads : Reads (IsAfter (Word (codes "CREATE") ∷ mark m.Table ∷ [])) create_table_at
 unfolding create_table_at
 create_table-reads = record {
   each = λ tokens.
@@ -84,13 +84,13 @@ column-again tokens column rest form follows =
     ap (λ all. column_at (all ++ rest)) form.1 ∙ column_of-again column.not_null column.name column.kind form.0 rest form.2 form.3 follows
 
 columns-again : IsReadAgain (InParentheses (Separated m.Comma IsColumn)) (in_parentheses_at (list_at column_at m.Comma)) (λ rest. Unit {0})
-unfolding after_mark
+unfolding after_mark after_word
 columns-again =
     in_parentheses-again (Separated m.Comma IsColumn) (list_at column_at m.Comma) (λ rest. (after_mark m.Not rest ≡ None) × (after_mark m.Comma rest ≡ None)) (λ rest. (refl, refl))
     (list-again m.Comma IsColumn column_at (λ rest. after_mark m.Not rest ≡ None) (λ rest. refl) (λ rest. refl) column-again)
 
 pub create_table-again : (tokens : List Lexeme) (table : TableDef) → IsCreateTable tokens table → statement_at tokens ≡ Some (CreateTable table, [])
-unfolding statement_at create_at create_table_at name_at after_mark
+unfolding statement_at create_at create_table_at name_at after_mark after_word
 create_table-again tokens table form =
     let found : in_parentheses_at (list_at column_at m.Comma) form.0 ≡ Some (table.columns, []) =
     read_to_end (InParentheses (Separated m.Comma IsColumn)) (in_parentheses_at (list_at column_at m.Comma)) (λ rest. Unit {0}) columns-again form.0 table.columns form.3 tt in
@@ -139,8 +139,8 @@ definition-writable tokens column sound form =
 
 pub create_table-writable : IsWritable IsCreateTable create_table_parts
 create_table-writable tokens table sound form =
-    let all : EachSound (mark m.Create ∷ mark m.Table ∷ Word table.name ∷ form.0) = subst EachSound form.1 sound in (
-      mark-sound m.Create,
+    let all : EachSound (Word (codes "CREATE") ∷ mark m.Table ∷ Word table.name ∷ form.0) = subst EachSound form.1 sound in (
+      word-sound (codes "CREATE") refl refl refl refl,
       tt,
       (
         mark-sound m.Table,

@@ -1,19 +1,19 @@
 -- What is written by the grammar for LOAD, what is read and what is printed are the same.
-use Rattle.std.proofs.Common.{◌≡◌, ◌∙◌, List, [], ◌∷◌, ◌++◌, Some, refl, ap, subst}
+use Rattle.std.proofs.Common.{codes, ◌≡◌, ◌∙◌, List, [], ◌∷◌, ◌++◌, Some, refl, ap, subst}
 use Rattle.std.specs.Str.{IsUtf8}
 use Rattle.sql_parse.specs.declared.mark.Mark.TheVariants as m
 use Rattle.sql_parse.specs.declared.tree.LoadDef.{LoadDef}
-use Rattle.sql_parse.specs.Lexemes.{Lexeme, mark}
+use Rattle.sql_parse.specs.Lexemes.{Word, Lexeme, mark}
 use Rattle.sql_parse.specs.Trees.{Load}
-use Rattle.sql_parse.specs.Reading.{after_mark, name_at, text_token_at}
+use Rattle.sql_parse.specs.Reading.{after_word, after_mark, name_at, text_token_at}
 use Rattle.sql_parse.specs.Statements.{statement_at}
 use Rattle.sql_parse.specs.Statements.Load.{IsLoad, load_at, load_parts}
 use Rattle.sql_parse.proofs.Read.{IsAfter, Reads, then_read, also, then_after, name-reads, text-reads}
 use Rattle.sql_parse.proofs.PrintedForms.{IsPrintedBy}
-use Rattle.sql_parse.proofs.Sound.{EachSound, mark-sound}
+use Rattle.sql_parse.proofs.Sound.{word-sound, EachSound, mark-sound}
 use Rattle.sql_parse.proofs.SoundForms.{IsWritable}
 
-pub load-reads : Reads (IsAfter (mark m.Load ∷ [])) load_at
+pub load-reads : Reads (IsAfter (Word (codes "LOAD") ∷ [])) load_at
 unfolding load_at
 load-reads = record {
   each = λ tokens.
@@ -24,7 +24,7 @@ load-reads = record {
 }
 
 pub load-again : (tokens : List Lexeme) (load : LoadDef) → IsLoad tokens load → statement_at tokens ≡ Some (Load load, [])
-unfolding statement_at load_at name_at text_token_at after_mark
+unfolding statement_at load_at name_at text_token_at after_mark after_word
 load-again tokens load form = rw (form.0, form.1) refl
 
 pub load-printed : IsPrintedBy IsLoad load_parts
@@ -33,7 +33,7 @@ load-printed tokens load form = (refl, form.1)
 pub load-writable : IsWritable IsLoad load_parts
 load-writable tokens load sound form =
     let all = subst EachSound form.0 sound in
-    (mark-sound m.Load, tt, (all.1.0, tt, (mark-sound m.Into, tt, (all.1.1.1.0, tt, tt))))
+    (word-sound (codes "LOAD") refl refl refl refl, tt, (all.1.0, tt, (mark-sound m.Into, tt, (all.1.1.1.0, tt, tt))))
 
 pub load-utf8 : (tokens : List Lexeme) (load : LoadDef) → EachSound tokens → IsLoad tokens load → IsUtf8 load.file
 load-utf8 tokens load sound form = (subst EachSound form.0 sound).1.0

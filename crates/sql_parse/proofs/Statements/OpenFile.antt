@@ -1,12 +1,12 @@
 -- What is written by the grammar for OPEN, what is read and what is printed are the same.
-use Rattle.std.proofs.Common.{◌≡◌, ◌∙◌, ◌≤◌, ℕ, List, [], ◌∷◌, ◌++◌, length, Some, refl, ap, subst, arith}
+use Rattle.std.proofs.Common.{codes, ◌≡◌, ◌∙◌, ◌≤◌, ℕ, List, [], ◌∷◌, ◌++◌, length, Some, refl, ap, subst, arith}
 use Rattle.std.specs.Str.{IsUtf8}
 use Rattle.sql_parse.specs.declared.mark.Mark.TheVariants as m
 use Rattle.sql_parse.specs.Lexemes.{Lexeme, Word, Text as TextToken, mark}
 use Rattle.sql_parse.specs.Trees.{QueryTree, OpenFile}
 use Rattle.sql_parse.specs.Counts.{operands_in, of_condition}
 use Rattle.sql_parse.specs.WellFormed.{IsWellFormedQuery}
-use Rattle.sql_parse.specs.Reading.{after_mark, name_at, text_token_at}
+use Rattle.sql_parse.specs.Reading.{after_word, after_mark, name_at, text_token_at}
 use Rattle.sql_parse.specs.Canonical.{query_parts, canonical_query}
 use Rattle.sql_parse.specs.Statements.{statement_at}
 use Rattle.sql_parse.specs.Statements.OpenFile.{IsOpenFile, open_file_at, open_file_parts}
@@ -15,13 +15,13 @@ use Rattle.sql_parse.proofs.ReadQueries.{select-reads}
 use Rattle.sql_parse.proofs.AgainQueries.{select-again}
 use Rattle.sql_parse.proofs.PrintedForms.{tokens_of, IsPrintedBy}
 use Rattle.sql_parse.proofs.PrintedQueries.{select-printed}
-use Rattle.sql_parse.proofs.Sound.{EachSound, mark-sound}
+use Rattle.sql_parse.proofs.Sound.{word-sound, EachSound, mark-sound}
 use Rattle.sql_parse.proofs.SoundForms.{IsWritable, select-writable}
 use Rattle.sql_parse.proofs.CountedQueries.{select-counted}
 use Rattle.sql_parse.proofs.CanonicalUtf8.{query-utf8}
 use Rattle.sql_parse.proofs.WellFormedQueries.{query-well_formed}
 
-pub open_file-reads : Reads (IsAfter (mark m.Open ∷ [])) open_file_at
+pub open_file-reads : Reads (IsAfter (Word (codes "OPEN") ∷ [])) open_file_at
 unfolding open_file_at
 open_file-reads = record {
   each = λ tokens.
@@ -38,7 +38,7 @@ open_file-reads = record {
 }
 
 pub open_file-again : (name file : List ℕ) (query : QueryTree) (tokens : List Lexeme) → IsOpenFile name file tokens query → statement_at tokens ≡ Some (OpenFile name file query, [])
-unfolding statement_at open_file_at name_at text_token_at after_mark
+unfolding statement_at open_file_at name_at text_token_at after_mark after_word
 open_file-again name file query tokens form = rw (form.1, form.2, select-again form.0 query form.3) refl
 
 pub open_file-printed : (name file : List ℕ) → IsPrintedBy (IsOpenFile name file) (open_file_parts name file)
@@ -46,8 +46,8 @@ open_file-printed name file tokens query form = (tokens_of (query_parts query), 
 
 pub open_file-writable : (name file : List ℕ) → IsWritable (IsOpenFile name file) (open_file_parts name file)
 open_file-writable name file tokens query sound form =
-    let all : EachSound (mark m.Open ∷ Word name ∷ mark m.From ∷ TextToken file ∷ mark m.As ∷ form.0) = subst EachSound form.1 sound in
-    (mark-sound m.Open, tt, (all.1.0, tt, (mark-sound m.From, tt, (all.1.1.1.0, tt, (mark-sound m.As, tt, select-writable form.0 query all.1.1.1.1.1 form.3)))))
+    let all : EachSound (Word (codes "OPEN") ∷ Word name ∷ mark m.From ∷ TextToken file ∷ mark m.As ∷ form.0) = subst EachSound form.1 sound in
+    (word-sound (codes "OPEN") refl refl refl refl, tt, (all.1.0, tt, (mark-sound m.From, tt, (all.1.1.1.0, tt, (mark-sound m.As, tt, select-writable form.0 query all.1.1.1.1.1 form.3)))))
 
 pub open_file-counted : (name file : List ℕ) (tokens : List Lexeme) (query : QueryTree) → IsOpenFile name file tokens query → of_condition operands_in query.condition ≤ length tokens
 open_file-counted name file tokens query form = rw form.1 (omega (arith, select-counted form.0 query form.3))

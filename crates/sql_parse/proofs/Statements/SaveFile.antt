@@ -1,19 +1,19 @@
 -- What is written by the grammar for SAVE, what is read and what is printed are the same.
-use Rattle.std.proofs.Common.{◌≡◌, ◌∙◌, List, [], ◌∷◌, ◌++◌, Some, refl, ap, subst}
+use Rattle.std.proofs.Common.{codes, ◌≡◌, ◌∙◌, List, [], ◌∷◌, ◌++◌, Some, refl, ap, subst}
 use Rattle.std.specs.Str.{IsUtf8}
 use Rattle.sql_parse.specs.declared.mark.Mark.TheVariants as m
 use Rattle.sql_parse.specs.declared.tree.FileDef.{FileDef}
-use Rattle.sql_parse.specs.Lexemes.{Lexeme, mark}
+use Rattle.sql_parse.specs.Lexemes.{Word, Lexeme, mark}
 use Rattle.sql_parse.specs.Trees.{SaveFile}
-use Rattle.sql_parse.specs.Reading.{after_mark, name_at, text_token_at}
+use Rattle.sql_parse.specs.Reading.{after_word, after_mark, name_at, text_token_at}
 use Rattle.sql_parse.specs.Statements.{statement_at}
 use Rattle.sql_parse.specs.Statements.SaveFile.{IsSaveFile, save_file_at, save_file_parts}
 use Rattle.sql_parse.proofs.Read.{IsAfter, Reads, then_read, also, then_after, name-reads, text-reads}
 use Rattle.sql_parse.proofs.PrintedForms.{IsPrintedBy}
-use Rattle.sql_parse.proofs.Sound.{EachSound, mark-sound}
+use Rattle.sql_parse.proofs.Sound.{word-sound, EachSound, mark-sound}
 use Rattle.sql_parse.proofs.SoundForms.{IsWritable}
 
-pub save_file-reads : Reads (IsAfter (mark m.Save ∷ [])) save_file_at
+pub save_file-reads : Reads (IsAfter (Word (codes "SAVE") ∷ [])) save_file_at
 unfolding save_file_at
 save_file-reads = record {
   each = λ tokens.
@@ -24,7 +24,7 @@ save_file-reads = record {
 }
 
 pub save_file-again : (tokens : List Lexeme) (save : FileDef) → IsSaveFile tokens save → statement_at tokens ≡ Some (SaveFile save, [])
-unfolding statement_at save_file_at name_at text_token_at after_mark
+unfolding statement_at save_file_at name_at text_token_at after_mark after_word
 save_file-again tokens save form = rw (form.0, form.1) refl
 
 pub save_file-printed : IsPrintedBy IsSaveFile save_file_parts
@@ -33,7 +33,7 @@ save_file-printed tokens save form = (refl, form.1)
 pub save_file-writable : IsWritable IsSaveFile save_file_parts
 save_file-writable tokens save sound form =
     let all = subst EachSound form.0 sound in
-    (mark-sound m.Save, tt, (all.1.0, tt, (mark-sound m.To, tt, (all.1.1.1.0, tt, tt))))
+    (word-sound (codes "SAVE") refl refl refl refl, tt, (all.1.0, tt, (mark-sound m.To, tt, (all.1.1.1.0, tt, tt))))
 
 pub save_file-utf8 : (tokens : List Lexeme) (save : FileDef) → EachSound tokens → IsSaveFile tokens save → IsUtf8 save.file
 save_file-utf8 tokens save sound form = (subst EachSound form.0 sound).1.1.1.0

@@ -1,19 +1,19 @@
 -- CREATE INDEX.
-use Rattle.std.specs.Prelude.{◌≡◌, List, [], ◌∷◌, Some}
+use Rattle.std.specs.Prelude.{codes, ◌≡◌, List, [], ◌∷◌, Some}
 use Rattle.sql_parse.specs.declared.mark.Mark.TheVariants as m
 use Rattle.sql_parse.specs.declared.tree.IndexDef.{IndexDef}
 use Rattle.sql_parse.specs.Lexemes.{Word, mark}
 use Rattle.sql_parse.specs.Trees.{StatementTree, CreateIndex}
 use Rattle.sql_parse.specs.Grammar.{Rule, IsName}
 use Rattle.sql_parse.specs.Reading.{Reader, ◌>>=◌, after_mark, name_at, in_parentheses_at}
-use Rattle.sql_parse.specs.Canonical.{Part, Fixed, Name, in_parentheses}
+use Rattle.sql_parse.specs.Canonical.{Keyword, Part, Fixed, Name, in_parentheses}
 
 -- CREATE INDEX name ON name "(" name ")"
 abbrev pub IsCreateIndex : Rule IndexDef
 IsCreateIndex tokens index =
     (
     tokens
-    ≡ mark m.Create ∷ mark m.Index ∷ Word index.name ∷ mark m.On ∷ Word index.table
+    ≡ Word (codes "CREATE") ∷ Word (codes "INDEX") ∷ Word index.name ∷ mark m.On ∷ Word index.table
     ∷ mark m.OpenParen ∷ Word index.column ∷ mark m.CloseParen ∷ []
     )
     × IsName index.name × IsName index.table × IsName index.column
@@ -29,5 +29,5 @@ create_index_at tokens = do
 
 abbrev pub create_index_parts : IndexDef → List Part
 create_index_parts index =
-    Fixed m.Create ∷ Fixed m.Index ∷ Name index.name ∷ Fixed m.On ∷ Name index.table
+    Keyword (codes "CREATE") ∷ Keyword (codes "INDEX") ∷ Name index.name ∷ Fixed m.On ∷ Name index.table
     ∷ in_parentheses (Name index.column ∷ [])

@@ -1,5 +1,5 @@
 -- CREATE TABLE.
-use Rattle.std.specs.Prelude.{◌≡◌, ◌⊎◌, true, false, List, [], ◌∷◌, ◌++◌, Some}
+use Rattle.std.specs.Prelude.{codes, ◌≡◌, ◌⊎◌, true, false, List, [], ◌∷◌, ◌++◌, Some}
 use Rattle.sql_values.specs.declared.column.ColumnDef.{ColumnDef}
 use Rattle.sql_values.specs.declared.column.ColumnType.{ColumnType}
 use Rattle.sql_values.specs.declared.column.ColumnType.TheVariants as types
@@ -9,7 +9,7 @@ use Rattle.sql_parse.specs.Lexemes.{Lexeme, Word, Number as NumberToken, mark}
 use Rattle.sql_parse.specs.Trees.{StatementTree, CreateTable}
 use Rattle.sql_parse.specs.Grammar.{Rule, IsName, written_if, Separated, InParentheses}
 use Rattle.sql_parse.specs.Reading.{Reader, ◌>>=◌, choose, after_mark, name_at, number_at, list_at, in_parentheses_at}
-use Rattle.sql_parse.specs.Canonical.{Part, Fixed, Name, Number, listed, in_parentheses, kept_if}
+use Rattle.sql_parse.specs.Canonical.{Keyword, Part, Fixed, Name, Number, listed, in_parentheses, kept_if}
 
 -- INTEGER | INT | VARCHAR "(" number ")"
 abbrev pub IsColumnType : Rule ColumnType
@@ -27,7 +27,7 @@ IsColumn tokens column =
 -- CREATE TABLE name "(" column { "," column } ")"
 abbrev pub IsCreateTable : Rule TableDef
 IsCreateTable tokens table =
-    (columns : List Lexeme) × (tokens ≡ mark m.Create ∷ mark m.Table ∷ Word table.name ∷ columns)
+    (columns : List Lexeme) × (tokens ≡ Word (codes "CREATE") ∷ mark m.Table ∷ Word table.name ∷ columns)
     × IsName table.name × InParentheses (Separated m.Comma IsColumn) columns table.columns
 
 unfoldable pub varchar_at : Reader ColumnType
@@ -68,4 +68,4 @@ definition_parts column =
 
 abbrev pub create_table_parts : TableDef → List Part
 create_table_parts table =
-    Fixed m.Create ∷ Fixed m.Table ∷ Name table.name ∷ in_parentheses (listed definition_parts table.columns)
+    Keyword (codes "CREATE") ∷ Fixed m.Table ∷ Name table.name ∷ in_parentheses (listed definition_parts table.columns)

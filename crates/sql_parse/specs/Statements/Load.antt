@@ -1,17 +1,17 @@
 -- LOAD.
-use Rattle.std.specs.Prelude.{◌≡◌, List, [], ◌∷◌, Some}
+use Rattle.std.specs.Prelude.{codes, ◌≡◌, List, [], ◌∷◌, Some}
 use Rattle.sql_parse.specs.declared.mark.Mark.TheVariants as m
 use Rattle.sql_parse.specs.declared.tree.LoadDef.{LoadDef}
 use Rattle.sql_parse.specs.Lexemes.{Word, Text as TextToken, mark}
 use Rattle.sql_parse.specs.Trees.{StatementTree, Load}
 use Rattle.sql_parse.specs.Grammar.{Rule, IsName}
 use Rattle.sql_parse.specs.Reading.{Reader, ◌>>=◌, after_mark, name_at, text_token_at}
-use Rattle.sql_parse.specs.Canonical.{Part, Fixed, Name, Text}
+use Rattle.sql_parse.specs.Canonical.{Keyword, Part, Fixed, Name, Text}
 
 -- LOAD text INTO name
 abbrev pub IsLoad : Rule LoadDef
 IsLoad tokens load =
-    (tokens ≡ mark m.Load ∷ TextToken load.file ∷ mark m.Into ∷ Word load.table ∷ []) × IsName load.table
+    (tokens ≡ Word (codes "LOAD") ∷ TextToken load.file ∷ mark m.Into ∷ Word load.table ∷ []) × IsName load.table
 
 -- after LOAD
 unfoldable pub load_at : Reader StatementTree
@@ -22,4 +22,4 @@ load_at tokens = do
   Some (Load (record { file = file.0; table = table.0 }), table.1)
 
 abbrev pub load_parts : LoadDef → List Part
-load_parts load = Fixed m.Load ∷ Text load.file ∷ Fixed m.Into ∷ Name load.table ∷ []
+load_parts load = Keyword (codes "LOAD") ∷ Text load.file ∷ Fixed m.Into ∷ Name load.table ∷ []

@@ -1,17 +1,17 @@
 -- OPEN.
-use Rattle.std.specs.Prelude.{ℕ, ◌≡◌, List, ◌∷◌, Some}
+use Rattle.std.specs.Prelude.{codes, ℕ, ◌≡◌, List, ◌∷◌, Some}
 use Rattle.sql_parse.specs.declared.mark.Mark.TheVariants as m
 use Rattle.sql_parse.specs.Lexemes.{Lexeme, Word, Text as TextToken, mark}
 use Rattle.sql_parse.specs.Trees.{QueryTree, StatementTree, OpenFile}
 use Rattle.sql_parse.specs.Grammar.{Rule, IsName, IsSelect}
 use Rattle.sql_parse.specs.Reading.{Reader, ◌>>=◌, after_mark, name_at, text_token_at, select_at}
-use Rattle.sql_parse.specs.Canonical.{Part, Fixed, Name, Text, query_parts}
+use Rattle.sql_parse.specs.Canonical.{Keyword, Part, Fixed, Name, Text, query_parts}
 
 -- OPEN name FROM text AS select
 abbrev pub IsOpenFile : (name file : List ℕ) → Rule QueryTree
 IsOpenFile name file tokens query =
     (select : List Lexeme)
-    × (tokens ≡ mark m.Open ∷ Word name ∷ mark m.From ∷ TextToken file ∷ mark m.As ∷ select)
+    × (tokens ≡ Word (codes "OPEN") ∷ Word name ∷ mark m.From ∷ TextToken file ∷ mark m.As ∷ select)
     × IsName name × IsSelect select query
 
 -- after OPEN
@@ -26,4 +26,4 @@ open_file_at tokens = do
 
 abbrev pub open_file_parts : (name file : List ℕ) → QueryTree → List Part
 open_file_parts name file query =
-    Fixed m.Open ∷ Name name ∷ Fixed m.From ∷ Text file ∷ Fixed m.As ∷ query_parts query
+    Keyword (codes "OPEN") ∷ Name name ∷ Fixed m.From ∷ Text file ∷ Fixed m.As ∷ query_parts query

@@ -1,17 +1,17 @@
 -- SAVE.
-use Rattle.std.specs.Prelude.{◌≡◌, List, [], ◌∷◌, Some}
+use Rattle.std.specs.Prelude.{codes, ◌≡◌, List, [], ◌∷◌, Some}
 use Rattle.sql_parse.specs.declared.mark.Mark.TheVariants as m
 use Rattle.sql_parse.specs.declared.tree.FileDef.{FileDef}
 use Rattle.sql_parse.specs.Lexemes.{Word, Text as TextToken, mark}
 use Rattle.sql_parse.specs.Trees.{StatementTree, SaveFile}
 use Rattle.sql_parse.specs.Grammar.{Rule, IsName}
 use Rattle.sql_parse.specs.Reading.{Reader, ◌>>=◌, after_mark, name_at, text_token_at}
-use Rattle.sql_parse.specs.Canonical.{Part, Fixed, Name, Text}
+use Rattle.sql_parse.specs.Canonical.{Keyword, Part, Fixed, Name, Text}
 
 -- SAVE name TO text
 abbrev pub IsSaveFile : Rule FileDef
 IsSaveFile tokens save =
-    (tokens ≡ mark m.Save ∷ Word save.name ∷ mark m.To ∷ TextToken save.file ∷ []) × IsName save.name
+    (tokens ≡ Word (codes "SAVE") ∷ Word save.name ∷ mark m.To ∷ TextToken save.file ∷ []) × IsName save.name
 
 -- after SAVE
 unfoldable pub save_file_at : Reader StatementTree
@@ -22,4 +22,4 @@ save_file_at tokens = do
   Some (SaveFile (record { name = name.0; file = file.0 }), file.1)
 
 abbrev pub save_file_parts : FileDef → List Part
-save_file_parts save = Fixed m.Save ∷ Name save.name ∷ Fixed m.To ∷ Text save.file ∷ []
+save_file_parts save = Keyword (codes "SAVE") ∷ Name save.name ∷ Fixed m.To ∷ Text save.file ∷ []

@@ -8,7 +8,6 @@ ghost use Rattle.sql_parse.specs.Statements.Audit.{audit_at, point_parts, audit_
 
 use crate::canonical::{Printed, print_list};
 use crate::fault::ReadFault;
-use crate::mark::Mark;
 use crate::parse::{Parse, list};
 use crate::piece::Piece;
 use crate::tree::{AuditDef, Statement};
@@ -33,7 +32,7 @@ pub(crate) fn audit<'s>(
     ensures { GivesStatement result (audit_at piece.entry) }
 {
     let (name, rest) = piece.name(alloc)?;
-    let Some(after) = rest.after(Mark::At) else {
+    let Some(after) = rest.after_word(b"AT") else {
         let levels = Sequence::from(Vec::new(alloc));
         return Ok((Statement::Audit(AuditDef { name, levels }), rest));
     };
@@ -55,7 +54,7 @@ fn print_point(writer: &mut Writer, levels: &[u64]) -> Result<(), AllocError>
     if levels.is_empty() {
         return Ok(());
     }
-    writer.mark(Mark::At)?;
+    writer.keyword(b"AT")?;
     print_list(writer, levels)
 }
 
@@ -63,7 +62,7 @@ fn print_point(writer: &mut Writer, levels: &[u64]) -> Result<(), AllocError>
 pub(crate) fn print_audit(writer: &mut Writer, audit: &AuditDef) -> Result<(), AllocError>
     ensures { OnOk result (writer.new ≡ put_all writer.old (audit_parts audit.now)) }
 {
-    writer.mark(Mark::Audit)?;
+    writer.keyword(b"AUDIT")?;
     writer.name(&audit.name)?;
     print_point(writer, audit.levels.as_slice())
 }

@@ -17,10 +17,10 @@ use std::alloc::{AllocError, Global};
 
 // The keyword and a number, where the keyword stands.
 #[tactic(auto, unfolding(crate::specs::Statements::Compile::option_at))]
-fn option<'s>(piece: Piece<'s>, keyword: Mark) -> Result<(Option<u64>, Piece<'s>), ReadFault>
-    ensures { GivesValue result (option_at keyword piece.entry) }
+fn option<'s>(piece: Piece<'s>, keyword: &[u8]) -> Result<(Option<u64>, Piece<'s>), ReadFault>
+    ensures { GivesValue result (option_at keyword.now piece.entry) }
 {
-    let Some(after) = piece.after(keyword) else {
+    let Some(after) = piece.after_word(keyword) else {
         return Ok((None, piece));
     };
     let (number, rest) = after.number()?;
@@ -36,8 +36,8 @@ pub(crate) fn compile<'s>(
     ensures { GivesStatement result (compile_at piece.entry) }
 {
     let (name, rest) = piece.name(alloc)?;
-    let (levels, rest) = option(rest, Mark::Levels)?;
-    let (threshold, rest) = option(rest, Mark::Threshold)?;
+    let (levels, rest) = option(rest, b"LEVELS")?;
+    let (threshold, rest) = option(rest, b"THRESHOLD")?;
     let rest = rest.expect(Mark::As)?;
     let (query, rest) = select(alloc, rest)?;
     let compile = CompileDef {
@@ -49,11 +49,11 @@ pub(crate) fn compile<'s>(
     Ok((Statement::Compile(compile), rest))
 }
 
-fn print_option(writer: &mut Writer, keyword: Mark, number: Option<u64>) -> Result<(), AllocError>
-    ensures { OnOk result (writer.new ≡ put_all writer.old (option_parts keyword number)) }
+fn print_option(writer: &mut Writer, keyword: &[u8], number: Option<u64>) -> Result<(), AllocError>
+    ensures { OnOk result (writer.new ≡ put_all writer.old (option_parts keyword.now number)) }
 {
     if let Some(number) = number {
-        writer.mark(keyword)?;
+        writer.keyword(keyword)?;
         writer.number(number)?;
     }
     Ok(())
@@ -64,10 +64,10 @@ pub(crate) fn print_compile(writer: &mut Writer, compile: &CompileDef) -> Result
     ensures { OnOk result (writer.new ≡ put_all writer.old (compile_parts
         compile.now.name compile.now.levels compile.now.threshold (query_tree compile.now.query))) }
 {
-    writer.mark(Mark::Compile)?;
+    writer.keyword(b"COMPILE")?;
     writer.name(&compile.name)?;
-    print_option(writer, Mark::Levels, compile.levels)?;
-    print_option(writer, Mark::Threshold, compile.threshold)?;
+    print_option(writer, b"LEVELS", compile.levels)?;
+    print_option(writer, b"THRESHOLD", compile.threshold)?;
     writer.mark(Mark::As)?;
     print_select(writer, &compile.query)
 }

@@ -37,8 +37,8 @@ pub(crate) fn create_index<'s>(
 pub(crate) fn print_create_index(writer: &mut Writer, index: &IndexDef) -> Result<(), AllocError>
     ensures { OnOk result (writer.new ≡ put_all writer.old (create_index_parts index.now)) }
 {
-    writer.mark(Mark::Create)?;
-    writer.mark(Mark::Index)?;
+    writer.keyword(b"CREATE")?;
+    writer.keyword(b"INDEX")?;
     writer.name(&index.name)?;
     writer.mark(Mark::On)?;
     writer.name(&index.table)?;

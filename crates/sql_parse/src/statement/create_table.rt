@@ -110,7 +110,7 @@ fn print_type(writer: &mut Writer, kind: ColumnType) -> Result<(), AllocError>
 pub(crate) fn print_create_table(writer: &mut Writer, table: &TableDef) -> Result<(), AllocError>
     ensures { OnOk result (writer.new ≡ put_all writer.old (create_table_parts table.now)) }
 {
-    writer.mark(Mark::Create)?;
+    writer.keyword(b"CREATE")?;
     writer.mark(Mark::Table)?;
     writer.name(&table.name)?;
     print_in_parentheses(writer, table.columns.as_slice())

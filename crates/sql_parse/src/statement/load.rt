@@ -26,7 +26,7 @@ pub(crate) fn load<'s>(alloc: Global, piece: Piece<'s>) -> Result<(Statement, Pi
 pub(crate) fn print_load(writer: &mut Writer, load: &LoadDef) -> Result<(), AllocError>
     ensures { OnOk result (writer.new ≡ put_all writer.old (load_parts load.now)) }
 {
-    writer.mark(Mark::Load)?;
+    writer.keyword(b"LOAD")?;
     writer.text(&load.file)?;
     writer.mark(Mark::Into)?;
     writer.name(&load.table)

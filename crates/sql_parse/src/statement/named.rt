@@ -4,15 +4,18 @@ ghost use Rattle.std.specs.Prelude.{◌≡◌, OnOk};
 ghost use Rattle.sql_parse.specs.Printing.{put_all};
 ghost use Rattle.sql_parse.specs.Statements.Named.{named_parts};
 
-use crate::mark::Mark;
 use crate::tree::Name;
 use crate::writer::Writer;
 use std::alloc::AllocError;
 
-pub(crate) fn print_named(writer: &mut Writer, keyword: Mark, name: &Name) -> Result<(), AllocError>
+pub(crate) fn print_named(
+    writer: &mut Writer,
+    keyword: &[u8],
+    name: &Name,
+) -> Result<(), AllocError>
     ensures { OnOk result
-        (writer.new ≡ put_all writer.old (named_parts keyword name.now)) }
+        (writer.new ≡ put_all writer.old (named_parts keyword.now name.now)) }
 {
-    writer.mark(keyword)?;
+    writer.keyword(keyword)?;
     writer.name(name)
 }

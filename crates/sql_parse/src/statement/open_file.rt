@@ -36,7 +36,7 @@ pub(crate) fn print_open_file(writer: &mut Writer, opened: &OpenDef) -> Result<(
     ensures { OnOk result (writer.new ≡ put_all writer.old (open_file_parts
         opened.now.name opened.now.file (query_tree opened.now.query))) }
 {
-    writer.mark(Mark::Open)?;
+    writer.keyword(b"OPEN")?;
     writer.name(&opened.name)?;
     writer.mark(Mark::From)?;
     writer.text(&opened.file)?;

@@ -29,7 +29,7 @@ pub(crate) fn save_file<'s>(
 pub(crate) fn print_save_file(writer: &mut Writer, save: &FileDef) -> Result<(), AllocError>
     ensures { OnOk result (writer.new ≡ put_all writer.old (save_file_parts save.now)) }
 {
-    writer.mark(Mark::Save)?;
+    writer.keyword(b"SAVE")?;
     writer.name(&save.name)?;
     writer.mark(Mark::To)?;
     writer.text(&save.file)
