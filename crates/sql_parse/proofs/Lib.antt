@@ -21,5 +21,6 @@ pub mod CanonicalUtf8
 pub mod Literals
 pub mod WellFormedQueries
 pub mod WellFormed
+pub mod Productions
 pub mod Statements
 pub mod CanonicalText

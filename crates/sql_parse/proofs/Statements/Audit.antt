@@ -1,20 +1,10 @@
 -- What is written by the grammar for AUDIT, what is read and what is printed are the same.
-use Rattle.std.proofs.Common.{codes, ◌≡◌, ◌∙◌, ℕ, List, [], ◌∷◌, ◌++◌, Some, None, refl, ap, subst}
+use Rattle.sql_parse.proofs.Productions.{codes, ◌≡◌, ◌∙◌, ℕ, List, [], ◌∷◌, ◌++◌, Some, None, refl, ap, subst, Lexeme, Word, IsName, Separated, after_word, after_mark, name_at, number_at, list_at, statement_at, either_word, IsAfter, Reads, then_read, also, name-reads, number-reads, list-reads, IsReadAgain, list-again, read_to_end, tokens_of, IsPrintedBy, separated-printed, word-sound, EachSound, IsWritable, listed-writable}
 use Rattle.sql_parse.specs.declared.mark.Mark.TheVariants as m
 use Rattle.sql_parse.specs.declared.tree.AuditDef.{AuditDef}
-use Rattle.sql_parse.specs.Lexemes.{Lexeme, Word}
 use Rattle.sql_parse.specs.Trees.{Audit}
-use Rattle.sql_parse.specs.Grammar.{IsName, Separated}
-use Rattle.sql_parse.specs.Reading.{after_word, after_mark, name_at, number_at, list_at}
 use Rattle.sql_parse.specs.Canonical.{Number, listed}
-use Rattle.sql_parse.specs.Statements.{statement_at}
 use Rattle.sql_parse.specs.Statements.Audit.{IsLevel, IsPointClause, IsAudit, audit_at, point_parts, audit_parts}
-use Rattle.sql_parse.proofs.Read.{either_word, IsAfter, Reads, then_read, also, name-reads, number-reads, list-reads}
-use Rattle.sql_parse.proofs.Again.{IsReadAgain, list-again}
-use Rattle.sql_parse.proofs.AgainQueries.{read_to_end}
-use Rattle.sql_parse.proofs.PrintedForms.{tokens_of, IsPrintedBy, separated-printed}
-use Rattle.sql_parse.proofs.Sound.{word-sound, EachSound}
-use Rattle.sql_parse.proofs.SoundForms.{IsWritable, listed-writable}
 
 point-of : (levels : List ℕ) (tokens : List Lexeme) → Separated m.Comma IsLevel tokens levels → IsPointClause (Word (codes "AT") ∷ tokens) levels
 point-of [] tokens form = absurd form

@@ -1,26 +1,13 @@
 -- What is written by the grammar for COMPILE, what is read and what is printed are the same.
-use Rattle.std.proofs.Common.{codes, ◌≡◌, ◌∙◌, ◌≤◌, ℕ, List, [], ◌∷◌, ◌++◌, length, Option, Some, None, refl, ap, subst, length-append, arith}
-use Rattle.std.specs.Str.{IsUtf8}
+use Rattle.sql_parse.proofs.Productions.{codes, ◌≡◌, ◌∙◌, ◌≤◌, ℕ, List, [], ◌∷◌, ◌++◌, length, Some, None, refl, ap, subst, arith, IsUtf8, Lexeme, Word, mark, after_word, after_mark, name_at, number_at, statement_at, either_word, IsAfter, Reads, then_read, also, then_after, name-reads, number-reads, select-reads, select-again, tokens_of, tokens-append, IsPrintedBy, select-printed, word-sound, EachSound, mark-sound, IsWritable, sound-front, select-writable, Writable, writable-append, select-counted, query-utf8, query-well_formed}
+use Rattle.std.proofs.Common.{Option, length-append}
 use Rattle.sql_parse.specs.declared.mark.Mark.TheVariants as m
-use Rattle.sql_parse.specs.Lexemes.{Lexeme, Word, mark}
 use Rattle.sql_parse.specs.Trees.{QueryTree, Compile}
 use Rattle.sql_parse.specs.Counts.{operands_in, of_condition}
 use Rattle.sql_parse.specs.WellFormed.{IsWellFormedQuery}
-use Rattle.sql_parse.specs.Reading.{after_word, after_mark, name_at, number_at}
 use Rattle.sql_parse.specs.Canonical.{Fixed, query_parts, canonical_query}
-use Rattle.sql_parse.specs.Statements.{statement_at}
 use Rattle.sql_parse.specs.Statements.Compile.{option_of, IsCompile, option_at, compile_at, option_parts, compile_parts}
-use Rattle.sql_parse.proofs.Read.{either_word, IsAfter, Reads, then_read, also, then_after, name-reads, number-reads}
-use Rattle.sql_parse.proofs.ReadQueries.{select-reads}
-use Rattle.sql_parse.proofs.AgainQueries.{select-again}
-use Rattle.sql_parse.proofs.PrintedForms.{tokens_of, tokens-append, IsPrintedBy}
-use Rattle.sql_parse.proofs.PrintedQueries.{select-printed}
-use Rattle.sql_parse.proofs.Sound.{word-sound, EachSound, mark-sound}
-use Rattle.sql_parse.proofs.SoundForms.{IsWritable, sound-front, sound-back, select-writable}
-use Rattle.sql_parse.proofs.WrittenParts.{Writable, writable-append}
-use Rattle.sql_parse.proofs.CountedQueries.{select-counted}
-use Rattle.sql_parse.proofs.CanonicalUtf8.{query-utf8}
-use Rattle.sql_parse.proofs.WellFormedQueries.{query-well_formed}
+use Rattle.sql_parse.proofs.SoundForms.{sound-back}
 
 option-reads : (keyword : List ℕ) → Reads (λ tokens n. tokens ≡ option_of keyword n) (option_at keyword)
 unfolding option_at

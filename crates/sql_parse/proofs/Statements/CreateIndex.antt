@@ -1,18 +1,11 @@
 -- What is written by the grammar for CREATE INDEX, what is read and what is printed are the same.
-use Rattle.std.proofs.Common.{codes, ◌≡◌, ◌∙◌, ℕ, List, [], ◌∷◌, ◌++◌, Some, refl, ap, subst}
+use Rattle.sql_parse.proofs.Productions.{codes, ◌≡◌, ◌∙◌, ℕ, List, [], ◌∷◌, ◌++◌, Some, refl, ap, subst, Lexeme, Word, mark, IsName, after_word, after_mark, name_at, in_parentheses_at, create_at, statement_at, IsAfter, Reads, then_read, also, then_after, name-reads, in_parentheses-reads, IsPrintedBy, word-sound, EachSound, mark-sound, IsWritable}
 use Rattle.sql_parse.specs.declared.mark.Mark.TheVariants as m
 use Rattle.sql_parse.specs.declared.tree.IndexDef.{IndexDef}
-use Rattle.sql_parse.specs.Lexemes.{Lexeme, Word, mark}
 use Rattle.sql_parse.specs.Trees.{CreateIndex}
-use Rattle.sql_parse.specs.Grammar.{IsName}
-use Rattle.sql_parse.specs.Reading.{after_word, after_mark, name_at, in_parentheses_at}
 use Rattle.sql_parse.specs.Canonical.{Name}
-use Rattle.sql_parse.specs.Statements.{create_at, statement_at}
 use Rattle.sql_parse.specs.Statements.CreateIndex.{IsCreateIndex, create_index_at, create_index_parts}
-use Rattle.sql_parse.proofs.Read.{IsAfter, Reads, then_read, also, then_after, name-reads, in_parentheses-reads}
-use Rattle.sql_parse.proofs.PrintedForms.{IsPrintedBy}
-use Rattle.sql_parse.proofs.Sound.{word-sound, EachSound, mark-sound}
-use Rattle.sql_parse.proofs.SoundForms.{IsWritable, group-writable}
+use Rattle.sql_parse.proofs.SoundForms.{group-writable}
 
 pub create_index-reads : Reads (IsAfter (Word (codes "CREATE") ∷ Word (codes "INDEX") ∷ [])) create_index_at
 unfolding create_index_at

@@ -1,24 +1,19 @@
 -- What is written by the grammar for CREATE TABLE, what is read and what is printed are the same.
-use Rattle.std.proofs.Common.{codes, ◌≡◌, ◌∙◌, ◌<◌, ℕ, inl, inr, Bool, true, false, List, [], ◌∷◌, ◌++◌, length, Some, None, refl, ap, append_assoc, subst}
+use Rattle.sql_parse.proofs.Productions.{codes, ◌≡◌, ◌∙◌, ℕ, List, [], ◌∷◌, ◌++◌, length, Some, None, refl, ap, subst, Lexeme, Word, mark, IsName, Separated, after_word, after_mark, name_at, number_at, list_at, in_parentheses_at, create_at, statement_at, IsAfter, Reads, then_read, also, then_after, name-reads, number-reads, list-reads, in_parentheses-reads, IsReadAgain, list-again, read_to_end, tokens_of, tokens-append, IsPrintedBy, separated-printed, word-sound, EachSound, mark-sound, IsWritable, sound-front, listed-writable, Writable, writable-append}
+use Rattle.std.proofs.Common.{◌<◌, inl, inr, Bool, true, false, append_assoc}
 use Rattle.std.proofs.lemmas.List.{append-nil}
 use Rattle.sql_values.specs.declared.column.ColumnType.{ColumnType}
 use Rattle.sql_values.specs.declared.column.ColumnType.TheVariants as types
 use Rattle.sql_parse.specs.declared.mark.Mark.TheVariants as m
 use Rattle.sql_parse.specs.declared.tree.TableDef.{TableDef}
-use Rattle.sql_parse.specs.Lexemes.{Lexeme, Word, mark}
 use Rattle.sql_parse.specs.Trees.{CreateTable}
-use Rattle.sql_parse.specs.Grammar.{IsName, Separated, InParentheses, written_if}
-use Rattle.sql_parse.specs.Reading.{after_word, after_mark, name_at, number_at, list_at, in_parentheses_at}
+use Rattle.sql_parse.specs.Grammar.{InParentheses, written_if}
 use Rattle.sql_parse.specs.Canonical.{listed, in_parentheses, kept_if}
-use Rattle.sql_parse.specs.Statements.{create_at, statement_at}
 use Rattle.sql_parse.specs.Statements.CreateTable.{IsColumnType, IsColumn, IsCreateTable, varchar_at, column_type_at, column_at, create_table_at, type_parts, definition_parts, create_table_parts}
-use Rattle.sql_parse.proofs.Read.{IsAfter, Reads, then_read, also, then_after, either_after, name-reads, number-reads, list-reads, in_parentheses-reads}
-use Rattle.sql_parse.proofs.Again.{IsReadAgain, list-again, in_parentheses-again}
-use Rattle.sql_parse.proofs.AgainQueries.{read_to_end}
-use Rattle.sql_parse.proofs.PrintedForms.{tokens_of, tokens-append, IsPrintedBy, kept-printed, separated-printed, in_parentheses-printed}
-use Rattle.sql_parse.proofs.Sound.{word-sound, EachSound, mark-sound}
-use Rattle.sql_parse.proofs.SoundForms.{IsWritable, sound-front, listed-writable, in_parentheses-writable}
-use Rattle.sql_parse.proofs.WrittenParts.{Writable, writable-append}
+use Rattle.sql_parse.proofs.Read.{either_after}
+use Rattle.sql_parse.proofs.Again.{in_parentheses-again}
+use Rattle.sql_parse.proofs.PrintedForms.{kept-printed, in_parentheses-printed}
+use Rattle.sql_parse.proofs.SoundForms.{in_parentheses-writable}
 use Rattle.sql_parse.proofs.WellFormedQueries.{separated-some}
 
 varchar-reads : Reads IsColumnType varchar_at

@@ -1,17 +1,9 @@
 -- What is written by the grammar for LOAD, what is read and what is printed are the same.
-use Rattle.std.proofs.Common.{codes, ◌≡◌, ◌∙◌, List, [], ◌∷◌, ◌++◌, Some, refl, ap, subst}
-use Rattle.std.specs.Str.{IsUtf8}
+use Rattle.sql_parse.proofs.Productions.{codes, ◌≡◌, ◌∙◌, List, [], ◌∷◌, ◌++◌, Some, refl, ap, subst, IsUtf8, Word, Lexeme, mark, after_word, after_mark, name_at, text_token_at, statement_at, IsAfter, Reads, then_read, also, then_after, name-reads, text-reads, IsPrintedBy, word-sound, EachSound, mark-sound, IsWritable}
 use Rattle.sql_parse.specs.declared.mark.Mark.TheVariants as m
 use Rattle.sql_parse.specs.declared.tree.LoadDef.{LoadDef}
-use Rattle.sql_parse.specs.Lexemes.{Word, Lexeme, mark}
 use Rattle.sql_parse.specs.Trees.{Load}
-use Rattle.sql_parse.specs.Reading.{after_word, after_mark, name_at, text_token_at}
-use Rattle.sql_parse.specs.Statements.{statement_at}
 use Rattle.sql_parse.specs.Statements.Load.{IsLoad, load_at, load_parts}
-use Rattle.sql_parse.proofs.Read.{IsAfter, Reads, then_read, also, then_after, name-reads, text-reads}
-use Rattle.sql_parse.proofs.PrintedForms.{IsPrintedBy}
-use Rattle.sql_parse.proofs.Sound.{word-sound, EachSound, mark-sound}
-use Rattle.sql_parse.proofs.SoundForms.{IsWritable}
 
 pub load-reads : Reads (IsAfter (Word (codes "LOAD") ∷ [])) load_at
 unfolding load_at

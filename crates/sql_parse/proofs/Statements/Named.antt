@@ -1,13 +1,9 @@
 -- What is written by the grammar for a keyword and a name, what is read and what is printed are the same.
-use Rattle.std.proofs.Common.{ℕ, List, ◌∷◌, [], refl, ap, subst}
-use Rattle.sql_parse.specs.Lexemes.{Word, Lexeme}
+use Rattle.sql_parse.proofs.Productions.{ℕ, List, ◌∷◌, [], refl, ap, subst, Word, Lexeme, IsAfter, Reads, then_read, name-reads, IsPrintedBy, EachSound, IsWritable}
 use Rattle.sql_parse.specs.Trees.{StatementTree}
 use Rattle.sql_parse.specs.Statements.{IsStatement}
 use Rattle.sql_parse.specs.Statements.Named.{IsNamed, named_at, named_parts}
-use Rattle.sql_parse.proofs.Read.{IsAfter, Reads, then_read, name-reads}
-use Rattle.sql_parse.proofs.PrintedForms.{IsPrintedBy}
-use Rattle.sql_parse.proofs.Sound.{IsSound, EachSound}
-use Rattle.sql_parse.proofs.SoundForms.{IsWritable}
+use Rattle.sql_parse.proofs.Sound.{IsSound}
 
 pub named-reads : (keyword : List ℕ) (statement : List ℕ → StatementTree)
     → ((tokens : List Lexeme) (name : List ℕ) → IsNamed keyword tokens name → IsStatement tokens (statement name))

@@ -1,25 +1,12 @@
 -- What is written by the grammar for OPEN, what is read and what is printed are the same.
-use Rattle.std.proofs.Common.{codes, ◌≡◌, ◌∙◌, ◌≤◌, ℕ, List, [], ◌∷◌, ◌++◌, length, Some, refl, ap, subst, arith}
-use Rattle.std.specs.Str.{IsUtf8}
+use Rattle.sql_parse.proofs.Productions.{codes, ◌≡◌, ◌∙◌, ◌≤◌, ℕ, List, [], ◌∷◌, ◌++◌, length, Some, refl, ap, subst, arith, IsUtf8, Lexeme, Word, mark, after_word, after_mark, name_at, text_token_at, statement_at, IsAfter, Reads, then_read, also, then_after, name-reads, text-reads, select-reads, select-again, tokens_of, IsPrintedBy, select-printed, word-sound, EachSound, mark-sound, IsWritable, select-writable, select-counted, query-utf8, query-well_formed}
 use Rattle.sql_parse.specs.declared.mark.Mark.TheVariants as m
-use Rattle.sql_parse.specs.Lexemes.{Lexeme, Word, Text as TextToken, mark}
+use Rattle.sql_parse.specs.Lexemes.{Text as TextToken}
 use Rattle.sql_parse.specs.Trees.{QueryTree, OpenFile}
 use Rattle.sql_parse.specs.Counts.{operands_in, of_condition}
 use Rattle.sql_parse.specs.WellFormed.{IsWellFormedQuery}
-use Rattle.sql_parse.specs.Reading.{after_word, after_mark, name_at, text_token_at}
 use Rattle.sql_parse.specs.Canonical.{query_parts, canonical_query}
-use Rattle.sql_parse.specs.Statements.{statement_at}
 use Rattle.sql_parse.specs.Statements.OpenFile.{IsOpenFile, open_file_at, open_file_parts}
-use Rattle.sql_parse.proofs.Read.{IsAfter, Reads, then_read, also, then_after, name-reads, text-reads}
-use Rattle.sql_parse.proofs.ReadQueries.{select-reads}
-use Rattle.sql_parse.proofs.AgainQueries.{select-again}
-use Rattle.sql_parse.proofs.PrintedForms.{tokens_of, IsPrintedBy}
-use Rattle.sql_parse.proofs.PrintedQueries.{select-printed}
-use Rattle.sql_parse.proofs.Sound.{word-sound, EachSound, mark-sound}
-use Rattle.sql_parse.proofs.SoundForms.{IsWritable, select-writable}
-use Rattle.sql_parse.proofs.CountedQueries.{select-counted}
-use Rattle.sql_parse.proofs.CanonicalUtf8.{query-utf8}
-use Rattle.sql_parse.proofs.WellFormedQueries.{query-well_formed}
 
 pub open_file-reads : Reads (IsAfter (Word (codes "OPEN") ∷ [])) open_file_at
 unfolding open_file_at

@@ -1,12 +1,9 @@
 -- AUDIT.
-use Rattle.std.specs.Prelude.{codes, ℕ, ◌≡◌, List, [], ◌∷◌, Some}
+use Rattle.sql_parse.specs.Productions.{codes, ℕ, ◌≡◌, List, [], ◌∷◌, Some, Lexeme, Word, Rule, IsName, Separated, after_word, Reader, ◌>>=◌, choose, name_at, number_at, list_at, Keyword, Part, Name, Number, listed}
 use Rattle.sql_parse.specs.declared.mark.Mark.TheVariants as m
 use Rattle.sql_parse.specs.declared.tree.AuditDef.{AuditDef}
-use Rattle.sql_parse.specs.Lexemes.{Lexeme, Word, Number as NumberToken}
+use Rattle.sql_parse.specs.Lexemes.{Number as NumberToken}
 use Rattle.sql_parse.specs.Trees.{StatementTree, Audit}
-use Rattle.sql_parse.specs.Grammar.{Rule, IsName, Separated}
-use Rattle.sql_parse.specs.Reading.{after_word, Reader, ◌>>=◌, choose, name_at, number_at, list_at}
-use Rattle.sql_parse.specs.Canonical.{Keyword, Part, Name, Number, listed}
 
 -- a level of a point: a number
 abbrev pub IsLevel : Rule ℕ

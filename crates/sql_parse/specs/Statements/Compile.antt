@@ -1,11 +1,9 @@
 -- COMPILE.
-use Rattle.std.specs.Prelude.{codes, ℕ, ◌≡◌, List, [], ◌∷◌, ◌++◌, Option, Some, None}
+use Rattle.sql_parse.specs.Productions.{codes, ℕ, ◌≡◌, List, [], ◌∷◌, ◌++◌, Some, Lexeme, Word, mark, Rule, IsName, IsSelect, after_word, Reader, ◌>>=◌, choose, after_mark, name_at, number_at, select_at, Keyword, Part, Fixed, Name, Number, query_parts}
+use Rattle.std.specs.Prelude.{Option, None}
 use Rattle.sql_parse.specs.declared.mark.Mark.TheVariants as m
-use Rattle.sql_parse.specs.Lexemes.{Lexeme, Word, Number as NumberToken, mark}
+use Rattle.sql_parse.specs.Lexemes.{Number as NumberToken}
 use Rattle.sql_parse.specs.Trees.{QueryTree, StatementTree, Compile}
-use Rattle.sql_parse.specs.Grammar.{Rule, IsName, IsSelect}
-use Rattle.sql_parse.specs.Reading.{after_word, Reader, ◌>>=◌, choose, after_mark, name_at, number_at, select_at}
-use Rattle.sql_parse.specs.Canonical.{Keyword, Part, Fixed, Name, Number, query_parts}
 
 -- a keyword and a number, where they are written
 abbrev pub option_of : (keyword : List ℕ) → Option ℕ → List Lexeme

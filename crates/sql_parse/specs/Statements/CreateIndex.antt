@@ -1,12 +1,8 @@
 -- CREATE INDEX.
-use Rattle.std.specs.Prelude.{codes, ◌≡◌, List, [], ◌∷◌, Some}
+use Rattle.sql_parse.specs.Productions.{codes, ◌≡◌, List, [], ◌∷◌, Some, Word, mark, Rule, IsName, Reader, ◌>>=◌, after_mark, name_at, in_parentheses_at, Keyword, Part, Fixed, Name, in_parentheses}
 use Rattle.sql_parse.specs.declared.mark.Mark.TheVariants as m
 use Rattle.sql_parse.specs.declared.tree.IndexDef.{IndexDef}
-use Rattle.sql_parse.specs.Lexemes.{Word, mark}
 use Rattle.sql_parse.specs.Trees.{StatementTree, CreateIndex}
-use Rattle.sql_parse.specs.Grammar.{Rule, IsName}
-use Rattle.sql_parse.specs.Reading.{Reader, ◌>>=◌, after_mark, name_at, in_parentheses_at}
-use Rattle.sql_parse.specs.Canonical.{Keyword, Part, Fixed, Name, in_parentheses}
 
 -- CREATE INDEX name ON name "(" name ")"
 abbrev pub IsCreateIndex : Rule IndexDef

@@ -1,15 +1,15 @@
 -- CREATE TABLE.
-use Rattle.std.specs.Prelude.{codes, ◌≡◌, ◌⊎◌, true, false, List, [], ◌∷◌, ◌++◌, Some}
+use Rattle.sql_parse.specs.Productions.{codes, ◌≡◌, List, [], ◌∷◌, ◌++◌, Some, Lexeme, Word, mark, Rule, IsName, Separated, Reader, ◌>>=◌, choose, after_mark, name_at, number_at, list_at, in_parentheses_at, Keyword, Part, Fixed, Name, Number, listed, in_parentheses}
+use Rattle.std.specs.Prelude.{◌⊎◌, true, false}
 use Rattle.sql_values.specs.declared.column.ColumnDef.{ColumnDef}
 use Rattle.sql_values.specs.declared.column.ColumnType.{ColumnType}
 use Rattle.sql_values.specs.declared.column.ColumnType.TheVariants as types
 use Rattle.sql_parse.specs.declared.mark.Mark.TheVariants as m
 use Rattle.sql_parse.specs.declared.tree.TableDef.{TableDef}
-use Rattle.sql_parse.specs.Lexemes.{Lexeme, Word, Number as NumberToken, mark}
+use Rattle.sql_parse.specs.Lexemes.{Number as NumberToken}
 use Rattle.sql_parse.specs.Trees.{StatementTree, CreateTable}
-use Rattle.sql_parse.specs.Grammar.{Rule, IsName, written_if, Separated, InParentheses}
-use Rattle.sql_parse.specs.Reading.{Reader, ◌>>=◌, choose, after_mark, name_at, number_at, list_at, in_parentheses_at}
-use Rattle.sql_parse.specs.Canonical.{Keyword, Part, Fixed, Name, Number, listed, in_parentheses, kept_if}
+use Rattle.sql_parse.specs.Grammar.{written_if, InParentheses}
+use Rattle.sql_parse.specs.Canonical.{kept_if}
 
 -- INTEGER | INT | VARCHAR "(" number ")"
 abbrev pub IsColumnType : Rule ColumnType

@@ -1,10 +1,6 @@
 -- A statement of a keyword and a name.
-use Rattle.std.specs.Prelude.{ℕ, ◌≡◌, List, [], ◌∷◌, Some}
-use Rattle.sql_parse.specs.Lexemes.{Word}
+use Rattle.sql_parse.specs.Productions.{ℕ, ◌≡◌, List, [], ◌∷◌, Some, Word, Rule, IsName, Reader, ◌>>=◌, name_at, Keyword, Part, Name}
 use Rattle.sql_parse.specs.Trees.{StatementTree}
-use Rattle.sql_parse.specs.Grammar.{Rule, IsName}
-use Rattle.sql_parse.specs.Reading.{Reader, ◌>>=◌, name_at}
-use Rattle.sql_parse.specs.Canonical.{Keyword, Part, Name}
 
 -- keyword name
 abbrev pub IsNamed : (keyword : List ℕ) → Rule (List ℕ)

@@ -1,11 +1,8 @@
 -- OPEN.
-use Rattle.std.specs.Prelude.{codes, ℕ, ◌≡◌, List, ◌∷◌, Some}
+use Rattle.sql_parse.specs.Productions.{codes, ℕ, ◌≡◌, List, ◌∷◌, Some, Lexeme, Word, mark, Rule, IsName, IsSelect, Reader, ◌>>=◌, after_mark, name_at, text_token_at, select_at, Keyword, Part, Fixed, Name, Text, query_parts}
 use Rattle.sql_parse.specs.declared.mark.Mark.TheVariants as m
-use Rattle.sql_parse.specs.Lexemes.{Lexeme, Word, Text as TextToken, mark}
+use Rattle.sql_parse.specs.Lexemes.{Text as TextToken}
 use Rattle.sql_parse.specs.Trees.{QueryTree, StatementTree, OpenFile}
-use Rattle.sql_parse.specs.Grammar.{Rule, IsName, IsSelect}
-use Rattle.sql_parse.specs.Reading.{Reader, ◌>>=◌, after_mark, name_at, text_token_at, select_at}
-use Rattle.sql_parse.specs.Canonical.{Keyword, Part, Fixed, Name, Text, query_parts}
 
 -- OPEN name FROM text AS select
 abbrev pub IsOpenFile : (name file : List ℕ) → Rule QueryTree

@@ -1,12 +1,9 @@
 -- SAVE.
-use Rattle.std.specs.Prelude.{codes, ◌≡◌, List, [], ◌∷◌, Some}
+use Rattle.sql_parse.specs.Productions.{codes, ◌≡◌, List, [], ◌∷◌, Some, Word, mark, Rule, IsName, Reader, ◌>>=◌, after_mark, name_at, text_token_at, Keyword, Part, Fixed, Name, Text}
 use Rattle.sql_parse.specs.declared.mark.Mark.TheVariants as m
 use Rattle.sql_parse.specs.declared.tree.FileDef.{FileDef}
-use Rattle.sql_parse.specs.Lexemes.{Word, Text as TextToken, mark}
+use Rattle.sql_parse.specs.Lexemes.{Text as TextToken}
 use Rattle.sql_parse.specs.Trees.{StatementTree, SaveFile}
-use Rattle.sql_parse.specs.Grammar.{Rule, IsName}
-use Rattle.sql_parse.specs.Reading.{Reader, ◌>>=◌, after_mark, name_at, text_token_at}
-use Rattle.sql_parse.specs.Canonical.{Keyword, Part, Fixed, Name, Text}
 
 -- SAVE name TO text
 abbrev pub IsSaveFile : Rule FileDef
