@@ -7,15 +7,13 @@ use Rattle.sql_lex.specs.declared.fault.LexFault.{LexFault}
 use Rattle.sql_lex.specs.declared.token.Token.{Token}
 use Rattle.sql_parse.specs.Lexemes.{lexemes}
 use Rattle.sql_parse.specs.Trees.{StatementTree}
-use Rattle.sql_parse.specs.Grammar.{IsStatement}
-use Rattle.sql_parse.specs.Canonical.{with_spaces, statement_parts, canonical}
+use Rattle.sql_parse.specs.Canonical.{with_spaces}
 use Rattle.sql_parse.specs.Script.{SpellsStatement}
 use Rattle.sql_parse.proofs.Scripts.{tokens-each}
-use Rattle.sql_parse.proofs.AgainStatements.{statements-same}
 use Rattle.sql_parse.proofs.Sound.{tokens-sound}
-use Rattle.sql_parse.proofs.SoundForms.{statement-writable}
-use Rattle.sql_parse.proofs.PrintedStatements.{statement-printed}
 use Rattle.sql_parse.proofs.WrittenParts.{Writable, text-tokens, text-lexemes}
+use Rattle.sql_parse.specs.Statements.{IsStatement, statement_parts, canonical}
+use Rattle.sql_parse.proofs.Statements.{statements-same, statement-writable, statement-printed}
 
 pub canonical-read : (text : List ℕ) (tree : StatementTree) → SpellsStatement text tree → SpellsStatement (canonical tree) tree
 canonical-read text tree written =

@@ -3,14 +3,13 @@ use Rattle.std.proofs.Common.{◌≡◌, ◌∙◌, ℕ, suc, ◌⊎◌, inl, in
 use Rattle.std.proofs.lemmas.List.{map-append}
 use Rattle.std.proofs.lemmas.Slice.Eq.{bytes_eq-Decides}
 use Rattle.sql_values.specs.declared.value.Value.TheVariants as value
-use Rattle.sql_values.specs.declared.column.ColumnType.TheVariants as types
 use Rattle.sql_parse.specs.declared.mark.Mark.{Mark}
 use Rattle.sql_parse.specs.declared.mark.Mark.TheVariants as m
 use Rattle.sql_parse.specs.declared.tree.Term.TheVariants as term
 use Rattle.sql_parse.specs.Lexemes.{Lexeme, Word, mark}
 use Rattle.sql_parse.specs.Trees.{Compare, Between, OneOf, IsNull, Not, And, Or}
-use Rattle.sql_parse.specs.Grammar.{Rule, written_if, option_of, Separated, InParentheses, IsColumnName, IsColRef, IsInteger, IsTerm, IsPredicate, IsItem, IsSelection, IsColumnType, IsColumn, IsLevel, IsPointClause}
-use Rattle.sql_parse.specs.Canonical.{Part, Fixed, Name, Number, Operator, part_lexeme, listed, in_parentheses, kept_if, column_name_parts, column_parts, integer_parts, operand_parts, condition_parts, item_parts, selection_parts, type_parts, definition_parts, option_parts, point_parts}
+use Rattle.sql_parse.specs.Grammar.{Rule, written_if, Separated, InParentheses, IsColumnName, IsColRef, IsInteger, IsTerm, IsPredicate, IsItem, IsSelection}
+use Rattle.sql_parse.specs.Canonical.{Part, Fixed, Name, Operator, part_lexeme, listed, in_parentheses, kept_if, column_name_parts, column_parts, integer_parts, operand_parts, condition_parts, item_parts, selection_parts}
 
 abbrev pub tokens_of : List Part → List Lexeme
 tokens_of parts = map part_lexeme parts
@@ -120,28 +119,3 @@ item-printed tokens item form = (
 pub selection-printed : IsPrintedBy IsSelection selection_parts
 selection-printed tokens None form = refl
 selection-printed tokens (Some columns) form = separated-printed IsColRef column_parts colref-printed tokens columns form
-
-type-printed : IsPrintedBy IsColumnType type_parts
-type-printed tokens types.Integer form = inl refl
-type-printed tokens (types.Varchar n) form = refl
-
-pub definition-printed : IsPrintedBy IsColumn definition_parts
-definition-printed tokens column form = (
-  tokens_of (type_parts column.kind),
-  ap (λ ts. Word column.name ∷ ts) (tokens-append (type_parts column.kind) (kept_if column.not_null (m.Not ∷ m.Null ∷ []))
-      ∙ ap (λ ts. tokens_of (type_parts column.kind) ++ ts) (kept-printed column.not_null (m.Not ∷ m.Null ∷ []))),
-  form.2,
-  type-printed form.0 column.kind form.3,
-)
-
-pub option-printed : (keyword : Mark) (number : Option ℕ) → tokens_of (option_parts keyword number) ≡ option_of keyword number
-option-printed keyword None = refl
-option-printed keyword (Some n) = refl
-
-pub point-printed : IsPrintedBy IsPointClause point_parts
-point-printed tokens [] form = refl
-point-printed tokens (n ∷ ns) form = (
-  tokens_of (listed (λ level. Number level ∷ []) (n ∷ ns)),
-  refl,
-  separated-printed IsLevel (λ level. Number level ∷ []) (λ ts level is. refl) form.0 (n ∷ ns) form.2,
-)

@@ -8,8 +8,10 @@ use Rattle.sql_parse.specs.declared.mark.Mark.{Mark}
 use Rattle.sql_parse.specs.declared.mark.Mark.TheVariants as m
 use Rattle.sql_parse.specs.declared.tree.Term.TheVariants as term
 use Rattle.sql_parse.specs.Lexemes.{Lexeme, Word, Number, Text, Sign, mark, is_reserved}
+use Rattle.sql_parse.specs.Trees.{StatementTree}
 use Rattle.sql_parse.specs.Grammar.{Rule, IsName, Separated, InParentheses, IsColRef, IsInteger, IsTerm}
-use Rattle.sql_parse.specs.Reading.{Reader, ◌>>=◌, choose, same, after_mark, name_at, number_at, text_token_at, more_at, list_with_first, list_at, in_parentheses_at, colref_at, unsigned_at, integer_at, token_kind_at, operand_of_kind, operand_at}
+use Rattle.sql_parse.specs.Reading.{Reader, ◌>>=◌, choose, same, after_mark, after_word, name_at, number_at, text_token_at, more_at, list_with_first, list_at, in_parentheses_at, colref_at, unsigned_at, integer_at, token_kind_at, operand_of_kind, operand_at}
+use Rattle.sql_parse.specs.Statements.{IsStatement}
 
 -- where there is a value, this holds of it
 abbrev pub IfFound : {A : Type 0} → (A → Type 0) → Option A → Type 0
@@ -72,6 +74,24 @@ pub either_after : {B : Type 0} (sign : Mark) (tokens : List Lexeme) (P : B → 
     → ((rest : List Lexeme) → tokens ≡ mark sign ∷ rest → IfFound P (f rest)) → IfFound P (choose (after_mark sign tokens) otherwise f)
 either_after sign tokens P otherwise f none next =
     either_found (λ rest. tokens ≡ mark sign ∷ rest) P (after_mark sign tokens) otherwise f (after_mark-reads sign tokens) none next
+
+after_word-reads : (word : List ℕ) (tokens : List Lexeme) → IfFound (λ rest. tokens ≡ Word word ∷ rest) (after_word word tokens)
+unfolding after_word
+after_word-reads word [] = tt
+after_word-reads word (first ∷ rest) =
+    elim (same first (Word word)) as (λ b. same first (Word word) ≡ b → IfFound (λ later. first ∷ rest ≡ Word word ∷ later) (cond b (Some rest) None)) [
+      | true ↦ λ equal. ap (λ token. token ∷ rest) (same-true first (Word word) equal)
+      | false ↦ λ other. tt
+    ] refl
+
+pub then_word : {B : Type 0} (word : List ℕ) (tokens : List Lexeme) (P : B → Type 0) (f : List Lexeme → Option B)
+    → ((rest : List Lexeme) → tokens ≡ Word word ∷ rest → IfFound P (f rest)) → IfFound P (after_word word tokens >>= f)
+then_word word tokens P f next = then_found (λ rest. tokens ≡ Word word ∷ rest) P (after_word word tokens) f (after_word-reads word tokens) next
+
+pub either_word : {B : Type 0} (word : List ℕ) (tokens : List Lexeme) (P : B → Type 0) (otherwise : Option B) (f : List Lexeme → Option B) → IfFound P otherwise
+    → ((rest : List Lexeme) → tokens ≡ Word word ∷ rest → IfFound P (f rest)) → IfFound P (choose (after_word word tokens) otherwise f)
+either_word word tokens P otherwise f none next =
+    either_found (λ rest. tokens ≡ Word word ∷ rest) P (after_word word tokens) otherwise f (after_word-reads word tokens) none next
 
 -- a word that is a name
 abbrev pub IsNameToken : Rule (List ℕ)
@@ -191,3 +211,7 @@ in_parentheses-reads reads = record {
       then_after m.CloseParen x.1 _ _ (λ end closes.
       (mark m.OpenParen ∷ (inside.0 ++ mark m.CloseParen ∷ []), opens ∙ ap (λ all. mark m.OpenParen ∷ all) (also _ _ _ inside.1 closes), (inside.0, refl, inside.2)))));
 }
+
+-- a statement whose first keywords are read
+abbrev pub IsAfter : List Lexeme → Rule StatementTree
+IsAfter keywords tokens statement = IsStatement (keywords ++ tokens) statement

@@ -10,12 +10,11 @@ use Rattle.sql_parse.specs.declared.fault.SyntaxFault.TheVariants.{Syntax, NoMem
 use Rattle.sql_parse.specs.declared.tree.Statement.{Statement}
 use Rattle.sql_parse.specs.Lexemes.{Lexeme, lexemes}
 use Rattle.sql_parse.specs.Trees.{StatementTree, statement_tree}
-use Rattle.sql_parse.specs.Grammar.{IsStatement}
-use Rattle.sql_parse.specs.Script.{split, not_empty, pieces, AreStatementsOf, AreStatements, IsFirstRefused, IsParsing, IsCause}
-use Rattle.sql_parse.specs.Reading.{split_after, statement_of, with_statement}
+use Rattle.sql_parse.specs.Script.{split, not_empty, pieces, AreStatementsOf, AreStatements, IsFirstRefused, IsParsing, IsCause, split_after}
+use Rattle.sql_parse.specs.Reading.{with_statement}
 use Rattle.sql_parse.proofs.Read.{found_is}
-use Rattle.sql_parse.proofs.ReadStatements.{statement_of-reads}
-use Rattle.sql_parse.proofs.AgainStatements.{statement_of-again, statements-same}
+use Rattle.sql_parse.specs.Statements.{IsStatement, statement_of}
+use Rattle.sql_parse.proofs.Statements.{statement_of-reads, statement_of-again, statements-same}
 
 -- each token of a script is one
 pub tokens-each : (script : List ℕ) (tokens : List Token) → Tokens script tokens → All (IsToken script) tokens

@@ -1,5 +1,5 @@
 -- The tokens of a script can be spelled as canonical text spells them, and each part that is printed of them, too.
-use Rattle.std.proofs.Common.{◌≡◌, ◌∙◌, ℕ, ◌+◌, ◌-◌, ◌*◌, ◌<◌, ◌≤◌, ◌^◌, true, false, nat_le, List, [], ◌∷◌, fold, length, codes, bytes_eq, decimal, slice_index, refl, sym, ap, subst, arith}
+use Rattle.std.proofs.Common.{◌≡◌, ◌∙◌, ℕ, ◌+◌, ◌-◌, ◌*◌, ◌<◌, ◌≤◌, ◌^◌, true, false, nat_le, List, [], ◌∷◌, fold, length, bytes_eq, decimal, slice_index, refl, sym, ap, subst, arith}
 use Rattle.std.specs.List.{All, AllPass, list_all}
 use Rattle.std.specs.Str.{IsUtf8, all_ascii_digits}
 use Rattle.std.specs.Char.{to_ascii_uppercase, is_ascii_digit}
@@ -150,45 +150,15 @@ sound-again (Comparison ops.Ge) sound = refl
 
 -- keywords and signs are sound
 
-keyword-sound : (word : List ℕ) → starts_word (slice_index word 0) ≡ true → list_all is_word_byte word ≡ true → nat_le (length word) 128 ≡ true
+pub word-sound : (word : List ℕ) → starts_word (slice_index word 0) ≡ true → list_all is_word_byte word ≡ true → nat_le (length word) 128 ≡ true
     → bytes_eq (word_value_of word) word ≡ true → IsSound (Word word)
-keyword-sound word starts all limit upper = (
+word-sound word starts all limit upper = (
   (starts, AllPass-from_list_all is_word_byte word all),
   grind (arith, nat_tests),
   (bytes_eq-Decides (word_value_of word) word).0 upper,
 )
 
 pub mark-sound : (keyword : Mark) → IsSound (mark keyword)
-mark-sound m.And = keyword-sound (codes "AND") refl refl refl refl
-mark-sound m.As = keyword-sound (codes "AS") refl refl refl refl
-mark-sound m.At = keyword-sound (codes "AT") refl refl refl refl
-mark-sound m.Audit = keyword-sound (codes "AUDIT") refl refl refl refl
-mark-sound m.Between = keyword-sound (codes "BETWEEN") refl refl refl refl
-mark-sound m.Compile = keyword-sound (codes "COMPILE") refl refl refl refl
-mark-sound m.Create = keyword-sound (codes "CREATE") refl refl refl refl
-mark-sound m.Explain = keyword-sound (codes "EXPLAIN") refl refl refl refl
-mark-sound m.From = keyword-sound (codes "FROM") refl refl refl refl
-mark-sound m.In = keyword-sound (codes "IN") refl refl refl refl
-mark-sound m.Index = keyword-sound (codes "INDEX") refl refl refl refl
-mark-sound m.Int = keyword-sound (codes "INT") refl refl refl refl
-mark-sound m.Integer = keyword-sound (codes "INTEGER") refl refl refl refl
-mark-sound m.Into = keyword-sound (codes "INTO") refl refl refl refl
-mark-sound m.Is = keyword-sound (codes "IS") refl refl refl refl
-mark-sound m.Levels = keyword-sound (codes "LEVELS") refl refl refl refl
-mark-sound m.Load = keyword-sound (codes "LOAD") refl refl refl refl
-mark-sound m.Not = keyword-sound (codes "NOT") refl refl refl refl
-mark-sound m.Null = keyword-sound (codes "NULL") refl refl refl refl
-mark-sound m.On = keyword-sound (codes "ON") refl refl refl refl
-mark-sound m.Open = keyword-sound (codes "OPEN") refl refl refl refl
-mark-sound m.Or = keyword-sound (codes "OR") refl refl refl refl
-mark-sound m.Run = keyword-sound (codes "RUN") refl refl refl refl
-mark-sound m.Save = keyword-sound (codes "SAVE") refl refl refl refl
-mark-sound m.Select = keyword-sound (codes "SELECT") refl refl refl refl
-mark-sound m.Table = keyword-sound (codes "TABLE") refl refl refl refl
-mark-sound m.Threshold = keyword-sound (codes "THRESHOLD") refl refl refl refl
-mark-sound m.To = keyword-sound (codes "TO") refl refl refl refl
-mark-sound m.Varchar = keyword-sound (codes "VARCHAR") refl refl refl refl
-mark-sound m.Where = keyword-sound (codes "WHERE") refl refl refl refl
 mark-sound m.OpenParen = (40, refl, refl)
 mark-sound m.CloseParen = (41, refl, refl)
 mark-sound m.Star = (42, refl, refl)
@@ -196,3 +166,4 @@ mark-sound m.Plus = (43, refl, refl)
 mark-sound m.Comma = (44, refl, refl)
 mark-sound m.Minus = (45, refl, refl)
 mark-sound m.Dot = (46, refl, refl)
+mark-sound other = word-sound _ refl refl refl refl

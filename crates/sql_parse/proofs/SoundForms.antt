@@ -2,19 +2,17 @@
 use Rattle.std.proofs.Common.{◌≡◌, ℕ, zero, suc, ◌≤◌, inl, inr, Bool, true, false, cond, List, [], ◌∷◌, ◌++◌, Option, Some, None, pos, int_lt, neg_ℤ, bytes_eq, sym, subst, rules}
 use Rattle.sql_lex.specs.Limits.{max_number}
 use Rattle.sql_values.specs.declared.value.Value.TheVariants as value
-use Rattle.sql_values.specs.declared.column.ColumnType.TheVariants as types
 use Rattle.sql_parse.specs.declared.mark.Mark.TheVariants as m
 use Rattle.sql_parse.specs.declared.tree.Term.TheVariants as term
 use Rattle.sql_parse.specs.Limits.{nesting_limit}
 use Rattle.sql_parse.specs.Lexemes.{Lexeme, Word, mark}
-use Rattle.sql_parse.specs.Lexemes as lexeme
-use Rattle.sql_parse.specs.Trees.{ConditionTree, Compare, Between, OneOf, IsNull, Not, And, Or, operands, CreateTable, CreateIndex, Load, Select, Compile, Run, Explain, SaveFile, OpenFile, Audit}
-use Rattle.sql_parse.specs.Grammar.{Rule, written_if, option_of, Separated, InParentheses, IsColumnName, IsColRef, IsInteger, IsTerm, IsPredicate, IsFactor, IsConjunction, IsDisjunction, IsGroup, IsItem, IsSelection, IsWhere, IsSelect, IsColumnType, IsColumn, IsLevel, IsPointClause, IsStatement}
-use Rattle.sql_parse.specs.Canonical.{Part, Fixed, Name, Number, Operator, listed, in_parentheses, kept_if, column_name_parts, column_parts, integer_parts, operand_parts, is_or, is_chain, is_no_predicate, grouped_if, condition_parts, and_parts, or_parts, item_parts, selection_parts, where_parts, query_parts, type_parts, definition_parts, option_parts, point_parts, statement_parts}
+use Rattle.sql_parse.specs.Trees.{ConditionTree, Compare, Between, OneOf, IsNull, Not, And, Or, operands}
+use Rattle.sql_parse.specs.Grammar.{Rule, written_if, Separated, InParentheses, IsColumnName, IsColRef, IsInteger, IsTerm, IsPredicate, IsFactor, IsConjunction, IsDisjunction, IsGroup, IsItem, IsSelection, IsWhere, IsSelect}
+use Rattle.sql_parse.specs.Canonical.{Part, Fixed, Name, Operator, listed, in_parentheses, kept_if, column_name_parts, column_parts, integer_parts, operand_parts, is_or, is_chain, is_no_predicate, grouped_if, condition_parts, and_parts, or_parts, item_parts, selection_parts, where_parts, query_parts}
 use Rattle.sql_parse.proofs.Sound.{IsSound, EachSound, mark-sound}
 use Rattle.sql_parse.proofs.WrittenParts.{Writable, writable-append}
 
-sound-front : (front back : List Lexeme) → EachSound (front ++ back) → EachSound front
+pub sound-front : (front back : List Lexeme) → EachSound (front ++ back) → EachSound front
 sound-front [] back sound = tt
 sound-front (token ∷ front) back sound = (sound.0, sound-front front back sound.1)
 
@@ -26,7 +24,7 @@ sound-back (token ∷ front) back sound = sound-back front back sound.1
 abbrev pub IsWritable : {A : Type 0} → Rule A → (A → List Part) → Type 0
 IsWritable {A} IsForm parts = (tokens : List Lexeme) (x : A) → EachSound tokens → IsForm tokens x → Writable (parts x)
 
-listed-writable : {A : Type 0} (IsPart : Rule A) (parts : A → List Part) → IsWritable IsPart parts → IsWritable (Separated m.Comma IsPart) (listed parts)
+pub listed-writable : {A : Type 0} (IsPart : Rule A) (parts : A → List Part) → IsWritable IsPart parts → IsWritable (Separated m.Comma IsPart) (listed parts)
 listed-writable IsPart parts writable tokens [] sound form = absurd form
 listed-writable IsPart parts writable tokens (x ∷ []) sound form = writable-append (parts x) [] (writable tokens x sound form) tt
 listed-writable IsPart parts writable tokens (x ∷ y ∷ ys) sound form =
@@ -35,11 +33,11 @@ listed-writable IsPart parts writable tokens (x ∷ y ∷ ys) sound form =
     writable-append (parts x) (Fixed m.Comma ∷ listed parts (y ∷ ys)) (writable form.0 x (sound-front form.0 (mark m.Comma ∷ form.1) all) form.3)
     (mark-sound m.Comma, tt, listed-writable IsPart parts writable form.1 (y ∷ ys) later.1 form.4)
 
-group-writable : (parts : List Part) → Writable parts → Writable (in_parentheses parts)
+pub group-writable : (parts : List Part) → Writable parts → Writable (in_parentheses parts)
 group-writable parts writable =
     (mark-sound m.OpenParen, tt, writable-append parts (Fixed m.CloseParen ∷ []) writable (mark-sound m.CloseParen, tt, tt))
 
-in_parentheses-writable : {A : Type 0} (IsInside : Rule A) (parts : A → List Part) → IsWritable IsInside parts → IsWritable (InParentheses IsInside) (λ x. in_parentheses (parts x))
+pub in_parentheses-writable : {A : Type 0} (IsInside : Rule A) (parts : A → List Part) → IsWritable IsInside parts → IsWritable (InParentheses IsInside) (λ x. in_parentheses (parts x))
 in_parentheses-writable IsInside parts writable tokens x sound form =
     let all : EachSound (mark m.OpenParen ∷ (form.0 ++ mark m.CloseParen ∷ [])) = subst EachSound form.1 sound in
     group-writable (parts x) (writable form.0 x (sound-front form.0 (mark m.CloseParen ∷ []) all.1) form.2)
@@ -218,91 +216,3 @@ select-writable tokens query sound form =
                 (where-writable form.2 query.condition (sound-back form.1 form.2 later.1) form.6),
           ),
     )
-
-type-writable : IsWritable IsColumnType type_parts
-type-writable tokens types.Integer sound form = (mark-sound m.Integer, tt, tt)
-type-writable tokens (types.Varchar n) sound form =
-    let all = subst EachSound form sound in
-    (mark-sound m.Varchar, tt, (mark-sound m.OpenParen, tt, (all.1.1.0, tt, (mark-sound m.CloseParen, tt, tt))))
-
-nulls-writable : (kept : Bool) → Writable (kept_if kept (m.Not ∷ m.Null ∷ []))
-nulls-writable false = tt
-nulls-writable true = (mark-sound m.Not, tt, (mark-sound m.Null, tt, tt))
-
-definition-writable : IsWritable IsColumn definition_parts
-definition-writable tokens column sound form =
-    let nulls = written_if column.not_null (m.Not ∷ m.Null ∷ []) in
-    let all : EachSound (Word column.name ∷ (form.0 ++ nulls)) = subst EachSound form.1 sound in (
-      all.0,
-      tt,
-      writable-append (type_parts column.kind) (kept_if column.not_null (m.Not ∷ m.Null ∷ []))
-          (type-writable form.0 column.kind (sound-front form.0 nulls all.1) form.3) (nulls-writable column.not_null),
-    )
-
-levels-writable : (number : Option ℕ) → EachSound (option_of m.Levels number) → Writable (option_parts m.Levels number)
-levels-writable None sound = tt
-levels-writable (Some n) sound = (mark-sound m.Levels, tt, (sound.1.0, tt, tt))
-
-threshold-writable : (number : Option ℕ) → EachSound (option_of m.Threshold number) → Writable (option_parts m.Threshold number)
-threshold-writable None sound = tt
-threshold-writable (Some n) sound = (mark-sound m.Threshold, tt, (sound.1.0, tt, tt))
-
-level-writable : IsWritable IsLevel (λ level. Number level ∷ [])
-level-writable tokens level sound form = let all = subst EachSound form sound in (all.0, tt, tt)
-
-point-writable : IsWritable IsPointClause point_parts
-point-writable tokens [] sound form = tt
-point-writable tokens (n ∷ ns) sound form =
-    let all : EachSound (mark m.At ∷ form.0) = subst EachSound form.1 sound in
-    (mark-sound m.At, tt, listed-writable IsLevel (λ level. Number level ∷ []) level-writable form.0 (n ∷ ns) all.1 form.2)
-
-pub statement-writable : IsWritable IsStatement statement_parts
-statement-writable tokens (CreateTable table) sound form =
-    let all : EachSound (mark m.Create ∷ mark m.Table ∷ Word table.name ∷ form.0) = subst EachSound form.1 sound in (
-      mark-sound m.Create,
-      tt,
-      (
-        mark-sound m.Table,
-        tt,
-        (
-          all.1.1.0,
-          tt,
-          in_parentheses-writable (Separated m.Comma IsColumn) (listed definition_parts) (listed-writable IsColumn definition_parts definition-writable) form.0 table.columns all.1.1.1 form.3,
-        ),
-      ),
-    )
-statement-writable tokens (CreateIndex index) sound form =
-    let all = subst EachSound form.0 sound in
-    (mark-sound m.Create, tt, (mark-sound m.Index, tt, (all.1.1.0, tt, (mark-sound m.On, tt, (all.1.1.1.1.0, tt, group-writable (Name index.column ∷ []) (all.1.1.1.1.1.1.0, tt, tt))))))
-statement-writable tokens (Load load) sound form =
-    let all = subst EachSound form.0 sound in
-    (mark-sound m.Load, tt, (all.1.0, tt, (mark-sound m.Into, tt, (all.1.1.1.0, tt, tt))))
-statement-writable tokens (Select query) sound form = select-writable tokens query sound form
-statement-writable tokens (Compile name levels threshold query) sound form =
-    let rest = option_of m.Threshold threshold ++ mark m.As ∷ form.0 in
-    let all : EachSound (mark m.Compile ∷ Word name ∷ (option_of m.Levels levels ++ rest)) = subst EachSound form.1 sound in
-    let later : EachSound rest = sound-back (option_of m.Levels levels) rest all.1.1 in
-    let last : EachSound (mark m.As ∷ form.0) = sound-back (option_of m.Threshold threshold) (mark m.As ∷ form.0) later in (
-      mark-sound m.Compile,
-      tt,
-      (
-        all.1.0,
-        tt,
-        writable-append (option_parts m.Levels levels) (option_parts m.Threshold threshold ++ Fixed m.As ∷ query_parts query)
-            (levels-writable levels (sound-front (option_of m.Levels levels) rest all.1.1))
-            (writable-append (option_parts m.Threshold threshold) (Fixed m.As ∷ query_parts query)
-            (threshold-writable threshold (sound-front (option_of m.Threshold threshold) (mark m.As ∷ form.0) later))
-            (mark-sound m.As, tt, select-writable form.0 query last.1 form.3)),
-      ),
-    )
-statement-writable tokens (Run name) sound form = let all = subst EachSound form.0 sound in (mark-sound m.Run, tt, (all.1.0, tt, tt))
-statement-writable tokens (Explain name) sound form = let all = subst EachSound form.0 sound in (mark-sound m.Explain, tt, (all.1.0, tt, tt))
-statement-writable tokens (SaveFile save) sound form =
-    let all = subst EachSound form.0 sound in
-    (mark-sound m.Save, tt, (all.1.0, tt, (mark-sound m.To, tt, (all.1.1.1.0, tt, tt))))
-statement-writable tokens (OpenFile name file query) sound form =
-    let all : EachSound (mark m.Open ∷ Word name ∷ mark m.From ∷ lexeme.Text file ∷ mark m.As ∷ form.0) = subst EachSound form.1 sound in
-    (mark-sound m.Open, tt, (all.1.0, tt, (mark-sound m.From, tt, (all.1.1.1.0, tt, (mark-sound m.As, tt, select-writable form.0 query all.1.1.1.1.1 form.3)))))
-statement-writable tokens (Audit audit) sound form =
-    let all : EachSound (mark m.Audit ∷ Word audit.name ∷ form.0) = subst EachSound form.1 sound in
-    (mark-sound m.Audit, tt, (all.1.0, tt, point-writable form.0 audit.levels all.1.1 form.3))

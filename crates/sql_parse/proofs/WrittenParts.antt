@@ -18,7 +18,7 @@ use Rattle.sql_values.specs.declared.op.Op.{Op}
 use Rattle.sql_values.specs.declared.op.Op.TheVariants as ops
 use Rattle.sql_parse.specs.declared.mark.Mark.TheVariants as m
 use Rattle.sql_parse.specs.Lexemes.{lexeme_of, lexemes}
-use Rattle.sql_parse.specs.Canonical.{Part, Fixed, Name, Number, Text, Operator, part_lexeme, spelled, lexeme_kind, joins_next, with_spaces, parts_text}
+use Rattle.sql_parse.specs.Canonical.{Part, Fixed, Keyword, Name, Number, Text, Operator, part_lexeme, spelled, lexeme_kind, joins_next, with_spaces, parts_text}
 use Rattle.sql_parse.proofs.PrintedForms.{tokens_of}
 use Rattle.sql_parse.proofs.Sound.{IsSound, sound-form, sound-limit, sound-again, decimal-digits, decimal-length}
 
@@ -116,35 +116,6 @@ varchar-stops (other ∷ parts) follows = absurd follows
 -- no token goes on with what is written after it
 stops : (part : Part) (parts : List Part) → Follows part parts → Writable parts
     → goes_on (lexeme_kind (part_lexeme part)) (spelled (part_lexeme part)) (slice_index (written_text (with_spaces (joins_next part) parts)) 0) ≡ false
-stops (Fixed m.And) parts follows sound = word-stops parts
-stops (Fixed m.As) parts follows sound = word-stops parts
-stops (Fixed m.At) parts follows sound = word-stops parts
-stops (Fixed m.Audit) parts follows sound = word-stops parts
-stops (Fixed m.Between) parts follows sound = word-stops parts
-stops (Fixed m.Compile) parts follows sound = word-stops parts
-stops (Fixed m.Create) parts follows sound = word-stops parts
-stops (Fixed m.Explain) parts follows sound = word-stops parts
-stops (Fixed m.From) parts follows sound = word-stops parts
-stops (Fixed m.In) parts follows sound = word-stops parts
-stops (Fixed m.Index) parts follows sound = word-stops parts
-stops (Fixed m.Int) parts follows sound = word-stops parts
-stops (Fixed m.Integer) parts follows sound = word-stops parts
-stops (Fixed m.Into) parts follows sound = word-stops parts
-stops (Fixed m.Is) parts follows sound = word-stops parts
-stops (Fixed m.Levels) parts follows sound = word-stops parts
-stops (Fixed m.Load) parts follows sound = word-stops parts
-stops (Fixed m.Not) parts follows sound = word-stops parts
-stops (Fixed m.Null) parts follows sound = word-stops parts
-stops (Fixed m.On) parts follows sound = word-stops parts
-stops (Fixed m.Open) parts follows sound = word-stops parts
-stops (Fixed m.Or) parts follows sound = word-stops parts
-stops (Fixed m.Run) parts follows sound = word-stops parts
-stops (Fixed m.Save) parts follows sound = word-stops parts
-stops (Fixed m.Select) parts follows sound = word-stops parts
-stops (Fixed m.Table) parts follows sound = word-stops parts
-stops (Fixed m.Threshold) parts follows sound = word-stops parts
-stops (Fixed m.To) parts follows sound = word-stops parts
-stops (Fixed m.Where) parts follows sound = word-stops parts
 stops (Fixed m.Varchar) parts follows sound = varchar-stops parts follows
 stops (Fixed m.OpenParen) parts follows sound = refl
 stops (Fixed m.CloseParen) parts follows sound = refl
@@ -153,6 +124,8 @@ stops (Fixed m.Plus) parts follows sound = refl
 stops (Fixed m.Comma) parts follows sound = refl
 stops (Fixed m.Dot) parts follows sound = refl
 stops (Fixed m.Minus) parts follows sound = minus-stops parts follows sound
+stops (Fixed other) parts follows sound = word-stops parts
+stops (Keyword upper) parts follows sound = word-stops parts
 stops (Name upper) parts follows sound = word-stops parts
 stops (Number n) parts follows sound = quiet-stops is_ascii_digit refl refl refl refl refl _ (next-quiet parts)
 stops (Text text) parts follows sound = quiet-stops (λ b. nat_eq b 39) refl refl refl refl refl _ (next-quiet parts)

@@ -7,9 +7,6 @@ use Rattle.sql_lex.specs.declared.token.TokenKind.TheVariants as kinds
 use Rattle.sql_values.specs.declared.op.Op.{Op}
 use Rattle.sql_values.specs.declared.value.Value.{Value}
 use Rattle.sql_values.specs.declared.value.Value.TheVariants as value
-use Rattle.sql_values.specs.declared.column.ColumnDef.{ColumnDef}
-use Rattle.sql_values.specs.declared.column.ColumnType.{ColumnType}
-use Rattle.sql_values.specs.declared.column.ColumnType.TheVariants as types
 use Rattle.sql_parse.specs.declared.mark.Mark.{Mark}
 use Rattle.sql_parse.specs.declared.mark.Mark.TheVariants as m
 use Rattle.sql_parse.specs.declared.tree.Term.{Term}
@@ -18,12 +15,14 @@ use Rattle.sql_parse.specs.declared.tree.ColRef.{ColRef}
 use Rattle.sql_parse.specs.declared.tree.Item.{Item}
 use Rattle.sql_parse.specs.Lexemes as lexeme
 use Rattle.sql_parse.specs.Lexemes.{Lexeme, mark}
-use Rattle.sql_parse.specs.Trees.{ConditionTree, ConditionTrees, Compare, Between, OneOf, IsNull, Not, And, Or, NoMore, More, QueryTree, StatementTree, CreateTable, CreateIndex, Load, Select, Compile, Run, Explain, SaveFile, OpenFile, Audit}
+use Rattle.sql_parse.specs.Trees.{ConditionTree, ConditionTrees, Compare, Between, OneOf, IsNull, Not, And, Or, NoMore, More, QueryTree}
 
 -- what canonical text is made of
 pub data Part : Type 0 where
-  -- a keyword or a sign
+  -- a keyword or a sign that productions share
   Fixed : Mark → Part
+  -- a keyword of one production
+  Keyword : (upper : List ℕ) → Part
   Name : (upper : List ℕ) → Part
   Number : (value : ℕ) → Part
   Text : (value : List ℕ) → Part
@@ -32,6 +31,7 @@ pub data Part : Type 0 where
 -- the token that a part is
 abbrev pub part_lexeme : Part → Lexeme
 part_lexeme (Fixed keyword) = mark keyword
+part_lexeme (Keyword upper) = lexeme.Word upper
 part_lexeme (Name upper) = lexeme.Word upper
 part_lexeme (Number n) = lexeme.Number n
 part_lexeme (Text text) = lexeme.Text text
@@ -184,49 +184,10 @@ query_parts query =
     Fixed m.Select
     ∷ (selection_parts query.columns ++ Fixed m.From ∷ (listed item_parts query.from ++ where_parts query.condition))
 
--- INT is written INTEGER
-abbrev pub type_parts : ColumnType → List Part
-type_parts types.Integer = Fixed m.Integer ∷ []
-type_parts (types.Varchar n) = Fixed m.Varchar ∷ in_parentheses (Number n ∷ [])
-
-abbrev pub definition_parts : ColumnDef → List Part
-definition_parts column =
-    Name column.name ∷ (type_parts column.kind ++ kept_if column.not_null (m.Not ∷ m.Null ∷ []))
-
--- LEVELS, THRESHOLD and AT are written where they were given
-abbrev pub option_parts : Mark → Option ℕ → List Part
-option_parts keyword None = []
-option_parts keyword (Some n) = Fixed keyword ∷ Number n ∷ []
-
-abbrev pub point_parts : List ℕ → List Part
-point_parts [] = []
-point_parts (n ∷ ns) = Fixed m.At ∷ listed (λ level. Number level ∷ []) (n ∷ ns)
-
-abbrev pub statement_parts : StatementTree → List Part
-statement_parts (CreateTable table) =
-    Fixed m.Create ∷ Fixed m.Table ∷ Name table.name ∷ in_parentheses (listed definition_parts table.columns)
-statement_parts (CreateIndex index) =
-    Fixed m.Create ∷ Fixed m.Index ∷ Name index.name ∷ Fixed m.On ∷ Name index.table
-    ∷ in_parentheses (Name index.column ∷ [])
-statement_parts (Load load) = Fixed m.Load ∷ Text load.file ∷ Fixed m.Into ∷ Name load.table ∷ []
-statement_parts (Select query) = query_parts query
-statement_parts (Compile name levels threshold query) =
-    Fixed m.Compile ∷ Name name
-    ∷ (option_parts m.Levels levels ++ (option_parts m.Threshold threshold ++ Fixed m.As ∷ query_parts query))
-statement_parts (Run name) = Fixed m.Run ∷ Name name ∷ []
-statement_parts (Explain name) = Fixed m.Explain ∷ Name name ∷ []
-statement_parts (SaveFile save) = Fixed m.Save ∷ Name save.name ∷ Fixed m.To ∷ Text save.file ∷ []
-statement_parts (OpenFile name file query) =
-    Fixed m.Open ∷ Name name ∷ Fixed m.From ∷ Text file ∷ Fixed m.As ∷ query_parts query
-statement_parts (Audit audit) = Fixed m.Audit ∷ Name audit.name ∷ point_parts audit.levels
-
 -- the text of parts, the first of which has no space before it
 abbrev pub parts_text : List Part → List ℕ
 parts_text parts = written_text (with_spaces true parts)
 
--- the canonical text of a query, and of a statement
+-- the canonical text of a query
 abbrev pub canonical_query : QueryTree → List ℕ
 canonical_query query = parts_text (query_parts query)
-
-abbrev pub canonical : StatementTree → List ℕ
-canonical statement = parts_text (statement_parts statement)

@@ -2,9 +2,6 @@
 use Rattle.std.specs.Prelude.{ℕ, zero, suc, ◌≡◌, ◌⊎◌, Bool, true, false, List, [], ◌∷◌, ◌++◌, map, Option, Some, None, ℤ, pos, neg_ℤ}
 use Rattle.std.specs.Bool.{IsFalse}
 use Rattle.sql_values.specs.declared.value.Value.TheVariants as value
-use Rattle.sql_values.specs.declared.column.ColumnDef.{ColumnDef}
-use Rattle.sql_values.specs.declared.column.ColumnType.{ColumnType}
-use Rattle.sql_values.specs.declared.column.ColumnType.TheVariants as kinds
 use Rattle.sql_parse.specs.declared.mark.Mark.{Mark}
 use Rattle.sql_parse.specs.declared.mark.Mark.TheVariants as m
 use Rattle.sql_parse.specs.declared.tree.Term.{Term}
@@ -13,7 +10,7 @@ use Rattle.sql_parse.specs.declared.tree.ColRef.{ColRef}
 use Rattle.sql_parse.specs.declared.tree.Item.{Item}
 use Rattle.sql_parse.specs.Limits.{nesting_limit}
 use Rattle.sql_parse.specs.Lexemes.{Lexeme, Word, Number, Text, Comparison, mark, is_reserved}
-use Rattle.sql_parse.specs.Trees.{ConditionTree, Compare, Between, OneOf, IsNull, Not, And, Or, operands, QueryTree, StatementTree, CreateTable, CreateIndex, Load, Select, Compile, Run, Explain, SaveFile, OpenFile, Audit}
+use Rattle.sql_parse.specs.Trees.{ConditionTree, Compare, Between, OneOf, IsNull, Not, And, Or, operands, QueryTree}
 
 -- a rule: whether these tokens are written for this value
 abbrev pub Rule : Type 0 → Type 1
@@ -27,11 +24,6 @@ IsName word = IsFalse (is_reserved word)
 abbrev pub written_if : Bool → List Mark → List Lexeme
 written_if false marks = []
 written_if true marks = map mark marks
-
--- a keyword and a number, where they are written
-abbrev pub option_of : Mark → Option ℕ → List Lexeme
-option_of keyword None = []
-option_of keyword (Some n) = mark keyword ∷ Number n ∷ []
 
 -- one or more parts, with the separator between each two
 abbrev pub Separated : {A : Type 0} → Mark → Rule A → Rule (List A)
@@ -153,71 +145,3 @@ IsSelect tokens query =
     × (tokens ≡ mark m.Select ∷ (columns ++ mark m.From ∷ (items ++ condition)))
     × IsSelection columns query.columns × Separated m.Comma IsItem items query.from
     × IsWhere condition query.condition
-
--- INTEGER | INT | VARCHAR "(" number ")"
-abbrev pub IsColumnType : Rule ColumnType
-IsColumnType tokens kinds.Integer = (tokens ≡ mark m.Integer ∷ []) ⊎ (tokens ≡ mark m.Int ∷ [])
-IsColumnType tokens (kinds.Varchar n) =
-    tokens ≡ mark m.Varchar ∷ mark m.OpenParen ∷ Number n ∷ mark m.CloseParen ∷ []
-
--- column = name ( INTEGER | INT | VARCHAR "(" number ")" ) [ NOT NULL ]
-abbrev pub IsColumn : Rule ColumnDef
-IsColumn tokens column =
-    (kind : List Lexeme)
-    × (tokens ≡ Word column.name ∷ (kind ++ written_if column.not_null (m.Not ∷ m.Null ∷ [])))
-    × IsName column.name × IsColumnType kind column.kind
-
--- a level of a point: a number
-abbrev pub IsLevel : Rule ℕ
-IsLevel tokens level = tokens ≡ Number level ∷ []
-
--- [ AT number { "," number } ]
-abbrev pub IsPointClause : Rule (List ℕ)
-IsPointClause tokens [] = tokens ≡ []
-IsPointClause tokens (n ∷ ns) =
-    (rest : List Lexeme) × (tokens ≡ mark m.At ∷ rest)
-    × Separated m.Comma IsLevel rest (n ∷ ns)
-
--- a statement, by its form
-abbrev pub IsStatement : Rule StatementTree
--- CREATE TABLE name "(" column { "," column } ")"
-IsStatement tokens (CreateTable table) =
-    (columns : List Lexeme) × (tokens ≡ mark m.Create ∷ mark m.Table ∷ Word table.name ∷ columns)
-    × IsName table.name × InParentheses (Separated m.Comma IsColumn) columns table.columns
--- CREATE INDEX name ON name "(" name ")"
-IsStatement tokens (CreateIndex index) =
-    (
-    tokens
-    ≡ mark m.Create ∷ mark m.Index ∷ Word index.name ∷ mark m.On ∷ Word index.table
-    ∷ mark m.OpenParen ∷ Word index.column ∷ mark m.CloseParen ∷ []
-    )
-    × IsName index.name × IsName index.table × IsName index.column
--- LOAD text INTO name
-IsStatement tokens (Load load) =
-    (tokens ≡ mark m.Load ∷ Text load.file ∷ mark m.Into ∷ Word load.table ∷ []) × IsName load.table
-IsStatement tokens (Select query) = IsSelect tokens query
--- COMPILE name [ LEVELS number ] [ THRESHOLD number ] AS select
-IsStatement tokens (Compile name levels threshold query) =
-    (select : List Lexeme)
-    × (
-    tokens
-    ≡ mark m.Compile ∷ Word name
-    ∷ (option_of m.Levels levels ++ (option_of m.Threshold threshold ++ mark m.As ∷ select))
-    )
-    × IsName name × IsSelect select query
--- RUN name
-IsStatement tokens (Run name) = (tokens ≡ mark m.Run ∷ Word name ∷ []) × IsName name
--- EXPLAIN name
-IsStatement tokens (Explain name) = (tokens ≡ mark m.Explain ∷ Word name ∷ []) × IsName name
--- SAVE name TO text
-IsStatement tokens (SaveFile save) =
-    (tokens ≡ mark m.Save ∷ Word save.name ∷ mark m.To ∷ Text save.file ∷ []) × IsName save.name
--- OPEN name FROM text AS select
-IsStatement tokens (OpenFile name file query) =
-    (select : List Lexeme)
-    × (tokens ≡ mark m.Open ∷ Word name ∷ mark m.From ∷ Text file ∷ mark m.As ∷ select)
-    × IsName name × IsSelect select query
--- AUDIT name [ AT number { "," number } ]
-IsStatement tokens (Audit audit) =
-    (point : List Lexeme) × (tokens ≡ mark m.Audit ∷ Word audit.name ∷ point)
-    × IsName audit.name × IsPointClause point audit.levels

@@ -42,35 +42,23 @@ lexeme script token = lexeme_of token.kind (slice_range script token.start token
 abbrev pub lexemes : List ℕ → List Token → List Lexeme
 lexemes script tokens = map (lexeme script) tokens
 
--- the keywords and the signs of the grammar
+-- the signs of the grammar, and the reserved words that stand within a statement
 abbrev pub mark : Mark → Lexeme
 mark marks.And = Word (codes "AND")
 mark marks.As = Word (codes "AS")
-mark marks.At = Word (codes "AT")
-mark marks.Audit = Word (codes "AUDIT")
 mark marks.Between = Word (codes "BETWEEN")
-mark marks.Compile = Word (codes "COMPILE")
-mark marks.Create = Word (codes "CREATE")
-mark marks.Explain = Word (codes "EXPLAIN")
 mark marks.From = Word (codes "FROM")
 mark marks.In = Word (codes "IN")
-mark marks.Index = Word (codes "INDEX")
 mark marks.Int = Word (codes "INT")
 mark marks.Integer = Word (codes "INTEGER")
 mark marks.Into = Word (codes "INTO")
 mark marks.Is = Word (codes "IS")
-mark marks.Levels = Word (codes "LEVELS")
-mark marks.Load = Word (codes "LOAD")
 mark marks.Not = Word (codes "NOT")
 mark marks.Null = Word (codes "NULL")
 mark marks.On = Word (codes "ON")
-mark marks.Open = Word (codes "OPEN")
 mark marks.Or = Word (codes "OR")
-mark marks.Run = Word (codes "RUN")
-mark marks.Save = Word (codes "SAVE")
 mark marks.Select = Word (codes "SELECT")
 mark marks.Table = Word (codes "TABLE")
-mark marks.Threshold = Word (codes "THRESHOLD")
 mark marks.To = Word (codes "TO")
 mark marks.Varchar = Word (codes "VARCHAR")
 mark marks.Where = Word (codes "WHERE")

@@ -7,4 +7,6 @@ pub mod Counts
 pub mod WellFormed
 pub mod Reading
 pub mod Canonical
+pub mod Productions
+pub mod Statements
 pub mod Printing

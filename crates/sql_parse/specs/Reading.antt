@@ -1,14 +1,10 @@
 -- What each private function of the reader returns: the value at the front of the tokens and the tokens after it, or
 -- none. No public clause cites this file; the proofs tie it to the grammar in both directions.
-use Rattle.std.specs.Prelude.{ℕ, zero, suc, ◌≡◌, Bool, true, false, List, [], ◌∷◌, ◌++◌, length, Option, Some, None, option_and_then, Result, Ok, Err, ℤ, pos, neg_ℤ, bytes_eq, if◌then◌else◌, ◌==◌}
-use Rattle.sql_lex.specs.declared.token.Token.{Token}
+use Rattle.std.specs.Prelude.{ℕ, zero, suc, ◌≡◌, Bool, true, false, List, [], ◌∷◌, ◌++◌, length, Option, Some, None, option_and_then, Result, Ok, Err, ℤ, pos, neg_ℤ, bytes_eq, if◌then◌else◌}
 use Rattle.sql_lex.specs.declared.token.TokenKind.{TokenKind}
 use Rattle.sql_lex.specs.declared.token.TokenKind.TheVariants as kinds
 use Rattle.sql_values.specs.declared.op.Op.{Op}
 use Rattle.sql_values.specs.declared.value.Value.TheVariants as value
-use Rattle.sql_values.specs.declared.column.ColumnDef.{ColumnDef}
-use Rattle.sql_values.specs.declared.column.ColumnType.{ColumnType}
-use Rattle.sql_values.specs.declared.column.ColumnType.TheVariants as types
 use Rattle.sql_parse.specs.declared.fault.ReadFault.{ReadFault}
 use Rattle.sql_parse.specs.declared.fault.ReadFault.TheVariants as faults
 use Rattle.sql_parse.specs.declared.mark.Mark.{Mark}
@@ -23,8 +19,7 @@ use Rattle.sql_parse.specs.declared.condition.Connective.{Connective}
 use Rattle.sql_parse.specs.declared.condition.Connective.TheVariants as connectives
 use Rattle.sql_parse.specs.Limits.{nesting_limit}
 use Rattle.sql_parse.specs.Lexemes.{Lexeme, Word, Number, Text, Sign, Comparison, mark, is_reserved}
-use Rattle.sql_parse.specs.Script.{split}
-use Rattle.sql_parse.specs.Trees.{condition_tree, statement_tree, ConditionTree, Compare, Between, OneOf, IsNull, Not, And, Or, operands, QueryTree, StatementTree, CreateTable, CreateIndex, Load, Select, Compile, Run, Explain, SaveFile, OpenFile, Audit}
+use Rattle.sql_parse.specs.Trees.{condition_tree, statement_tree, ConditionTree, Compare, Between, OneOf, IsNull, Not, And, Or, operands, QueryTree, StatementTree}
 
 -- What a function returned, seen by view, is what reading gives, unless memory ran out.
 abbrev pub Fails : {Y : Type 0} → ReadFault → Option Y → Type 0
@@ -73,6 +68,11 @@ mark_spelled other bytes = Sign bytes
 unfoldable pub after_mark : Mark → List Lexeme → Option (List Lexeme)
 after_mark sign [] = None
 after_mark sign (first ∷ rest) = if same first (mark sign) then Some rest else None
+
+-- what follows the word
+unfoldable pub after_word : (upper : List ℕ) → List Lexeme → Option (List Lexeme)
+after_word word [] = None
+after_word word (first ∷ rest) = if same first (Word word) then Some rest else None
 
 unfoldable pub name_at : Reader (List ℕ)
 name_at (Word word ∷ rest) = if is_reserved word then None else Some (word, rest)
@@ -274,126 +274,6 @@ select_at tokens = do
   condition ← where_at from.1
   Some (record { columns = columns.0; from = from.0; condition = condition.0 }, condition.1)
 
-unfoldable pub varchar_at : Reader ColumnType
-varchar_at tokens = do
-  rest ← after_mark m.Varchar tokens
-  n ← in_parentheses_at number_at rest
-  Some (types.Varchar n.0, n.1)
-
-unfoldable pub column_type_at : Reader ColumnType
-column_type_at tokens =
-    choose (after_mark m.Integer tokens)
-    (choose (after_mark m.Int tokens) (varchar_at tokens) (λ rest. Some (types.Integer, rest)))
-    (λ rest. Some (types.Integer, rest))
-
-unfoldable pub column_at : Reader ColumnDef
-column_at tokens = do
-  name ← name_at tokens
-  kind ← column_type_at name.1
-  choose (after_mark m.Not kind.1) (Some (record { name = name.0; kind = kind.0; not_null = false }, kind.1)) (λ rest. do
-    end ← after_mark m.Null rest
-    Some (record { name = name.0; kind = kind.0; not_null = true }, end))
-
-unfoldable pub create_table_at : Reader StatementTree
-create_table_at tokens = do
-  name ← name_at tokens
-  columns ← in_parentheses_at (list_at column_at m.Comma) name.1
-  Some (CreateTable (record { name = name.0; columns = columns.0 }), columns.1)
-
-unfoldable pub create_index_at : Reader StatementTree
-create_index_at tokens = do
-  name ← name_at tokens
-  rest ← after_mark m.On name.1
-  table ← name_at rest
-  column ← in_parentheses_at name_at table.1
-  Some (CreateIndex (record { name = name.0; table = table.0; column = column.0 }), column.1)
-
-unfoldable pub create_at : Reader StatementTree
-create_at tokens =
-    choose (after_mark m.Table tokens)
-    (do
-      rest ← after_mark m.Index tokens
-      create_index_at rest)
-    create_table_at
-
-unfoldable pub load_at : Reader StatementTree
-load_at tokens = do
-  file ← text_token_at tokens
-  rest ← after_mark m.Into file.1
-  table ← name_at rest
-  Some (Load (record { file = file.0; table = table.0 }), table.1)
-
--- a keyword and a number, where the keyword stands
-unfoldable pub option_at : Mark → Reader (Option ℕ)
-option_at keyword tokens =
-    choose (after_mark keyword tokens) (Some (None, tokens)) (λ rest. do
-      n ← number_at rest
-      Some (Some n.0, n.1))
-
-unfoldable pub compile_at : Reader StatementTree
-compile_at tokens = do
-  name ← name_at tokens
-  levels ← option_at m.Levels name.1
-  threshold ← option_at m.Threshold levels.1
-  rest ← after_mark m.As threshold.1
-  query ← select_at rest
-  Some (Compile name.0 levels.0 threshold.0 query.0, query.1)
-
-unfoldable pub save_at : Reader StatementTree
-save_at tokens = do
-  name ← name_at tokens
-  rest ← after_mark m.To name.1
-  file ← text_token_at rest
-  Some (SaveFile (record { name = name.0; file = file.0 }), file.1)
-
-unfoldable pub open_at : Reader StatementTree
-open_at tokens = do
-  name ← name_at tokens
-  rest ← after_mark m.From name.1
-  file ← text_token_at rest
-  later ← after_mark m.As file.1
-  query ← select_at later
-  Some (OpenFile name.0 file.0 query.0, query.1)
-
-unfoldable pub audit_at : Reader StatementTree
-audit_at tokens = do
-  name ← name_at tokens
-  choose (after_mark m.At name.1) (Some (Audit (record { name = name.0; levels = [] }), name.1)) (λ rest. do
-    levels ← list_at number_at m.Comma rest
-    Some (Audit (record { name = name.0; levels = levels.0 }), levels.1))
-
-unfoldable pub statement_at : Reader StatementTree
-statement_at tokens =
-    choose (after_mark m.Create tokens) (
-    choose (after_mark m.Load tokens) (
-    choose (after_mark m.Compile tokens) (
-    choose (after_mark m.Run tokens) (
-    choose (after_mark m.Explain tokens) (
-    choose (after_mark m.Save tokens) (
-    choose (after_mark m.Open tokens) (
-    choose (after_mark m.Audit tokens) (do
-      query ← select_at tokens
-      Some (Select query.0, query.1))
-    audit_at) open_at) save_at)
-    (λ rest. do
-      name ← name_at rest
-      Some (Explain name.0, name.1)))
-    (λ rest. do
-      name ← name_at rest
-      Some (Run name.0, name.1)))
-    compile_at) load_at) create_at
-
--- the statement of all these tokens
-unfoldable pub statement_of : List Lexeme → Option StatementTree
-statement_of tokens = do
-  statement ← statement_at tokens
-  if length statement.1 == 0 then Some statement.0 else None
-
 -- statements, and one more
 abbrev pub with_statement : List StatementTree → Option StatementTree → Option (List StatementTree)
 with_statement trees found = found >>= λ tree. Some (trees ++ tree ∷ [])
-
--- the pieces after the first semicolon
-abbrev pub split_after : List ℕ → List Token → List (List Token)
-split_after script [] = []
-split_after script (semicolon ∷ tokens) = split script tokens

@@ -7,7 +7,7 @@ use Rattle.sql_parse.specs.declared.fault.SyntaxFault.{SyntaxFault}
 use Rattle.sql_parse.specs.declared.fault.SyntaxFault.TheVariants.{Syntax, NoMemory}
 use Rattle.sql_parse.specs.Lexemes.{Lexeme, Sign, lexeme, lexemes}
 use Rattle.sql_parse.specs.Trees.{StatementTree}
-use Rattle.sql_parse.specs.Grammar.{IsStatement}
+use Rattle.sql_parse.specs.Statements.{IsStatement}
 
 -- whether a token is the semicolon
 abbrev pub is_semicolon : Lexeme → Bool
@@ -24,6 +24,11 @@ abbrev pub split : List ℕ → List Token → List (List Token)
 split script [] = [] ∷ []
 split script (token ∷ tokens) =
     if is_semicolon (lexeme script token) then [] ∷ split script tokens else in_front token (split script tokens)
+
+-- the pieces after the first semicolon
+abbrev pub split_after : List ℕ → List Token → List (List Token)
+split_after script [] = []
+split_after script (semicolon ∷ tokens) = split script tokens
 
 -- those of the pieces in which there is a token
 abbrev pub not_empty : List (List Token) → List (List Token)

@@ -4,7 +4,7 @@ use Rattle.std.specs.Str.{IsUtf8}
 use Rattle.sql_values.specs.declared.value.Value.TheVariants as value
 use Rattle.sql_parse.specs.declared.tree.Term.{Term}
 use Rattle.sql_parse.specs.declared.tree.Term.TheVariants as term
-use Rattle.sql_parse.specs.Trees.{ConditionTree, ConditionTrees, Compare, Between, OneOf, IsNull, Not, And, Or, NoMore, More, QueryTree, StatementTree, CreateTable, CreateIndex, Load, Select, Compile, Run, Explain, SaveFile, OpenFile, Audit}
+use Rattle.sql_parse.specs.Trees.{ConditionTree, ConditionTrees, Compare, Between, OneOf, IsNull, Not, And, Or, NoMore, More, QueryTree, StatementTree, CreateTable, Load, Select, Compile, SaveFile, OpenFile}
 use Rattle.sql_parse.specs.Canonical.{canonical_query}
 
 -- an operand isn't NULL as a literal
@@ -48,12 +48,9 @@ IsWellFormedQuery query =
 -- that is compiled or that a file is opened for
 abbrev pub IsWellFormed : StatementTree → Type 0
 IsWellFormed (CreateTable table) = 0 < length table.columns
-IsWellFormed (CreateIndex index) = Unit {0}
 IsWellFormed (Load load) = IsUtf8 load.file
 IsWellFormed (Select query) = IsWellFormedQuery query
 IsWellFormed (Compile name levels threshold query) = IsWellFormedQuery query × IsUtf8 (canonical_query query)
-IsWellFormed (Run name) = Unit {0}
-IsWellFormed (Explain name) = Unit {0}
 IsWellFormed (SaveFile save) = IsUtf8 save.file
 IsWellFormed (OpenFile name file query) = IsUtf8 file × IsWellFormedQuery query × IsUtf8 (canonical_query query)
-IsWellFormed (Audit audit) = Unit {0}
+IsWellFormed other = Unit {0}

@@ -17,7 +17,6 @@ mod predicate;
 mod query;
 mod script;
 mod statement;
-mod table;
 mod tree;
 mod writer;
 

@@ -1,44 +1,33 @@
-// The keywords and the signs of the grammar, and the words that can't be names.
+// The signs of the grammar and the reserved words that stand within a statement, keywords, and the words that can't be
+// names.
 
 ghost use Rattle.std.specs.Prelude.{◌≡◌, map, bytes_eq};
 ghost use Rattle.std.specs.List.{list_any};
 ghost use Rattle.sql_lex.specs.Values.{word_value_of};
-ghost use Rattle.sql_parse.specs.Lexemes.{lexeme_of, mark, is_reserved};
+ghost use Rattle.sql_parse.specs.Lexemes.{Word, lexeme_of, mark, is_reserved};
 ghost use Rattle.sql_parse.specs.Canonical.{Fixed, spelled, joins_previous, joins_next};
 ghost use Rattle.sql_parse.specs.Reading.{same, mark_spelled};
 
 use sql_lex::{TokenKind, is_word};
 
-/// A keyword or a sign.
+/// A sign, or a reserved word that stands within a statement. Any other keyword stands in its production alone.
 #[derive(Clone, Copy)]
 pub enum Mark {
     And,
     As,
-    At,
-    Audit,
     Between,
-    Compile,
-    Create,
-    Explain,
     From,
     In,
-    Index,
     Int,
     Integer,
     Into,
     Is,
-    Levels,
-    Load,
     Not,
     Null,
     On,
-    Open,
     Or,
-    Run,
-    Save,
     Select,
     Table,
-    Threshold,
     To,
     Varchar,
     Where,
@@ -59,31 +48,19 @@ impl Mark {
         match self {
             Mark::And => (TokenKind::Word, b"AND"),
             Mark::As => (TokenKind::Word, b"AS"),
-            Mark::At => (TokenKind::Word, b"AT"),
-            Mark::Audit => (TokenKind::Word, b"AUDIT"),
             Mark::Between => (TokenKind::Word, b"BETWEEN"),
-            Mark::Compile => (TokenKind::Word, b"COMPILE"),
-            Mark::Create => (TokenKind::Word, b"CREATE"),
-            Mark::Explain => (TokenKind::Word, b"EXPLAIN"),
             Mark::From => (TokenKind::Word, b"FROM"),
             Mark::In => (TokenKind::Word, b"IN"),
-            Mark::Index => (TokenKind::Word, b"INDEX"),
             Mark::Int => (TokenKind::Word, b"INT"),
             Mark::Integer => (TokenKind::Word, b"INTEGER"),
             Mark::Into => (TokenKind::Word, b"INTO"),
             Mark::Is => (TokenKind::Word, b"IS"),
-            Mark::Levels => (TokenKind::Word, b"LEVELS"),
-            Mark::Load => (TokenKind::Word, b"LOAD"),
             Mark::Not => (TokenKind::Word, b"NOT"),
             Mark::Null => (TokenKind::Word, b"NULL"),
             Mark::On => (TokenKind::Word, b"ON"),
-            Mark::Open => (TokenKind::Word, b"OPEN"),
             Mark::Or => (TokenKind::Word, b"OR"),
-            Mark::Run => (TokenKind::Word, b"RUN"),
-            Mark::Save => (TokenKind::Word, b"SAVE"),
             Mark::Select => (TokenKind::Word, b"SELECT"),
             Mark::Table => (TokenKind::Word, b"TABLE"),
-            Mark::Threshold => (TokenKind::Word, b"THRESHOLD"),
             Mark::To => (TokenKind::Word, b"TO"),
             Mark::Varchar => (TokenKind::Word, b"VARCHAR"),
             Mark::Where => (TokenKind::Word, b"WHERE"),
@@ -131,6 +108,13 @@ impl Mark {
         let (own_kind, spelling) = self.spelling();
         is_same(kind, bytes, own_kind, spelling)
     }
+}
+
+// Whether a token of this kind and these bytes is the word.
+pub(crate) fn is_keyword(kind: TokenKind, bytes: &[u8], word: &[u8]) -> bool
+    ensures { result ≡ same (lexeme_of kind bytes.now) (Word word.now) }
+{
+    is_same(kind, bytes, TokenKind::Word, word)
 }
 
 // Whether the token is the word or the sign that is spelled so.

@@ -5,10 +5,10 @@ ghost use Rattle.std.specs.List.{All};
 ghost use Rattle.sql_lex.specs.Forms.{HasForm, KeepsTokenLimit};
 ghost use Rattle.sql_lex.specs.Tokens.{IsToken};
 ghost use Rattle.sql_parse.specs.Lexemes.{lexeme_of, lexemes};
-ghost use Rattle.sql_parse.specs.Reading.{GivesValue, after_mark, name_at, number_at, text_token_at, comparison_at, token_kind_at};
+ghost use Rattle.sql_parse.specs.Reading.{GivesValue, after_mark, after_word, name_at, number_at, text_token_at, comparison_at, token_kind_at};
 
 use crate::fault::ReadFault;
-use crate::mark::{Mark, is_reserved};
+use crate::mark::{Mark, is_keyword, is_reserved};
 use crate::tree::Name;
 use sql_lex::{Token, TokenKind, comparison_value, number_value, text_value, word_value};
 use sql_values::{Op, Text};
@@ -101,6 +101,26 @@ impl<'s> Piece<'s> {
         ensures { GivesValue result (after_mark mark self.now) }
     {
         self.after(mark).ok_or(ReadFault::NotAStatement)
+    }
+
+    // What follows the word, given in upper case, where it stands first.
+    #[tactic(auto, unfolding(crate::specs::Reading::after_word))]
+    pub(crate) fn after_word(&self, word: &[u8]) -> Option<Piece<'s>>
+        ensures { result ≡ after_word word.now self.now }
+    {
+        let lead = self.lead()?;
+        if is_keyword(lead.kind, lead.bytes, word) {
+            Some(lead.rest)
+        } else {
+            None
+        }
+    }
+
+    // What follows the word, which has to stand first.
+    pub(crate) fn expect_word(&self, word: &[u8]) -> Result<Piece<'s>, ReadFault>
+        ensures { GivesValue result (after_word word.now self.now) }
+    {
+        self.after_word(word).ok_or(ReadFault::NotAStatement)
     }
 
     #[tactic(auto, unfolding(crate::specs::Reading::name_at))]

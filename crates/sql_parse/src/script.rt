@@ -7,11 +7,11 @@ ghost use Rattle.sql_lex.specs.Tokens.{IsToken, Tokens};
 ghost use Rattle.sql_lex.specs.declared.token.Token.{Token};
 ghost use Rattle.sql_parse.specs.Lexemes.{Lexeme, lexeme, lexemes};
 ghost use Rattle.sql_parse.specs.Trees.{StatementTree, statement_tree};
-ghost use Rattle.sql_parse.specs.Grammar.{IsStatement};
-ghost use Rattle.sql_parse.specs.Script.{is_semicolon, split, AreStatements, IsFirstRefused, IsParsing, IsCause};
+ghost use Rattle.sql_parse.specs.Statements.{IsStatement, statement_of};
+ghost use Rattle.sql_parse.specs.Script.{is_semicolon, split, split_after, AreStatements, IsFirstRefused, IsParsing, IsCause};
 ghost use Rattle.sql_parse.specs.WellFormed.{IsWellFormed};
 ghost use Rattle.sql_parse.specs.Counts.{predicates_of, operands_of};
-ghost use Rattle.sql_parse.specs.Reading.{Gives, statement_of, with_statement, split_after};
+ghost use Rattle.sql_parse.specs.Reading.{Gives, with_statement};
 ghost use Rattle.sql_parse.specs.declared.fault.SyntaxFault.TheVariants as faults;
 
 use crate::fault::{ReadFault, SyntaxFault};

@@ -1,132 +1,79 @@
-// Statements: each by the keyword that it begins with.
+// The statements of the language. Each has a production, in a file of its name: how it is read and printed. Here they are
+// put together: a statement is known by the keyword that it begins with.
 
-ghost use Rattle.std.specs.Prelude.{Option, Some, None, length, ◌==◌, if◌then◌else◌};
+ghost use Rattle.std.specs.Prelude.{◌≡◌, Option, Some, None, length, OnOk, ◌==◌, if◌then◌else◌};
 ghost use Rattle.sql_parse.specs.Trees.{statement_tree};
-ghost use Rattle.sql_parse.specs.declared.mark.Mark.TheVariants.{Comma};
-ghost use Rattle.sql_parse.specs.Reading.{Gives, GivesValue, GivesStatement, number_at, option_at, load_at, compile_at, save_at, open_at, audit_at, statement_at, statement_of};
+ghost use Rattle.sql_parse.specs.Reading.{Gives, GivesValue, GivesStatement};
+ghost use Rattle.sql_parse.specs.Printing.{put_all};
+ghost use Rattle.sql_parse.specs.Statements.{create_at, statement_at, statement_of, statement_parts};
 
+mod audit;
+mod compile;
+mod create_index;
+mod create_table;
+mod load;
+mod named;
+mod open_file;
+mod save_file;
+
+use crate::canonical::print_select;
 use crate::fault::ReadFault;
 use crate::mark::Mark;
-use crate::parse::{Parse, list};
 use crate::piece::Piece;
 use crate::query::select;
-use crate::table::create;
-use crate::tree::{AuditDef, CompileDef, FileDef, LoadDef, OpenDef, Statement};
-use sql_values::Sequence;
-use std::alloc::Global;
+use crate::tree::Statement;
+use crate::writer::Writer;
+use audit::{audit, print_audit};
+use compile::{compile, print_compile};
+use create_index::{create_index, print_create_index};
+use create_table::{create_table, print_create_table};
+use load::{load, print_load};
+use named::print_named;
+use open_file::{open_file, print_open_file};
+use save_file::{print_save_file, save_file};
+use std::alloc::{AllocError, Global};
 
-impl Parse for u64 {
-    ghost reads = { number_at };
-
-    fn parse<'s>(alloc: Global, piece: Piece<'s>) -> Result<(u64, Piece<'s>), ReadFault> {
-        piece.number()
+// From the word after CREATE on.
+#[tactic(auto, unfolding(crate::specs::Statements::create_at))]
+fn create<'s>(alloc: Global, piece: Piece<'s>) -> Result<(Statement, Piece<'s>), ReadFault>
+    ensures { GivesStatement result (create_at piece.entry) }
+{
+    if let Some(after) = piece.after(Mark::Table) {
+        return create_table(alloc, after);
     }
-}
-
-#[tactic(auto, unfolding(crate::specs::Reading::load_at))]
-fn load<'s>(alloc: Global, piece: Piece<'s>) -> Result<(Statement, Piece<'s>), ReadFault>
-    ensures { GivesStatement result (load_at piece.entry) }
-{
-    let (file, rest) = piece.text(alloc)?;
-    let rest = rest.expect(Mark::Into)?;
-    let (table, rest) = rest.name(alloc)?;
-    Ok((Statement::Load(LoadDef { file, table }), rest))
-}
-
-// The keyword and a number, where the keyword stands.
-#[tactic(auto, unfolding(crate::specs::Reading::option_at))]
-fn option<'s>(piece: Piece<'s>, keyword: Mark) -> Result<(Option<u64>, Piece<'s>), ReadFault>
-    ensures { GivesValue result (option_at keyword piece.entry) }
-{
-    let Some(after) = piece.after(keyword) else {
-        return Ok((None, piece));
-    };
-    let (number, rest) = after.number()?;
-    Ok((Some(number), rest))
-}
-
-#[tactic(auto, unfolding(crate::specs::Reading::compile_at))]
-fn compile<'s>(alloc: Global, piece: Piece<'s>) -> Result<(Statement, Piece<'s>), ReadFault>
-    ensures { GivesStatement result (compile_at piece.entry) }
-{
-    let (name, rest) = piece.name(alloc)?;
-    let (levels, rest) = option(rest, Mark::Levels)?;
-    let (threshold, rest) = option(rest, Mark::Threshold)?;
-    let rest = rest.expect(Mark::As)?;
-    let (query, rest) = select(alloc, rest)?;
-    let compile = CompileDef {
-        name,
-        levels,
-        threshold,
-        query,
-    };
-    Ok((Statement::Compile(compile), rest))
-}
-
-#[tactic(auto, unfolding(crate::specs::Reading::save_at))]
-fn save<'s>(alloc: Global, piece: Piece<'s>) -> Result<(Statement, Piece<'s>), ReadFault>
-    ensures { GivesStatement result (save_at piece.entry) }
-{
-    let (name, rest) = piece.name(alloc)?;
-    let rest = rest.expect(Mark::To)?;
-    let (file, rest) = rest.text(alloc)?;
-    Ok((Statement::SaveFile(FileDef { name, file }), rest))
-}
-
-#[tactic(auto, unfolding(crate::specs::Reading::open_at))]
-fn open<'s>(alloc: Global, piece: Piece<'s>) -> Result<(Statement, Piece<'s>), ReadFault>
-    ensures { GivesStatement result (open_at piece.entry) }
-{
-    let (name, rest) = piece.name(alloc)?;
-    let rest = rest.expect(Mark::From)?;
-    let (file, rest) = rest.text(alloc)?;
-    let rest = rest.expect(Mark::As)?;
-    let (query, rest) = select(alloc, rest)?;
-    Ok((Statement::OpenFile(OpenDef { name, file, query }), rest))
-}
-
-#[tactic(auto, unfolding(crate::specs::Reading::audit_at))]
-fn audit<'s>(alloc: Global, piece: Piece<'s>) -> Result<(Statement, Piece<'s>), ReadFault>
-    ensures { GivesStatement result (audit_at piece.entry) }
-{
-    let (name, rest) = piece.name(alloc)?;
-    let Some(after) = rest.after(Mark::At) else {
-        let levels = Sequence::from(Vec::new(alloc));
-        return Ok((Statement::Audit(AuditDef { name, levels }), rest));
-    };
-    let (levels, rest) = list(alloc, after)?;
-    Ok((Statement::Audit(AuditDef { name, levels }), rest))
+    let after = piece.expect_word(b"INDEX")?;
+    create_index(alloc, after)
 }
 
 // A statement at the front of the tokens.
-#[tactic(auto, unfolding(crate::specs::Reading::statement_at))]
+#[tactic(auto, unfolding(crate::specs::Statements::statement_at, crate::specs::Statements::Named::named_at))]
 fn statement<'s>(alloc: Global, piece: Piece<'s>) -> Result<(Statement, Piece<'s>), ReadFault>
     ensures { GivesStatement result (statement_at piece.entry) }
 {
-    if let Some(after) = piece.after(Mark::Create) {
+    if let Some(after) = piece.after_word(b"CREATE") {
         return create(alloc, after);
     }
-    if let Some(after) = piece.after(Mark::Load) {
+    if let Some(after) = piece.after_word(b"LOAD") {
         return load(alloc, after);
     }
-    if let Some(after) = piece.after(Mark::Compile) {
+    if let Some(after) = piece.after_word(b"COMPILE") {
         return compile(alloc, after);
     }
-    if let Some(after) = piece.after(Mark::Run) {
+    if let Some(after) = piece.after_word(b"RUN") {
         let (name, rest) = after.name(alloc)?;
         return Ok((Statement::Run(name), rest));
     }
-    if let Some(after) = piece.after(Mark::Explain) {
+    if let Some(after) = piece.after_word(b"EXPLAIN") {
         let (name, rest) = after.name(alloc)?;
         return Ok((Statement::Explain(name), rest));
     }
-    if let Some(after) = piece.after(Mark::Save) {
-        return save(alloc, after);
+    if let Some(after) = piece.after_word(b"SAVE") {
+        return save_file(alloc, after);
     }
-    if let Some(after) = piece.after(Mark::Open) {
-        return open(alloc, after);
+    if let Some(after) = piece.after_word(b"OPEN") {
+        return open_file(alloc, after);
     }
-    if let Some(after) = piece.after(Mark::Audit) {
+    if let Some(after) = piece.after_word(b"AUDIT") {
         return audit(alloc, after);
     }
     let (query, rest) = select(alloc, piece)?;
@@ -145,10 +92,29 @@ fn only<T: Drop>(value: T, rest: Piece) -> Result<T, ReadFault>
 }
 
 // The statement of a whole piece.
-#[tactic(auto, unfolding(crate::specs::Reading::statement_of))]
+#[tactic(auto, unfolding(crate::specs::Statements::statement_of))]
 pub(crate) fn whole_statement(alloc: Global, piece: Piece) -> Result<Statement, ReadFault>
     ensures { Gives statement_tree result (statement_of piece.entry) }
 {
     let (statement, rest) = statement(alloc, piece)?;
     only(statement, rest)
+}
+
+// Appends a statement.
+pub(crate) fn print_statement(writer: &mut Writer, statement: &Statement) -> Result<(), AllocError>
+    ensures { OnOk result
+        (writer.new ≡ put_all writer.old (statement_parts (statement_tree statement.now))) }
+{
+    match statement {
+        Statement::CreateTable(table) => print_create_table(writer, table),
+        Statement::CreateIndex(index) => print_create_index(writer, index),
+        Statement::Load(load) => print_load(writer, load),
+        Statement::Select(query) => print_select(writer, query),
+        Statement::Compile(compile) => print_compile(writer, compile),
+        Statement::Run(name) => print_named(writer, b"RUN", name),
+        Statement::Explain(name) => print_named(writer, b"EXPLAIN", name),
+        Statement::SaveFile(save) => print_save_file(writer, save),
+        Statement::OpenFile(opened) => print_open_file(writer, opened),
+        Statement::Audit(audit) => print_audit(writer, audit),
+    }
 }

@@ -2,7 +2,7 @@
 
 ghost use Rattle.std.specs.Prelude.{◌≡◌, ◌++◌, ◌||◌, [], ◌∷◌, codes, OnOk, if◌then◌else◌};
 ghost use Rattle.sql_lex.specs.Values.{doubled, quoted, comparison_text};
-ghost use Rattle.sql_parse.specs.Canonical.{integer_parts, Fixed, Name as NamePart, Number, Text as TextPart, Operator};
+ghost use Rattle.sql_parse.specs.Canonical.{integer_parts, Fixed, Keyword, Name as NamePart, Number, Text as TextPart, Operator};
 ghost use Rattle.sql_parse.specs.Printing.{put, put_all, nothing};
 
 use crate::mark::Mark;
@@ -70,6 +70,14 @@ impl Writer {
     {
         let joins_previous = mark.joins_previous();
         self.put(joins_previous, mark.bytes(), mark.joins_next())
+    }
+
+    // A keyword, given in upper case.
+    #[tactic(auto, unfolding(crate::specs::Printing::put))]
+    pub(crate) fn keyword(&mut self, word: &[u8]) -> Result<(), AllocError>
+        ensures { OnOk result (self.new ≡ put self.old (Keyword word.now)) }
+    {
+        self.put(false, word, false)
     }
 
     #[tactic(auto, unfolding(crate::specs::Printing::put))]

@@ -1,7 +1,7 @@
 use Rattle.std.proofs.Common.{◌∙◌}
 use Rattle.sql_parse.specs.Trees.{statement_tree}
-use Rattle.sql_parse.specs.Canonical.{statement_parts}
 use Rattle.sql_parse.proofs.Written.{text_of-put}
+use Rattle.sql_parse.specs.Statements.{statement_parts}
 use Rattle.sql_parse.proofs.canonical.print.Goals as goal
 
 pub returns : goal.returns

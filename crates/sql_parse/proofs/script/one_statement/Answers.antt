@@ -1,5 +1,4 @@
-use Rattle.sql_parse.proofs.AgainStatements.{statements-same}
-use Rattle.sql_parse.proofs.ReadStatements.{statement_of-reads}
+use Rattle.sql_parse.proofs.Statements.{statements-same, statement_of-reads}
 use Rattle.sql_parse.proofs.script.one_statement.Goals as goal
 
 pub returns : goal.returns

@@ -6,7 +6,7 @@ use Rattle.sql_lex.specs.declared.token.Token.{Token}
 use Rattle.sql_lex.specs.Tokens.{IsToken}
 use Rattle.sql_parse.specs.Lexemes.{lexemes}
 use Rattle.sql_parse.specs.Trees.{statement_tree}
-use Rattle.sql_parse.specs.Reading.{statement_of}
+use Rattle.sql_parse.specs.Statements.{statement_of}
 use Rattle.sql_parse.proofs.Scripts.{AreReadSoFar, read_so_far-empty, read_so_far-next, first_refused, added, not_added}
 use Rattle.sql_parse.proofs.script.read.Goals as goal
 use Rattle.sql_parse.proofs.script.read.Goals.{then-end-gt0+in-Ok, else-end-gt0}

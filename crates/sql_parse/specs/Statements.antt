@@ -1,0 +1,94 @@
+-- The statements of the language. Each has a production, in a file of its name: which tokens are written for it, how it
+-- is read, and how it is printed. Here they are put together.
+pub mod Audit
+pub mod Compile
+pub mod CreateIndex
+pub mod CreateTable
+pub mod Load
+pub mod Named
+pub mod OpenFile
+pub mod SaveFile
+use Rattle.std.specs.Prelude.{codes, ℕ, List, [], ◌∷◌, length, Option, Some, None, if◌then◌else◌, ◌==◌}
+use Rattle.sql_parse.specs.declared.mark.Mark.{Mark}
+use Rattle.sql_parse.specs.declared.mark.Mark.TheVariants as m
+use Rattle.sql_parse.specs.Lexemes.{Lexeme}
+use Rattle.sql_parse.specs.Trees as tree
+use Rattle.sql_parse.specs.Trees.{StatementTree}
+use Rattle.sql_parse.specs.Grammar.{Rule, IsSelect}
+use Rattle.sql_parse.specs.Reading.{after_word, Reader, ◌>>=◌, choose, after_mark, select_at}
+use Rattle.sql_parse.specs.Canonical.{Part, query_parts, parts_text}
+use Rattle.sql_parse.specs.Statements.Audit.{IsAudit, audit_at, audit_parts}
+use Rattle.sql_parse.specs.Statements.Compile.{IsCompile, compile_at, compile_parts}
+use Rattle.sql_parse.specs.Statements.CreateIndex.{IsCreateIndex, create_index_at, create_index_parts}
+use Rattle.sql_parse.specs.Statements.CreateTable.{IsCreateTable, create_table_at, create_table_parts}
+use Rattle.sql_parse.specs.Statements.Load.{IsLoad, load_at, load_parts}
+use Rattle.sql_parse.specs.Statements.Named.{IsNamed, named_at, named_parts}
+use Rattle.sql_parse.specs.Statements.OpenFile.{IsOpenFile, open_file_at, open_file_parts}
+use Rattle.sql_parse.specs.Statements.SaveFile.{IsSaveFile, save_file_at, save_file_parts}
+
+-- a statement, by its form
+abbrev pub IsStatement : Rule StatementTree
+IsStatement tokens (tree.CreateTable table) = IsCreateTable tokens table
+IsStatement tokens (tree.CreateIndex index) = IsCreateIndex tokens index
+IsStatement tokens (tree.Load load) = IsLoad tokens load
+IsStatement tokens (tree.Select query) = IsSelect tokens query
+IsStatement tokens (tree.Compile name levels threshold query) = IsCompile name levels threshold tokens query
+IsStatement tokens (tree.Run name) = IsNamed (codes "RUN") tokens name
+IsStatement tokens (tree.Explain name) = IsNamed (codes "EXPLAIN") tokens name
+IsStatement tokens (tree.SaveFile save) = IsSaveFile tokens save
+IsStatement tokens (tree.OpenFile name file query) = IsOpenFile name file tokens query
+IsStatement tokens (tree.Audit audit) = IsAudit tokens audit
+
+unfoldable pub create_at : Reader StatementTree
+create_at tokens =
+    choose (after_mark m.Table tokens)
+    (do
+      rest ← after_word (codes "INDEX") tokens
+      create_index_at rest)
+    create_table_at
+
+-- the statements that begin with a keyword, each with how it is read after that
+abbrev pub productions : List (List ℕ × Reader StatementTree)
+productions =
+    (codes "CREATE", create_at)
+    ∷ (codes "LOAD", load_at)
+    ∷ (codes "COMPILE", compile_at)
+    ∷ (codes "RUN", named_at tree.Run)
+    ∷ (codes "EXPLAIN", named_at tree.Explain)
+    ∷ (codes "SAVE", save_file_at)
+    ∷ (codes "OPEN", open_file_at)
+    ∷ (codes "AUDIT", audit_at)
+    ∷ []
+
+-- the statement of the first keyword that stands here, or a query
+abbrev pub among : List (List ℕ × Reader StatementTree) → Reader StatementTree
+among [] tokens = do
+  query ← select_at tokens
+  Some (tree.Select query.0, query.1)
+among (production ∷ others) tokens = choose (after_word production.0 tokens) (among others tokens) production.1
+
+unfoldable pub statement_at : Reader StatementTree
+statement_at tokens = among productions tokens
+
+-- the statement of all these tokens
+unfoldable pub statement_of : List Lexeme → Option StatementTree
+statement_of tokens = do
+  statement ← statement_at tokens
+  if length statement.1 == 0 then Some statement.0 else None
+
+-- the parts of its canonical text
+abbrev pub statement_parts : StatementTree → List Part
+statement_parts (tree.CreateTable table) = create_table_parts table
+statement_parts (tree.CreateIndex index) = create_index_parts index
+statement_parts (tree.Load load) = load_parts load
+statement_parts (tree.Select query) = query_parts query
+statement_parts (tree.Compile name levels threshold query) = compile_parts name levels threshold query
+statement_parts (tree.Run name) = named_parts (codes "RUN") name
+statement_parts (tree.Explain name) = named_parts (codes "EXPLAIN") name
+statement_parts (tree.SaveFile save) = save_file_parts save
+statement_parts (tree.OpenFile name file query) = open_file_parts name file query
+statement_parts (tree.Audit audit) = audit_parts audit
+
+-- the canonical text of a statement
+abbrev pub canonical : StatementTree → List ℕ
+canonical statement = parts_text (statement_parts statement)

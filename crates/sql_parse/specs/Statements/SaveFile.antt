@@ -1,0 +1,22 @@
+-- SAVE.
+use Rattle.sql_parse.specs.Productions.{codes, ◌≡◌, List, [], ◌∷◌, Some, Word, mark, Rule, IsName, Reader, ◌>>=◌, after_mark, name_at, text_token_at, Keyword, Part, Fixed, Name, Text}
+use Rattle.sql_parse.specs.declared.mark.Mark.TheVariants as m
+use Rattle.sql_parse.specs.declared.tree.FileDef.{FileDef}
+use Rattle.sql_parse.specs.Lexemes.{Text as TextToken}
+use Rattle.sql_parse.specs.Trees.{StatementTree, SaveFile}
+
+-- SAVE name TO text
+abbrev pub IsSaveFile : Rule FileDef
+IsSaveFile tokens save =
+    (tokens ≡ Word (codes "SAVE") ∷ Word save.name ∷ mark m.To ∷ TextToken save.file ∷ []) × IsName save.name
+
+-- after SAVE
+unfoldable pub save_file_at : Reader StatementTree
+save_file_at tokens = do
+  name ← name_at tokens
+  rest ← after_mark m.To name.1
+  file ← text_token_at rest
+  Some (SaveFile (record { name = name.0; file = file.0 }), file.1)
+
+abbrev pub save_file_parts : FileDef → List Part
+save_file_parts save = Keyword (codes "SAVE") ∷ Name save.name ∷ Fixed m.To ∷ Text save.file ∷ []

@@ -1,0 +1,68 @@
+// AUDIT.
+
+ghost use Rattle.std.specs.Prelude.{◌≡◌, ◌∷◌, [], OnOk};
+ghost use Rattle.sql_parse.specs.Reading.{GivesStatement, number_at};
+ghost use Rattle.sql_parse.specs.Canonical.{Number};
+ghost use Rattle.sql_parse.specs.Printing.{put_all};
+ghost use Rattle.sql_parse.specs.Statements.Audit.{audit_at, point_parts, audit_parts};
+
+use crate::canonical::{Printed, print_list};
+use crate::fault::ReadFault;
+use crate::parse::{Parse, list};
+use crate::piece::Piece;
+use crate::tree::{AuditDef, Statement};
+use crate::writer::Writer;
+use sql_values::Sequence;
+use std::alloc::{AllocError, Global};
+
+impl Parse for u64 {
+    ghost reads = { number_at };
+
+    fn parse<'s>(alloc: Global, piece: Piece<'s>) -> Result<(u64, Piece<'s>), ReadFault> {
+        piece.number()
+    }
+}
+
+// From the name of the bouquet on.
+#[tactic(auto, unfolding(crate::specs::Statements::Audit::audit_at))]
+pub(crate) fn audit<'s>(
+    alloc: Global,
+    piece: Piece<'s>,
+) -> Result<(Statement, Piece<'s>), ReadFault>
+    ensures { GivesStatement result (audit_at piece.entry) }
+{
+    let (name, rest) = piece.name(alloc)?;
+    let Some(after) = rest.after_word(b"AT") else {
+        let levels = Sequence::from(Vec::new(alloc));
+        return Ok((Statement::Audit(AuditDef { name, levels }), rest));
+    };
+    let (levels, rest) = list(alloc, after)?;
+    Ok((Statement::Audit(AuditDef { name, levels }), rest))
+}
+
+impl Printed for u64 {
+    ghost parts = { λ n. Number n ∷ [] };
+
+    fn print_to(&self, writer: &mut Writer) -> Result<(), AllocError> {
+        writer.number(*self)
+    }
+}
+
+fn print_point(writer: &mut Writer, levels: &[u64]) -> Result<(), AllocError>
+    ensures { OnOk result (writer.new ≡ put_all writer.old (point_parts levels.now)) }
+{
+    if levels.is_empty() {
+        return Ok(());
+    }
+    writer.keyword(b"AT")?;
+    print_list(writer, levels)
+}
+
+#[tactic(auto, using(crate::proofs::Written::of_lines))]
+pub(crate) fn print_audit(writer: &mut Writer, audit: &AuditDef) -> Result<(), AllocError>
+    ensures { OnOk result (writer.new ≡ put_all writer.old (audit_parts audit.now)) }
+{
+    writer.keyword(b"AUDIT")?;
+    writer.name(&audit.name)?;
+    print_point(writer, audit.levels.as_slice())
+}

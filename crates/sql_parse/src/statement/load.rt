@@ -1,0 +1,33 @@
+// LOAD.
+
+ghost use Rattle.std.specs.Prelude.{◌≡◌, OnOk};
+ghost use Rattle.sql_parse.specs.Reading.{GivesStatement};
+ghost use Rattle.sql_parse.specs.Printing.{put_all};
+ghost use Rattle.sql_parse.specs.Statements.Load.{load_at, load_parts};
+
+use crate::fault::ReadFault;
+use crate::mark::Mark;
+use crate::piece::Piece;
+use crate::tree::{LoadDef, Statement};
+use crate::writer::Writer;
+use std::alloc::{AllocError, Global};
+
+// From the name of the file on.
+#[tactic(auto, unfolding(crate::specs::Statements::Load::load_at))]
+pub(crate) fn load<'s>(alloc: Global, piece: Piece<'s>) -> Result<(Statement, Piece<'s>), ReadFault>
+    ensures { GivesStatement result (load_at piece.entry) }
+{
+    let (file, rest) = piece.text(alloc)?;
+    let rest = rest.expect(Mark::Into)?;
+    let (table, rest) = rest.name(alloc)?;
+    Ok((Statement::Load(LoadDef { file, table }), rest))
+}
+
+pub(crate) fn print_load(writer: &mut Writer, load: &LoadDef) -> Result<(), AllocError>
+    ensures { OnOk result (writer.new ≡ put_all writer.old (load_parts load.now)) }
+{
+    writer.keyword(b"LOAD")?;
+    writer.text(&load.file)?;
+    writer.mark(Mark::Into)?;
+    writer.name(&load.table)
+}

@@ -1,0 +1,45 @@
+// OPEN.
+
+ghost use Rattle.std.specs.Prelude.{◌≡◌, OnOk};
+ghost use Rattle.sql_parse.specs.Trees.{query_tree};
+ghost use Rattle.sql_parse.specs.Reading.{GivesStatement};
+ghost use Rattle.sql_parse.specs.Printing.{put_all};
+ghost use Rattle.sql_parse.specs.Statements.OpenFile.{open_file_at, open_file_parts};
+
+use crate::canonical::print_select;
+use crate::fault::ReadFault;
+use crate::mark::Mark;
+use crate::piece::Piece;
+use crate::query::select;
+use crate::tree::{OpenDef, Statement};
+use crate::writer::Writer;
+use std::alloc::{AllocError, Global};
+
+// From the name of the bouquet on.
+#[tactic(auto, unfolding(crate::specs::Statements::OpenFile::open_file_at))]
+pub(crate) fn open_file<'s>(
+    alloc: Global,
+    piece: Piece<'s>,
+) -> Result<(Statement, Piece<'s>), ReadFault>
+    ensures { GivesStatement result (open_file_at piece.entry) }
+{
+    let (name, rest) = piece.name(alloc)?;
+    let rest = rest.expect(Mark::From)?;
+    let (file, rest) = rest.text(alloc)?;
+    let rest = rest.expect(Mark::As)?;
+    let (query, rest) = select(alloc, rest)?;
+    Ok((Statement::OpenFile(OpenDef { name, file, query }), rest))
+}
+
+#[tactic(auto, using(crate::proofs::Written::of_lines))]
+pub(crate) fn print_open_file(writer: &mut Writer, opened: &OpenDef) -> Result<(), AllocError>
+    ensures { OnOk result (writer.new ≡ put_all writer.old (open_file_parts
+        opened.now.name opened.now.file (query_tree opened.now.query))) }
+{
+    writer.keyword(b"OPEN")?;
+    writer.name(&opened.name)?;
+    writer.mark(Mark::From)?;
+    writer.text(&opened.file)?;
+    writer.mark(Mark::As)?;
+    print_select(writer, &opened.query)
+}
