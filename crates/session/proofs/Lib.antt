@@ -1,5 +1,5 @@
 pub mod Auditing
-pub mod Carried
+pub mod Beginning
 pub mod Compiling
 pub mod ContourTexts
 pub mod Counting
@@ -11,7 +11,7 @@ pub mod NamedLists
 pub mod Opening
 pub mod PointLevels
 pub mod PointTexts
+pub mod Presence
 pub mod Queries
 pub mod RowsPrinted
 pub mod Sizes
-pub mod Unpaid

@@ -10,7 +10,7 @@ use Rattle.outside_io.specs.Count.{Rose}
 use Rattle.outside_io.specs.Files.{FolderState}
 use Rattle.sql_parse.specs.Trees.{StatementTree}
 use Rattle.session.specs.Bounds.{IsAnsweredWithin}
-use Rattle.session.specs.Given.{IsGivenFor}
+use Rattle.shell.specs.Given.{IsGivenFor}
 use Rattle.session.specs.Outcome.{Outcome, Refuses, refused_work}
 use Rattle.session.specs.Refusal.{line_of}
 use Rattle.session.specs.Statements.{statement_outcome}
@@ -18,13 +18,16 @@ use Rattle.session.specs.World.{World, nothing_made}
 use Rattle.session.specs.declared.refusal.Refusal.{Refusal}
 use Rattle.shell.specs.declared.status.Status.{Status}
 use Rattle.shell.specs.declared.status.Status.TheVariants as status
-use Rattle.shell.specs.Due.{CarriesAll, EndsAt, LeadsOn, state_of}
+use Rattle.shell.specs.Due.{CarriesAll, EndsAt, LeadsOn}
+use Rattle.shell.specs.Carried.{state_of}
 use Rattle.shell.specs.Due.EndsAt.{refuses, breaks}
 use Rattle.shell.specs.Script.{Answer, AreAnsweredWithin, AreGiven, ScriptState, Step, and_then, at_start, files_after, left_by, printed_by, script_answer, state_after}
 use Rattle.shell.specs.Serve.{BreaksBefore, EndsAsDue, NeverFalls, next_text, statements_of_steps}
 use Rattle.shell.specs.Serve.BreaksBefore.{no_read, no_write, no_put, no_memory}
 use Rattle.shell.proofs.Beginning.{whole_begins}
-use Rattle.shell.proofs.Steps.{StepsFrom, given_for_wider, steps_behind}
+use Rattle.shell.proofs.Counts.{falls_none, falls_on, rose_in}
+use Rattle.shell.proofs.Given.{given_for_wider}
+use Rattle.shell.proofs.Steps.{StepsFrom, steps_behind}
 
 -- an answer after a text and its work
 abbrev after : List ℕ → ℕ → Answer → Answer
@@ -47,10 +50,6 @@ nothing_after text work =
     let none : work + 0 ≡ work = omega arith in
     λ i. record { text = same i; work = none i; refused = false }
 
--- a count that rose in a part of a run rose in the run
-pub rose_in : {before low high last : ℕ} → before ≤ low → high ≤ last → Rose low high → Rose before last
-rose_in {before} {low} {high} {last} first past rose = omega (arith, first, past, rose)
-
 -- what went out when a run broke off is a beginning of the next text, and the run didn't end as its text does
 breaks_part : {max_work : ℕ} {sink_failed : Type 0} {old new : FolderState} {state : ScriptState} {later : List Step} {ended : Status} {part : List ℕ} {spent : ℕ}
     → BreaksBefore max_work sink_failed old new state later ended part spent → (n : ℕ) × (part ≡ take n (next_text max_work state later))
@@ -66,6 +65,17 @@ breaks_not_due (no_write rose fails) due = elim due [ inl is ↦ cc is | inr is 
 breaks_not_due (no_put failed some kept n) due = elim due [ inl is ↦ cc is | inr is ↦ cc is ]
 breaks_not_due (no_memory spent within kept) due = elim due [ inl is ↦ cc is | inr is ↦ cc is ]
 
+breaks_no_words : {max_work : ℕ} {sink_failed : Type 0} {old new : FolderState} {state : ScriptState} {later : List Step} {ended : Status} {part : List ℕ} {spent : ℕ}
+    → BreaksBefore max_work sink_failed old new state later ended part spent → ended ≡ status.BadWords → ⊥
+breaks_no_words (no_read rose asks kept) is = cc is
+breaks_no_words (no_write rose fails) is = cc is
+breaks_no_words (no_put failed some kept n) is = cc is
+breaks_no_words (no_memory spent within kept) is = cc is
+
+pub carried_no_words : {max_work : ℕ} {sink_failed : Type 0} {statements : List StatementTree} {before after : FolderState} {ended : Status} {had got : Option (List ℕ)} {paid : ℕ}
+    → CarriesAll max_work sink_failed statements before after ended had got paid → ended ≡ status.BadWords → ⊥
+carried_no_words carried is = breaks_no_words (carried.broken (λ due. elim due [ inl done ↦ cc (is, done) | inr refused ↦ cc (is, refused) ])).cause is
+
 -- nor did it break off without a cause
 pub breaks_cause : {max_work : ℕ} {sink_failed : Type 0} {old new : FolderState} {state : ScriptState} {later : List Step} {ended : Status} {part : List ℕ} {spent : ℕ} → BreaksBefore max_work sink_failed old new state later ended part spent
     → (ended ≡ status.ReadFault → Rose old.read_faults new.read_faults) × (ended ≡ status.WriteFault → sink_failed ⊎ Rose old.write_faults new.write_faults)
@@ -75,7 +85,7 @@ breaks_cause (no_put failed some kept n) = (λ is. cc is, λ is. inl failed)
 breaks_cause (no_memory spent within kept) = (λ is. cc is, λ is. cc is)
 
 -- a cause in a part of a run is one in the run
-breaks_in : {max_work : ℕ} {failed sink_failed : Type 0} {before mid now : FolderState} {state : ScriptState} {later : List Step} {ended : Status} {part : List ℕ} {spent : ℕ} → (failed → sink_failed) → NeverFalls before mid
+pub breaks_in : {max_work : ℕ} {failed sink_failed : Type 0} {before mid now : FolderState} {state : ScriptState} {later : List Step} {ended : Status} {part : List ℕ} {spent : ℕ} → (failed → sink_failed) → NeverFalls before mid
     → BreaksBefore max_work failed mid now state later ended part spent → BreaksBefore max_work sink_failed before now state later ended part spent
 breaks_in sinks first (no_read rose asks kept) = no_read (rose_in first.read_faults (omega arith) rose) asks kept
 breaks_in sinks first (no_write rose fails) = no_write (rose_in first.write_faults (omega arith) rose) fails
@@ -95,6 +105,7 @@ pub record IsCarried (max_work : ℕ) (all : List StatementTree) (i : ℕ) (befo
   pub given : (last : ℕ) → now.misses ≤ last → (rest : List Step) → AreGiven (Rose before.misses last) max_work (state_of world now) rest
       → AreGiven (Rose before.misses last) max_work (at_start before.files) (steps ++ rest)
   pub answered : (rest : List Step) → AreAnsweredWithin max_work (state_of world now) rest → AreAnsweredWithin max_work (at_start before.files) (steps ++ rest)
+  pub falls : NeverFalls before now
 
 pub carried_none : (max_work : ℕ) (all : List StatementTree) (before : FolderState) (had : Option (List ℕ)) → IsCarried max_work all 0 before before nothing_made had had 0
 carried_none max_work all before had = record {
@@ -107,6 +118,7 @@ carried_none max_work all before had = record {
   files = λ rest. refl;
   given = λ last past rest given. given;
   answered = λ rest within. within;
+  falls = falls_none before;
 }
 
 -- the statement at i comes after those before it
@@ -158,6 +170,7 @@ module _ (max_work : ℕ) (all : List StatementTree) (i : ℕ) (before now : Fol
         steps = carried.steps;
         are = carried.are ∙ take_all i all past;
         given = subst (AreGiven (Rose before.misses now.misses) max_work (at_start before.files)) alone (carried.given now.misses (omega arith) [] tt);
+        falls = carried.falls;
         carries = record {
           done = λ _. (ap (λ (a : Answer). a.refused) answer_so_far, whole);
           refused = λ ended. cc ended;
@@ -172,7 +185,7 @@ module _ (max_work : ℕ) (all : List StatementTree) (i : ℕ) (before now : Fol
       }
 
 module _ (max_work : ℕ) (all : List StatementTree) (i : ℕ) (before mid now : FolderState) (world : World) (statement : StatementTree) (file : Option (List ℕ)) (had got new : Option (List ℕ)) (paid due : ℕ)
-    (below : i < length all) (is : get_or all i statement ≡ statement) (first : NeverFalls before mid) (last_misses : mid.misses ≤ now.misses)
+    (below : i < length all) (is : get_or all i statement ≡ statement) (last : NeverFalls mid now)
     (carried : IsCarried max_work all i before mid world had got paid) (given : IsGivenFor mid.files (Rose mid.misses now.misses) statement file) where
   abbrev start : ScriptState
   start = at_start before.files
@@ -190,11 +203,11 @@ module _ (max_work : ℕ) (all : List StatementTree) (i : ℕ) (before mid now :
   one_more : (rest : List Step) → (carried.steps ++ here ∷ []) ++ rest ≡ carried.steps ++ here ∷ rest
   one_more rest = append_assoc carried.steps (here ∷ []) rest
 
-  given_here : (last : ℕ) → now.misses ≤ last → (rest : List Step) → IfSome (left_by what state) (λ next. AreGiven (Rose before.misses last) max_work next rest)
-      → AreGiven (Rose before.misses last) max_work start (carried.steps ++ here ∷ rest)
-  given_here last past rest others =
-      let until : mid.misses ≤ last = omega (arith, last_misses, past) in
-      carried.given last until (here ∷ rest) (given_for_wider mid.files statement file (rose_in first.misses past) given, others)
+  given_here : (end : ℕ) → now.misses ≤ end → (rest : List Step) → IfSome (left_by what state) (λ next. AreGiven (Rose before.misses end) max_work next rest)
+      → AreGiven (Rose before.misses end) max_work start (carried.steps ++ here ∷ rest)
+  given_here end past rest others =
+      let until : mid.misses ≤ end = omega (arith, last.misses, past) in
+      carried.given end until (here ∷ rest) (given_for_wider mid.files statement file (rose_in carried.falls.misses past) given, others)
 
   -- a statement behind which the run goes on
   pub carried_on : (next : World) → LeadsOn what state (state_of next now) got new paid due → IsAnsweredWithin world statement → IsCarried max_work all (i + 1) before now next had new due
@@ -204,6 +217,7 @@ module _ (max_work : ℕ) (all : List StatementTree) (i : ℕ) (before mid now :
         steps = carried.steps ++ here ∷ [];
         are = are_on all i carried.steps here below is carried.are;
         printed = carried.printed ++ goes.text;
+        falls = falls_on before mid now carried.falls last;
         put = Appends-trans had got new carried.printed goes.text carried.put goes.put;
         whole = λ rest.
             ap (script_answer max_work start) (one_more rest) ∙ carried.whole (here ∷ rest)
@@ -256,6 +270,7 @@ module _ (max_work : ℕ) (all : List StatementTree) (i : ℕ) (before mid now :
         steps = all_steps;
         are = all_are;
         given = given_here now.misses (omega arith) others.0 others.2;
+        falls = falls_on before mid now carried.falls last;
         carries = record {
           done = λ e. cc e;
           refused = λ _. (ap (λ (a : Answer). a.refused) whole, text);
@@ -281,6 +296,7 @@ module _ (max_work : ℕ) (all : List StatementTree) (i : ℕ) (before mid now :
         steps = all_steps;
         are = all_are;
         given = given_here now.misses (omega arith) others.0 others.2;
+        falls = falls_on before mid now carried.falls last;
         carries = record {
           done = λ e. absurd (breaks_not_due here_is (inl e));
           refused = λ e. absurd (breaks_not_due here_is (inr e));
@@ -298,7 +314,7 @@ module _ (max_work : ℕ) (all : List StatementTree) (i : ℕ) (before mid now :
           reached = state_so_far max_work all i before mid world had got paid carried;
           part = part;
           spent = spent;
-          cause = breaks_in sinks first here_is;
+          cause = breaks_in sinks carried.falls here_is;
           put = rw so_far out;
           pays = omega (arith, work, pays);
           bounds = within_so_far max_work all i before mid world had got paid carried;

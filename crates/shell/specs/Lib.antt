@@ -1,4 +1,6 @@
+pub mod Carried
 pub mod Due
+pub mod Given
 pub mod Limits
 pub mod Script
 pub mod Serve

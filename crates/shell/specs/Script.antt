@@ -1,16 +1,15 @@
 -- The answer to a script: its statements one after another, up to and with the first that is refused.
-use Rattle.std.specs.Prelude.{ℕ, ⊤, ◌+◌, Bool, true, false, List, [], ◌∷◌, ◌++◌, Option, Some, None, IfSome, Result, Ok, Err}
+use Rattle.std.specs.Prelude.{ℕ, ⊤, ◌+◌, Bool, true, false, List, [], ◌∷◌, ◌++◌, Option, Some, None, IfSome, option_map, Result, Ok, Err}
 use Rattle.std.specs.Option.{option_and_then, option_map_or}
-use Rattle.outside_io.specs.Files.{Files}
+use Rattle.outside_io.specs.Files.{Files, with_file}
 use Rattle.sql_parse.specs.Trees.{StatementTree}
 use Rattle.session.specs.Bounds.{IsAnsweredWithin}
-use Rattle.session.specs.Given.{IsGivenFor}
 use Rattle.session.specs.Outcome.{Outcome, Prints, Saves, Refuses, refused_work}
 use Rattle.session.specs.Refusal.{line_of}
-use Rattle.session.specs.Returns.{with_saved}
 use Rattle.session.specs.Statements.{statement_outcome}
 use Rattle.session.specs.World.{World, nothing_made}
 use Rattle.session.specs.declared.refusal.Refusal.{Refusal}
+use Rattle.shell.specs.Given.{IsGivenFor}
 
 -- a statement, and the file that the folder gives for it
 pub record Step : Type 0 where
@@ -35,6 +34,10 @@ at_start files = record { world = nothing_made; files = files }
 -- what comes of a step
 abbrev pub step_outcome : (max_work : ℕ) → ScriptState → Step → Outcome
 step_outcome max_work state step = statement_outcome max_work state.world step.statement step.file
+
+-- a file stands under the name now, where the files are known
+abbrev pub with_saved : (name bytes : List ℕ) → Option Files → Option Files
+with_saved name bytes held = option_map (λ files. with_file files name bytes) held
 
 -- the state that an outcome leaves; a refusal leaves none
 abbrev pub left_by : Outcome → ScriptState → Option ScriptState
