@@ -78,9 +78,11 @@ module _ (database : DatabaseState) (block : BlockTree) where
         → ((value : ℕ) → fault ≡ counts.ProductLimit value → product_past ≡ Some value)
         → IsErrAnd result (λ why. why ≡ stop_of_counts fault) → GivesBouquet bouquet_over result
     counts_refused result (counts.ProductLimit value) few past is =
-        handed_on bouquet_over result _ is
-        (ap (λ found. compiled_over database levels threshold block (option_or found (product_refusal database block))) few
-        ∙ ap (λ found. compiled_over database levels threshold block (option_map (λ value. refusal.PastLimit limit.Product value) found)) (past value refl), refl)
+        handed_on bouquet_over result _ is (
+          ap (λ found. compiled_over database levels threshold block (option_or found (product_refusal database block))) few
+              ∙ ap (λ found. compiled_over database levels threshold block (option_map (λ value. refusal.PastLimit limit.Product value) found)) (past value refl),
+          refl,
+        )
     counts_refused result counts.NoMemory few past is = handed_on bouquet_over result _ is tt
 
     -- its grid and its counts are small enough

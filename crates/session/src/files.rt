@@ -27,12 +27,7 @@ pub fn file_name(name: &Text) -> &str
 impl Session {
     /// Carries a statement out to its end, with the file that it asked for in this state, and returns what it prints. One that
     /// stops changes nothing.
-    pub fn finish(
-        &mut self,
-        alloc: Global,
-        asked: Asked,
-        given: GivenFile,
-    ) -> Result<Vec<u8>, Stop>
+    pub fn finish(&mut self, alloc: Global, asked: Asked, given: GivenFile) -> Result<Vec<u8>, Stop>
         requires { BelongsTo (world_of self.old) asked.pending }
         ensures due { (file : Option (List ℕ)) → IsFileGiven file given →
             ReturnsFree (at_file asked.name (pending_outcome (world_of self.old) asked.pending) file)

@@ -1,11 +1,11 @@
 -- A statement that the session began so, and finished, is carried out.
-use Rattle.std.proofs.Common.{◌≡◌, ◌∙◌, ◌⊎◌, inl, inr, ℕ, ◌+◌, List, [], ◌∷◌, Option, Some, None, refl, sym, subst, arith}
-use Rattle.std.specs.Prelude.{IsErrOf, IsErrAnd, MatchOption, OnOk, Vec, Result, Ok, Err}
+use Rattle.std.proofs.Common.{◌≡◌, ◌∙◌, ◌⊎◌, inl, inr, ℕ, ◌+◌, List, [], ◌∷◌, Option, None, refl, sym, ap, subst, arith}
+use Rattle.std.specs.Prelude.{IsErrOf, MatchOption, OnOk, Vec, Result, Ok, Err}
 use Rattle.std.specs.declared.alloc.Global.{Global}
 use Rattle.outside_io.specs.Count.{Rose}
 use Rattle.outside_io.specs.Files.{FolderState, KeepsOthers, OnlyWrites}
 use Rattle.sql_parse.specs.Trees.{StatementTree}
-use Rattle.session.specs.Begins.{AsksAsDue, BeginsAsDue, SavesAsDue}
+use Rattle.session.specs.Begins.{BeginsAsDue}
 use Rattle.session.specs.Given.{at_file}
 use Rattle.session.specs.Outcome.{Outcome, refused_work}
 use Rattle.session.specs.Pending.{pending_outcome}
@@ -17,7 +17,7 @@ use Rattle.session.specs.declared.begun.Begun.TheVariants as begun
 use Rattle.session.specs.declared.begun.GivenFile.{GivenFile}
 use Rattle.session.specs.declared.stop.Stop.{Stop}
 use Rattle.session.specs.declared.stop.Stop.TheVariants as stop
-use Rattle.shell.specs.Carried.{CarriesDue, CountsItsFile, DoesDue, GivesFile, IsCarriedOut, state_of}
+use Rattle.shell.specs.Carried.{CarriesDue, DoesDue, GivesFile, IsCarriedOut, state_of}
 use Rattle.shell.specs.Given.{IsGiven, IsGivenFor}
 use Rattle.shell.specs.Script.{Step, with_saved}
 use Rattle.shell.specs.Serve.{AsksNext, BreaksBefore, NeverFalls}
@@ -100,7 +100,15 @@ module _ (max_work : ℕ) (statement : StatementTree) (world : World) (before af
   carried_unread ended gives = record {
     file = gives.file;
     given = given_for gives.file gives.given;
-    counts = record { read_faults = gives.reads.read_faults; misses = gives.reads.misses; unasked = λ none. absurd (none begins.0.asks); falls = gives.reads.falls };
+    counts = record {
+      read_faults = record {
+        counted = λ is. let same : ended ≡ status.ReadFault = cc is in gives.reads.read_faults.counted (ap Err same);
+        kept = λ other. gives.reads.read_faults.kept (λ is. let same : ended ≡ status.ReadFault = cc is in other (ap Err same));
+      };
+      misses = gives.reads.misses;
+      unasked = λ none. absurd (none begins.0.asks);
+      falls = gives.reads.falls;
+    };
     does = (begins.2, λ later. broke (record { statement = statement; file = gives.file } ∷ later) begins.0.asks gives.ends);
   }
     where

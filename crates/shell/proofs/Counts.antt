@@ -1,8 +1,8 @@
 -- How the counts of a folder moved.
-use Rattle.std.proofs.Common.{◌≡◌, ℕ, ◌≤◌, Option, arith}
+use Rattle.std.proofs.Common.{◌≡◌, ℕ, ◌≤◌, arith}
 use Rattle.std.specs.Prelude.{Result, IsErrOf}
 use Rattle.outside_io.specs.Count.{Rose}
-use Rattle.outside_io.specs.Files.{FolderState, OnlyReads}
+use Rattle.outside_io.specs.Files.{FolderState}
 use Rattle.session.specs.World.{World}
 use Rattle.shell.specs.Carried.{CountsItsFile}
 use Rattle.shell.specs.Script.{Step}

@@ -1,5 +1,5 @@
 -- The file that a folder gives.
-use Rattle.std.proofs.Common.{◌≡◌, ◌⊎◌, inl, inr, ℕ, zero, suc, ◌<◌, ◌≤◌, List, [], ◌∷◌, length, Option, Some, None, refl, sym, ap, subst, arith}
+use Rattle.std.proofs.Common.{◌≡◌, ◌⊎◌, inl, inr, ℕ, zero, suc, ◌<◌, ◌≤◌, List, [], ◌∷◌, length, Option, Some, None, refl, sym, ap, arith}
 use Rattle.std.specs.Prelude.{IfSome, IsErrAnd, IsErrOf, IsSome, IsSomeAnd, MatchOption, Vec, Result, Ok, Err}
 use Rattle.std.specs.declared.alloc.Global.{Global}
 use Rattle.outside_io.specs.Count.{CountsEach, Rose}
@@ -8,7 +8,6 @@ use Rattle.outside_io.specs.declared.fault.FileFault.{FileFault}
 use Rattle.outside_io.specs.declared.fault.FileFault.TheVariants as fault
 use Rattle.sql_values.specs.Limits.{max_file_bytes}
 use Rattle.sql_parse.specs.Trees.{StatementTree}
-use Rattle.session.specs.Given.{IsFileGiven}
 use Rattle.session.specs.Statements.{asked_name}
 use Rattle.session.specs.declared.begun.GivenFile.{GivenFile}
 use Rattle.session.specs.declared.begun.GivenFile.TheVariants as given

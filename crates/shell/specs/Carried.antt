@@ -1,5 +1,5 @@
 -- What a statement did, held against what is due to it: the folder gave it a file, or wrote one, or neither.
-use Rattle.std.specs.Prelude.{◌≡◌, ◌⊎◌, ℕ, ◌+◌, ⊤, Result, Ok, Err, IfOk, IfErr, IsErrOf, Vec, List, [], ◌∷◌, Option}
+use Rattle.std.specs.Prelude.{◌≡◌, ◌⊎◌, ℕ, ◌+◌, Result, Ok, Err, IfOk, IfErr, IsErrOf, Vec, List, [], ◌∷◌, Option}
 use Rattle.std.specs.declared.alloc.Global.{Global}
 use Rattle.outside_io.specs.Count.{CountsEach, Rose}
 use Rattle.outside_io.specs.Files.{Files, FolderState}

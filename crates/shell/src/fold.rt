@@ -60,8 +60,9 @@ fn carry_out<F: Folder>(
         Ok(Begun::Prints(text)) => Ok(Ok(text)),
         Ok(Begun::Saves(name, bytes)) => match folder.write(file_name(&name), &bytes) {
             Ok(()) => Ok(Ok(Vec::new(alloc))),
+            Err(FileFault::Failed) => Err(Status::WriteFault),
             Err(FileFault::NoMemory) => Err(Status::NoMemory),
-            Err(_) => Err(Status::WriteFault),
+            Err(FileFault::Absent | FileFault::TooLong { .. }) => unreachable!(),
         },
         Ok(Begun::Asks(asked)) => match read_file(alloc, &asked.name, folder) {
             Ok(given) => Ok(session.finish(alloc, asked, given)),

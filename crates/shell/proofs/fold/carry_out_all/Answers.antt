@@ -10,7 +10,7 @@ use Rattle.shell.proofs.fold.carry_out_all.Goals as goal
 
 pub loop-statement-init : goal.loop-statement-init
 loop-statement-init g c = record {
-  carried = rw (c.new.ensures, c.requires.unpaid) (carried_none c.args.max_work (map statement_tree c.args.statements.now) (g.F.Folder.state c.args.folder.now) (g.K.Sink.got c.args.sink.now));
+  carried = rw (c.new-session.ensures, c.requires.unpaid) (carried_none c.args.max_work (map statement_tree c.args.statements.now) (g.F.Folder.state c.args.folder.now) (g.K.Sink.got c.args.sink.now));
   sink = omega arith;
   spent = omega arith;
 }

@@ -21,10 +21,10 @@ returns-in-Err-TooLong g c =
 
 pub returns-in-Err-Failed : goal.returns-in-Err-Failed
 returns-in-Err-Failed g c =
-    let out = rw (c.in-Err-Failed.field-0-is, c.file_name.ensures) at c.in-Err-Failed.ensures in
+    let out = rw c.in-Err-Failed.field-0-is at c.in-Err-Failed.ensures in
     gives_file c.args.name.now (g.F.Folder.state c.args.folder.now) (g.F.Folder.state c.read.new.self) (Err fault.Failed) out.known out.within out.reads out.read_faults out.misses
 
 pub returns-in-Err-NoMemory : goal.returns-in-Err-NoMemory
 returns-in-Err-NoMemory g c =
-    let out = rw (c.in-Err-NoMemory.field-0-is, c.file_name.ensures) at c.in-Err-NoMemory.ensures in
+    let out = rw c.in-Err-NoMemory.field-0-is at c.in-Err-NoMemory.ensures in
     gives_file c.args.name.now (g.F.Folder.state c.args.folder.now) (g.F.Folder.state c.read.new.self) (Err fault.NoMemory) out.known out.within out.reads out.read_faults out.misses

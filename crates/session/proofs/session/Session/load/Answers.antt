@@ -31,11 +31,14 @@ returns c = λ max_work paid.
     let world : World = world_of c.args.self.now in
     let load = c.args.load.now in
     let there : table_number world.database load.table ≡ Some c.in-Some.table = cc in
-    let name : c.in_ok-clone.field-0 ≡ load.file = c.in_ok-clone.ensures.cases in
-    (record {
-      asks = rw there refl;
-      name = ap Some (sym name);
-      text = rw name c.requires;
-      pending = omega (arith, (position-Some (bytes_eq load.table) (map (λ (table : StoredTable). table.name) world.database.tables) c.in-Some.table [] there).0, length-map world.database.tables (λ (table : StoredTable). table.name));
-      due = λ file. ap (loads world load file) there ∙ (λ i. at_file (sym name i) (load_bytes world c.in-Some.table) file);
-    }, refl, refl)
+    let name : c.in_ok-clone.field-0 ≡ load.file = c.in_ok-clone.ensures.cases in (
+      record {
+        asks = rw there refl;
+        name = ap Some (sym name);
+        text = rw name c.requires;
+        pending = omega (arith, (position-Some (bytes_eq load.table) (map (λ (table : StoredTable). table.name) world.database.tables) c.in-Some.table [] there).0, length-map world.database.tables (λ (table : StoredTable). table.name));
+        due = λ file. ap (loads world load file) there ∙ (λ i. at_file (sym name i) (load_bytes world c.in-Some.table) file);
+      },
+      refl,
+      refl,
+    )

@@ -67,16 +67,20 @@ returns c = λ max_work paid.
     let name : c.in_ok-clone.field-0 ≡ opened.name = c.in_ok-clone.ensures.cases in
     let file_name : c.in_ok-clone-2.field-0 ≡ opened.file = c.in_ok-clone-2.ensures.cases in
     let text : c.in_ok-print_query.field-0.items ≡ canonical_query query = c.in_ok-print_query.ensures in
-    rw (← c.self.view_is) (record {
-      asks = open_asks world opened.name opened.file query None free none block same small;
-      name = ap Some (sym file_name);
-      text = rw file_name c.requires.text;
-      pending = record {
-        free = rw name free;
-        text = rw text c.requires.canonical;
-        fits = c.in_ok-block.ensures.fits;
-        counts = c.in_ok-stats.ensures.counts;
-        few = c.in_ok-stats.ensures.fits;
-      };
-      due = λ file. open_with_file world opened.name opened.file query file free none block same small _ _ _ _ file_name name text c.in_ok-stats.ensures.counts;
-    }, refl, refl)
+    rw (← c.self.view_is) (
+      record {
+        asks = open_asks world opened.name opened.file query None free none block same small;
+        name = ap Some (sym file_name);
+        text = rw file_name c.requires.text;
+        pending = record {
+          free = rw name free;
+          text = rw text c.requires.canonical;
+          fits = c.in_ok-block.ensures.fits;
+          counts = c.in_ok-stats.ensures.counts;
+          few = c.in_ok-stats.ensures.fits;
+        };
+        due = λ file. open_with_file world opened.name opened.file query file free none block same small _ _ _ _ file_name name text c.in_ok-stats.ensures.counts;
+      },
+      refl,
+      refl,
+    )

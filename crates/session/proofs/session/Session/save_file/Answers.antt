@@ -36,8 +36,12 @@ returns c = λ max_work paid.
     let due : save_outcome world save ≡ Saves save.file (file_text named.bouquet named.query) = ap (at_bouquet save.name (λ kept. Saves save.file (file_text kept.bouquet kept.query))) found in
     let bytes : c.in_ok-bytes.bytes.items ≡ file_text named.bouquet named.query = c.in_ok-bytes.ensures.text ∙ ap (file_text named.bouquet) c.deref.ensures.value in
     let name : c.in_ok-clone.field-0 ≡ save.file = c.in_ok-clone.ensures.cases in
-    rw (← c.self.view_is) (record {
-      writes = (name, rw found refl);
-      text = rw name c.requires;
-      due = λ file. due ∙ (λ i. Saves (sym name i) (sym bytes i));
-    }, refl, refl)
+    rw (← c.self.view_is) (
+      record {
+        writes = (name, rw found refl);
+        text = rw name c.requires;
+        due = λ file. due ∙ (λ i. Saves (sym name i) (sym bytes i));
+      },
+      refl,
+      refl,
+    )
