@@ -1,5 +1,6 @@
 -- The frontier of a contour as a list of points with their best plans.
-use Rattle.std.specs.Prelude.{◌≡◌, ℕ, All, List, [], map, slice_index_or}
+use Rattle.std.specs.Prelude.{◌≡◌, ℕ, ◌≤◌, All, List, [], length, map, slice_index_or}
+use Rattle.sql_values.specs.Limits.{max_points}
 use Rattle.ess_grid.specs.Points.{IsPoint}
 use Rattle.plan_tree.specs.Plans.{PlanTree, Scan, plan_tree, FitsSet}
 use Rattle.cost_model.specs.Costing.{CostingTree}
@@ -12,6 +13,11 @@ pub record IsFrontierPoint (costing : CostingTree) (at : FrontierPoint) : Type 0
   pub point : IsPoint costing.grid at.point
   pub best : IsBest costing at.point (plan_tree at.plan)
   pub cost : at.cost ≡ optimal_cost costing at.point
+
+-- a frontier: points of the grid, no more than it may have
+pub record IsFrontier (costing : CostingTree) (frontier : List FrontierPoint) : Type 0 where
+  pub each : All (IsFrontierPoint costing) frontier
+  pub few : length frontier ≤ max_points
 
 -- the points, and the plans
 abbrev pub frontier_points : List FrontierPoint → List (List ℕ)

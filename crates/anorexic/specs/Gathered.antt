@@ -5,7 +5,9 @@ use Rattle.plan_tree.specs.Plans.{plan_tree}
 use Rattle.plan_tree.specs.Enumerated.{IsSubPlan}
 use Rattle.anorexic.specs.declared.frontier_point.FrontierPoint.{FrontierPoint}
 use Rattle.anorexic.specs.declared.node.Node.{Node}
-use Rattle.anorexic.specs.Frontiers.{plan_at}
+use Rattle.anorexic.specs.declared.candidates.Candidates.{Candidates}
+use Rattle.cost_model.specs.Costing.{CostingTree, IsCosting}
+use Rattle.anorexic.specs.Frontiers.{IsFrontierPoint, plan_at}
 use Rattle.anorexic.specs.Nodes.{IsNumbered, AreNodes}
 
 -- each plan before a place is among the candidates
@@ -20,3 +22,14 @@ pub record AreCandidates (frontier : List FrontierPoint) (nodes : List Node) (nu
   pub numbered : (candidate : ℕ) → candidate < length places
       → IsNumbered nodes (plan_at frontier (slice_index places candidate)) (slice_index numbers candidate)
   pub plans : (block : BlockTree) → All (λ at. IsSubPlan block (plan_tree at.plan)) frontier → AreNodes block nodes
+
+-- so those that were gathered so far
+abbrev pub Gathers : List FrontierPoint → Candidates → (end : ℕ) → Type 0
+Gathers frontier candidates end =
+    AreCandidates frontier candidates.nodes.nodes.items candidates.numbers.items candidates.places.items end
+
+-- a frontier of a costing with all its candidates
+pub record HasCandidates (costs : CostingTree) (points : List FrontierPoint) (found : Candidates) : Type 0 where
+  pub costing : IsCosting costs
+  pub frontier : All (IsFrontierPoint costs) points
+  pub candidates : Gathers points found (length points)

@@ -1,5 +1,6 @@
 -- Plans as numbers of nodes, so that equal parts of plans are one node and cost once.
 use Rattle.std.specs.Prelude.{◌≡◌, ◌⊎◌, ℕ, ◌+◌, ◌^◌, ◌<◌, List, [], ◌∷◌, ◌++◌, length, slice_index, slice_index_or}
+use Rattle.sql_values.specs.Limits.{cost_bound}
 use Rattle.query_block.specs.Blocks.{BlockTree}
 use Rattle.plan_tree.specs.Plans.{PlanTree, Scan, IndexScan, Nest, Hash, Merge, IndexLoop, covers_of}
 use Rattle.plan_tree.specs.Enumerated.{IsSubPlan}
@@ -93,7 +94,7 @@ side_costs_of node costs = side_costs_at node.root (slice_index costs node.left)
 
 -- a number is in the list, and what stands there is far from the end of 128 bits
 abbrev pub IsFew : List ℕ → (number : ℕ) → Type 0
-IsFew costs number = (number < length costs) × (slice_index costs number < 2 ^ 113)
+IsFew costs number = (number < length costs) × (slice_index costs number < cost_bound)
 
 abbrev pub AreFewAt : Root → List ℕ → (left right : ℕ) → Type 0
 AreFewAt (root.Scan relation) costs left right = Unit {0}

@@ -1,12 +1,12 @@
 -- What the turns of greedy reduction keep: a table of who covers what, and the places of the points that no plan covers yet.
-use Rattle.std.specs.Prelude.{◌≡◌, ℕ, ◌+◌, ◌*◌, Bool, false, List, count_by, length, map, slice_index_or}
+use Rattle.std.specs.Prelude.{◌≡◌, ℕ, ◌+◌, ◌*◌, ◌<◌, All, Bool, false, List, count_by, length, map, slice_index_or}
 use Rattle.std.specs.List.{flat_map}
 use Rattle.std.specs.Ordering.{nat_cmp, ordering_then}
 use Rattle.std.specs.declared.cmp.Ordering.{Ordering}
 use Rattle.plan_tree.specs.Plans.{PlanTree}
 use Rattle.plan_tree.specs.Order.{plan_order_of}
 use Rattle.cost_model.specs.Costing.{CostingTree}
-use Rattle.cost_model.specs.Greedy.{covers_at}
+use Rattle.cost_model.specs.Greedy.{covers_at, greedy_turns}
 use Rattle.anorexic.specs.declared.frontier_point.FrontierPoint.{FrontierPoint}
 use Rattle.anorexic.specs.Frontiers.{frontier_points, plan_at}
 
@@ -22,6 +22,13 @@ IsCoverTable costing threshold frontier plans table =
 -- what the table says of a candidate and the point at a place
 abbrev pub is_marked : (table : List Bool) → (width candidate place : ℕ) → Bool
 is_marked table width candidate place = slice_index_or table (place * width + candidate) false
+
+-- the places of the plans that turns take, where the table says who covers what
+pub record AreTaken (frontier : List FrontierPoint) (candidates : List ℕ) (table : List Bool) (taken : List ℕ) : Type 0 where
+  pub within : All (λ place. place < length frontier) taken
+  pub greedy : (costing : CostingTree) (threshold : ℕ) → IsCoverTable costing threshold frontier (map (plan_at frontier) candidates) table
+      → map (plan_at frontier) taken
+      ≡ greedy_turns costing threshold (map (plan_at frontier) candidates) (length frontier) (frontier_points frontier)
 
 -- the order of two plans that cover so many points
 abbrev pub cover_order : ℕ → PlanTree → ℕ → PlanTree → Ordering

@@ -1,8 +1,7 @@
 // The candidates: each of the plans of a frontier once, by the place where it stands first and by its number.
-ghost use Rattle.std.specs.Prelude.{◌≡◌, ◌+◌, ◌<◌, [], IfOk, OnOk, length};
-ghost use Rattle.plan_tree.specs.Plans.{plan_tree};
+ghost use Rattle.std.specs.Prelude.{◌+◌, ◌<◌, IfOk, OnOk, length};
 ghost use Rattle.anorexic.specs.Frontiers.{FrontierPlansFit};
-ghost use Rattle.anorexic.specs.Gathered.{AreCandidates};
+ghost use Rattle.anorexic.specs.Gathered.{Gathers};
 
 use crate::frontier_point::FrontierPoint;
 use crate::nodes::Nodes;
@@ -23,10 +22,8 @@ impl Candidates {
     fn add(&mut self, frontier: &[FrontierPoint], place: usize) -> Result<(), AllocError>
         requires plans { FrontierPlansFit frontier.now }
         requires place { place < length frontier.now }
-        requires gathered { AreCandidates frontier.now self.old.nodes.nodes.items
-            self.old.numbers.items self.old.places.items place }
-        ensures { OnOk result (AreCandidates frontier.now self.new.nodes.nodes.items
-            self.new.numbers.items self.new.places.items (place + 1)) }
+        requires gathered { Gathers frontier.now self.old place }
+        ensures { OnOk result (Gathers frontier.now self.new (place + 1)) }
     {
         let number = self.nodes.number(&frontier[place].plan)?;
         if !self.numbers.as_slice().contains(&number) {
@@ -40,8 +37,7 @@ impl Candidates {
 /// The candidates of a frontier. An error is want of memory.
 pub(crate) fn gather(alloc: Global, frontier: &[FrontierPoint]) -> Result<Candidates, AllocError>
     requires plans { FrontierPlansFit frontier.now }
-    ensures { IfOk result (λ found. AreCandidates frontier.now found.nodes.nodes.items
-        found.numbers.items found.places.items (length frontier.now)) }
+    ensures { IfOk result (λ found. Gathers frontier.now found (length frontier.now)) }
 {
     let mut found = Candidates {
         nodes: Nodes::new(alloc),

@@ -1,10 +1,10 @@
 // Which candidate covers which point: a row of tests for each point of the frontier, in order, all in one list. At each
 // point all nodes are costed once.
 ghost use Rattle.std.specs.Prelude.{◌≡◌, ◌++◌, ◌+◌, ◌*◌, ◌^◌, ◌<◌, ◌≤◌, All, IfOk, OnOk, length, map, nat_le, slice_index};
-ghost use Rattle.sql_values.specs.Limits.{max_threshold};
-ghost use Rattle.cost_model.specs.Costing.{costing_tree, IsCosting};
+ghost use Rattle.sql_values.specs.Limits.{max_threshold, cost_bound};
+ghost use Rattle.cost_model.specs.Costing.{costing_tree};
 ghost use Rattle.anorexic.specs.Frontiers.{IsFrontierPoint, plan_at};
-ghost use Rattle.anorexic.specs.Gathered.{AreCandidates};
+ghost use Rattle.anorexic.specs.Gathered.{HasCandidates};
 ghost use Rattle.anorexic.specs.Nodes.{IsFew};
 ghost use Rattle.anorexic.specs.Turns.{cover_row, IsCoverTable};
 
@@ -17,7 +17,7 @@ use std::alloc::{AllocError, Global};
 // What a plan that covers a point costs there at the most, a hundredfold.
 fn limit_of(threshold: u32, at: &FrontierPoint) -> u128
     requires threshold { threshold ≤ max_threshold }
-    requires cost { at.now.cost < 2 ^ 113 }
+    requires cost { at.now.cost < cost_bound }
     ensures { result ≡ (100 + threshold) * at.now.cost }
 {
     u128::from(100 + threshold) * at.cost
@@ -51,11 +51,8 @@ fn add_point(
     candidates: &Candidates,
     at: &FrontierPoint,
 ) -> Result<(), AllocError>
-    requires costing { IsCosting (costing_tree costing.now) }
     requires threshold { threshold ≤ max_threshold }
-    requires frontier { All (IsFrontierPoint (costing_tree costing.now)) frontier.now }
-    requires candidates { AreCandidates frontier.now candidates.now.nodes.nodes.items
-        candidates.now.numbers.items candidates.now.places.items (length frontier.now) }
+    requires given { HasCandidates (costing_tree costing.now) frontier.now candidates.now }
     requires long { length costs.old ≡ length candidates.now.nodes.nodes.items }
     requires point { IsFrontierPoint (costing_tree costing.now) at.now }
     ensures { OnOk result (table.new.items ≡ table.old.items
@@ -77,11 +74,8 @@ pub(crate) fn cover_table(
     frontier: &[FrontierPoint],
     candidates: &Candidates,
 ) -> Result<Vec<bool>, AllocError>
-    requires costing { IsCosting (costing_tree costing.now) }
     requires threshold { threshold ≤ max_threshold }
-    requires frontier { All (IsFrontierPoint (costing_tree costing.now)) frontier.now }
-    requires candidates { AreCandidates frontier.now candidates.now.nodes.nodes.items
-        candidates.now.numbers.items candidates.now.places.items (length frontier.now) }
+    requires given { HasCandidates (costing_tree costing.now) frontier.now candidates.now }
     ensures { IfOk result (λ table. IsCoverTable (costing_tree costing.now) threshold frontier.now
         (map (plan_at frontier.now) candidates.now.places.items) table.items) }
 {

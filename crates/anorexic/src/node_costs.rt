@@ -1,21 +1,22 @@
 // What all nodes cost at a point: what each costs by itself, and what its sides cost, which stand before it.
-ghost use Rattle.std.specs.Prelude.{◌≡◌, ◌<◌, ◌≤◌, ◌^◌, length, slice_index};
+ghost use Rattle.std.specs.Prelude.{◌≡◌, ◌*◌, ◌<◌, length};
+ghost use Rattle.sql_values.specs.Limits.{cost_bound};
 ghost use Rattle.plan_tree.specs.Plans.{PlanTree};
 ghost use Rattle.plan_tree.specs.Enumerated.{IsSubPlan};
 ghost use Rattle.cost_model.specs.Costing.{costing_tree, IsCosting};
 ghost use Rattle.cost_model.specs.Costs.{cost_of};
-ghost use Rattle.cost_model.specs.Prices.{block_at, own_at};
-ghost use Rattle.anorexic.specs.Nodes.{node_at, side_costs_of, IsNumbered, AreNodes, AreNodeCosts, AreSideCostsFew};
+ghost use Rattle.cost_model.specs.Prices.{block_at};
+ghost use Rattle.anorexic.specs.Nodes.{side_costs_of, IsNumbered, AreNodes, AreNodeCosts, AreSideCostsFew};
 
 use crate::node::Node;
 use cost_model::Prices;
-use plan_tree::Root;
+use plan_tree::{Root, Subset};
 
 // What the sides of a node cost.
 fn side_costs(node: &Node, costs: &[u128]) -> u128
     requires few { AreSideCostsFew node.now costs.now }
     ensures costs { result ≡ side_costs_of node.now costs.now }
-    ensures bound { result < 2 ^ 114 }
+    ensures bound { result < 2 * cost_bound }
 {
     match node.root {
         Root::Scan(_) | Root::IndexScan(..) => 0,
@@ -35,7 +36,7 @@ fn node_cost(prices: &Prices<'_>, nodes: &[Node], costs: &[u128], number: usize)
         result ≡ cost_of (costing_tree prices.now.costing) p prices.now.point }
 {
     let node = nodes[number];
-    prices.own(node.root, node.set) + side_costs(&node, costs)
+    prices.own(node.root, Subset::new(node.set)) + side_costs(&node, costs)
 }
 
 /// Works out what all nodes cost at the point of the prices.

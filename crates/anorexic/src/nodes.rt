@@ -5,7 +5,7 @@ ghost use Rattle.plan_tree.specs.Plans.{plan_tree, FitsSet};
 ghost use Rattle.anorexic.specs.Nodes.{node_at, AddsNode, NumbersPlan};
 
 use crate::node::Node;
-use plan_tree::{Plan, Root, set_of_one};
+use plan_tree::{Plan, Root, Subset};
 use std::alloc::{AllocError, Global};
 
 const BUCKETS: usize = 256;
@@ -130,7 +130,7 @@ impl Nodes {
         let left_set = self.set(left);
         self.number_of(Node {
             root: Root::IndexLoop(edge, left_set, relation),
-            set: left_set | set_of_one(relation),
+            set: left_set | Subset::one(relation).number(),
             left,
             right: 0,
         })
@@ -144,7 +144,7 @@ impl Nodes {
     {
         self.number_of(Node {
             root,
-            set: set_of_one(relation),
+            set: Subset::one(relation).number(),
             left: 0,
             right: 0,
         })

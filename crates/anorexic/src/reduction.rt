@@ -1,12 +1,12 @@
 // Greedy reduction.
 ghost use Rattle.std.specs.Prelude.{◌≡◌, ◌*◌, ◌<◌, ◌≤◌, ℕ, All, Contains, IfOk, length, map};
 ghost use Rattle.std.specs.List.{range_with_len};
-ghost use Rattle.sql_values.specs.Limits.{max_points, max_threshold};
+ghost use Rattle.sql_values.specs.Limits.{max_threshold};
 ghost use Rattle.plan_tree.specs.Plans.{plan_tree};
-ghost use Rattle.cost_model.specs.Costing.{CostingTree, costing_tree};
-ghost use Rattle.cost_model.specs.Greedy.{greedy, greedy_turns};
-ghost use Rattle.anorexic.specs.Frontiers.{IsFrontierPoint, FrontierPlansFit, frontier_points, plan_at};
-ghost use Rattle.anorexic.specs.Turns.{IsCoverTable};
+ghost use Rattle.cost_model.specs.Costing.{costing_tree};
+ghost use Rattle.cost_model.specs.Greedy.{greedy};
+ghost use Rattle.anorexic.specs.Frontiers.{IsFrontier, FrontierPlansFit, frontier_points, plan_at};
+ghost use Rattle.anorexic.specs.Turns.{AreTaken};
 
 use crate::candidates::gather;
 use crate::cover::cover_table;
@@ -39,12 +39,8 @@ fn turns(
     requires each { (place : ℕ) → place < length frontier.now
         → Contains (map (plan_at frontier.now) candidates.now) (plan_at frontier.now place) }
     requires table { length table.now ≡ length frontier.now * length candidates.now }
-    ensures places { IfOk result (λ taken. All (λ place. place < length frontier.now) taken.items) }
-    ensures taken { IfOk result (λ taken. (costing : CostingTree) (threshold : ℕ) →
-        IsCoverTable costing threshold frontier.now (map (plan_at frontier.now) candidates.now) table.now →
-        map (plan_at frontier.now) taken.items
-        ≡ greedy_turns costing threshold (map (plan_at frontier.now) candidates.now)
-        (length frontier.now) (frontier_points frontier.now)) }
+    ensures { IfOk result
+        (λ taken. AreTaken frontier.now candidates.now table.now taken.items) }
 {
     let mut taken = Vec::new(alloc);
     let mut uncovered = all_places(alloc, frontier.len())?;
@@ -85,9 +81,8 @@ pub fn reduce(
     frontier: &[FrontierPoint],
     threshold: u32,
 ) -> Result<Vec<Plan>, AllocError>
-    requires each { All (IsFrontierPoint (costing_tree costing.now)) frontier.now }
+    requires frontier { IsFrontier (costing_tree costing.now) frontier.now }
     requires threshold { threshold ≤ max_threshold }
-    requires few { length frontier.now ≤ max_points }
     ensures { IfOk result (λ plans. map plan_tree plans.items
         ≡ greedy (costing_tree costing.now) threshold (frontier_points frontier.now)) }
 {

@@ -7,7 +7,7 @@ use Rattle.std.proofs.lemmas.List.Elements.{All-head, All-tail}
 use Rattle.std.proofs.lemmas.List.Sums.{sum_by-cons}
 use Rattle.cost_model.specs.Optimal.{least_of}
 use Rattle.audit_run.specs.Measures.{Measure, are_within, is_worse, worst_of}
-use Rattle.audit_run.specs.Executed.{measure}
+use Rattle.audit_run.specs.Executed.{measure, AreWith, HasWork}
 use Rattle.audit_run.specs.declared.figures.Figures.{Figures}
 use Rattle.audit_run.specs.declared.figures.Measured.{Measured}
 use Rattle.audit_run.proofs.Quotients.{worse_of, worse_of-assoc}
@@ -22,8 +22,7 @@ pub record AreFigures (whole rest : List Measure) (figures : Figures) (spent : �
   pub worst : worse_of (measure figures.worst) (worst_of rest) ≡ worst_of whole
   pub cheapest : least_of (figures.cheapest ∷ works_of rest) ≡ least_of ((2 ^ 128 - 1) ∷ works_of whole)
   pub work : spent + sum_by (λ m. m.work) rest ≡ sum_by (λ m. m.work) whole
-  pub some : 1 ≤ figures.worst.work
-  pub few : figures.worst.work < 2 ^ 64
+  pub has : HasWork figures.worst
   pub measures : All IsMeasure rest
 
 abbrev pub first_figures : Figures
@@ -35,16 +34,9 @@ figures-begin whole are = record {
   worst = worst-begins whole are;
   cheapest = refl;
   work = omega arith;
-  some = omega arith;
-  few = omega arith;
+  has = record { some = omega arith; few = omega arith };
   measures = are;
 }
-
--- the figures with those of one plan more
-pub record AreWith (m : Measured) (old new : Figures) : Type 0 where
-  pub below : new.below ≡ (old.below && nat_le m.work m.cost)
-  pub worst : new.worst ≡ (if is_worse (measure m) (measure old.worst) then m else old.worst)
-  pub cheapest : new.cheapest ≡ min old.cheapest m.work
 
 both-below : (a b c : Bool) → ((a && b) && c) ≡ (a && (b && c))
 both-below true b c = refl
@@ -71,8 +63,8 @@ measure-chosen true a b = refl
 measure-chosen false a b = refl
 
 pub figures-next : (whole rest : List Measure) (m : Measured) (old new : Figures) (spent : ℕ) → AreFigures whole (measure m ∷ rest) old spent
-    → m.work < 2 ^ 64 → AreWith m old new → AreFigures whole rest new (spent + m.work)
-figures-next whole rest m old new spent are few with =
+    → HasWork m → AreWith m old new → AreFigures whole rest new (spent + m.work)
+figures-next whole rest m old new spent are has with =
     let here = All-head IsMeasure (measure m) rest are.measures in
     let worse = is_worse (measure m) (measure old.worst) in
     let test = nat_le m.work m.cost in
@@ -84,11 +76,10 @@ figures-next whole rest m old new spent are few with =
     ap (λ n. least_of (n ∷ works_of rest)) with.cheapest in
     record {
       below = below ∙ both-below old.below test (are_within rest) ∙ are.below;
-      worst = worst ∙ worse_of-assoc (measure old.worst) (measure m) (worst_of rest) are.some here.work ∙ are.worst;
+      worst = worst ∙ worse_of-assoc (measure old.worst) (measure m) (worst_of rest) are.has.some here.work ∙ are.worst;
       cheapest = cheapest ∙ least-next old.cheapest m.work (works_of rest) ∙ are.cheapest;
       work = omega (arith, are.work, sum_by-cons (λ (n : Measure). n.work) (measure m) rest);
-      some = subst (λ n. 1 ≤ n.work) (sym with.worst) (chosen (λ n. 1 ≤ n.work) worse m old.worst here.work are.some);
-      few = subst (λ n. n.work < 2 ^ 64) (sym with.worst) (chosen (λ n. n.work < 2 ^ 64) worse m old.worst few are.few);
+      has = subst HasWork (sym with.worst) (chosen HasWork worse m old.worst has are.has);
       measures = All-tail IsMeasure (measure m) rest are.measures;
     }
 

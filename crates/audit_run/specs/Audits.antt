@@ -7,7 +7,7 @@ use Rattle.cost_model.specs.Optimal.{least_of}
 use Rattle.db_catalog.specs.Database.{DatabaseState}
 use Rattle.bouquet_type.specs.Trees.{BouquetTree}
 use Rattle.bouquet_type.specs.Budgets.{most_plans}
-use Rattle.audit_run.specs.Measures.{measures_of, are_within, worst_of}
+use Rattle.audit_run.specs.Measures.{audited_block, measures_of, are_within, worst_of}
 use Rattle.audit_run.specs.declared.told.Audit.{Audit}
 use Rattle.audit_run.specs.declared.told.AuditFault.{AuditFault}
 use Rattle.audit_run.specs.declared.told.AuditFault.TheVariants.{PlanLimit, WorkLimit, NoMemory}
@@ -24,9 +24,9 @@ pub record AuditTree : Type 0 where
   pub r : ℕ
   pub work : ℕ
 
--- what all plans of a bouquet's block work together over a database
+-- what all plans of the block work together over a database
 abbrev pub work_of_all : BouquetTree → DatabaseState → ℕ
-work_of_all bouquet database = sum_by (work_of database.tables bouquet.costing.block) (plans_of bouquet.costing.block)
+work_of_all bouquet database = sum_by (work_of database.tables (audited_block bouquet)) (plans_of (audited_block bouquet))
 
 -- of a bouquet at a point, over a database
 abbrev pub audit_of : BouquetTree → DatabaseState → (point : List ℕ) → AuditTree
@@ -60,7 +60,7 @@ told_audit audit = record {
 -- an audit is refused where there are more plans than it may try; or else where all of them work more than this at the most,
 -- and so much is spent; or out of memory
 abbrev pub RefusesAudit : BouquetTree → DatabaseState → (most : ℕ) → AuditFault → Type 0
-RefusesAudit bouquet database most PlanLimit = max_plans < length (plans_of bouquet.costing.block)
+RefusesAudit bouquet database most PlanLimit = max_plans < length (plans_of (audited_block bouquet))
 RefusesAudit bouquet database most (WorkLimit spent) =
-    (length (plans_of bouquet.costing.block) ≤ max_plans) × (most < work_of_all bouquet database) × (spent ≡ most)
+    (length (plans_of (audited_block bouquet)) ≤ max_plans) × (most < work_of_all bouquet database) × (spent ≡ most)
 RefusesAudit bouquet database most NoMemory = ⊤

@@ -1,12 +1,17 @@
 -- What each plan of a block costs and works, and which of them is worst.
 use Rattle.std.specs.Prelude.{ℕ, ◌*◌, Bool, List, [], ◌∷◌, map, nat_le, nat_lt, if◌then◌else◌}
 use Rattle.std.specs.List.{list_all}
+use Rattle.query_block.specs.Blocks.{BlockTree}
 use Rattle.plan_tree.specs.Plans.{PlanTree}
 use Rattle.plan_tree.specs.AllPlans.{plans_of}
 use Rattle.plan_tree.specs.Work.{work_of}
 use Rattle.cost_model.specs.Costs.{cost_of}
 use Rattle.db_catalog.specs.Database.{DatabaseState}
 use Rattle.bouquet_type.specs.Trees.{BouquetTree}
+
+-- the block that an audit of a bouquet executes
+abbrev pub audited_block : BouquetTree → BlockTree
+audited_block bouquet = bouquet.costing.block
 
 -- what a plan costs at a point, and what it works over a database
 pub record Measure : Type 0 where
@@ -16,12 +21,12 @@ pub record Measure : Type 0 where
 abbrev pub measure_of : BouquetTree → DatabaseState → (point : List ℕ) → PlanTree → Measure
 measure_of bouquet database point p = record {
   cost = cost_of bouquet.costing p point;
-  work = work_of database.tables bouquet.costing.block p;
+  work = work_of database.tables (audited_block bouquet) p;
 }
 
--- of all plans of the bouquet's block, in plan order
+-- of all plans of that block, in plan order
 abbrev pub measures_of : BouquetTree → DatabaseState → (point : List ℕ) → List Measure
-measures_of bouquet database point = map (measure_of bouquet database point) (plans_of bouquet.costing.block)
+measures_of bouquet database point = map (measure_of bouquet database point) (plans_of (audited_block bouquet))
 
 -- whether no work is above its cost
 abbrev pub are_within : List Measure → Bool

@@ -1,17 +1,17 @@
 // The audit: every plan is executed once.
-ghost use Rattle.std.specs.Prelude.{◌≡◌, ◌+◌, ◌<◌, ◌≤◌, [], All, IfErr, IfOk, OnOk, IsTrue, length, map};
+ghost use Rattle.std.specs.Prelude.{◌≡◌, ◌≤◌, All, IfErr, IfOk, IsTrue, map};
 ghost use Rattle.sql_values.specs.Limits.{max_plans};
-ghost use Rattle.query_block.specs.Blocks.{block_tree, width_of};
 ghost use Rattle.ess_grid.specs.Points.{IsPoint};
 ghost use Rattle.plan_tree.specs.Plans.{plan_tree};
 ghost use Rattle.plan_tree.specs.Enumerated.{IsPlan};
 ghost use Rattle.plan_tree.specs.AllPlans.{plans_of};
 ghost use Rattle.plan_tree.specs.Work.{work_of};
 ghost use Rattle.db_catalog.specs.Fits.{Fits};
+ghost use Rattle.exec_pipe.specs.Scenes.{IsEmptyContext};
 ghost use Rattle.bouquet_type.specs.Trees.{bouquet_tree};
 ghost use Rattle.bouquet_type.specs.Runs.{CostPremise};
-ghost use Rattle.audit_run.specs.Measures.{measure_of};
-ghost use Rattle.audit_run.specs.Executed.{measure, StopsAudit};
+ghost use Rattle.audit_run.specs.Measures.{audited_block};
+ghost use Rattle.audit_run.specs.Executed.{MeasuresPlan, StopsAudit};
 ghost use Rattle.audit_run.specs.Audits.{audit_of, told_audit, work_of_all, RefusesAudit};
 
 use crate::figures::{Figures, Measured};
@@ -35,26 +35,12 @@ fn measured(
     space: &mut Space,
     max_work: u64,
 ) -> Result<Measured, AuditFault>
-    requires fits { Fits meter.old.database (block_tree b.now.block) }
+    requires context { IsEmptyContext meter.old (audited_block (bouquet_tree b.now)) space.old }
     requires point { IsPoint b.now.grid point.now }
-    requires plan { IsPlan (block_tree b.now.block) (plan_tree plan.now) }
-    requires width { space.old.work.width ≡ width_of (block_tree b.now.block) }
-    requires result_width { space.old.result.width ≡ width_of (block_tree b.now.block) }
-    requires empty { (space.old.work.rows ≡ []) × (space.old.result.rows ≡ []) }
+    requires plan { IsPlan (audited_block (bouquet_tree b.now)) (plan_tree plan.now) }
     requires left { meter.old.account.spent ≤ max_work }
-    ensures measured { IfOk result (λ measured. measure measured
-        ≡ measure_of (bouquet_tree b.now) meter.old.database point.now (plan_tree plan.now)) }
-    ensures some { IfOk result (λ measured. 1 ≤ measured.work) }
-    ensures paid { IfOk result (λ measured.
-        meter.new.account.spent ≡ meter.old.account.spent + measured.work) }
-    ensures within { OnOk result (meter.new.account.spent ≤ max_work) }
-    ensures stops { IfErr result (StopsAudit (meter.old.account.spent
-        + work_of meter.old.database.tables (block_tree b.now.block) (plan_tree plan.now))
-        max_work) }
-    ensures database { meter.new.database ≡ meter.old.database }
-    ensures width { space.new.work.width ≡ space.old.work.width }
-    ensures result_width { space.new.result.width ≡ space.old.result.width }
-    ensures empty { OnOk result ((space.new.work.rows ≡ []) × (space.new.result.rows ≡ [])) }
+    ensures measures { MeasuresPlan (bouquet_tree b.now) point.now (plan_tree plan.now) max_work
+        meter.old meter.new space.new result }
 {
     let before = meter.spent();
     match run_within(alloc, b.block(), plan, meter, space, None, max_work) {
@@ -80,10 +66,10 @@ fn audit_plans(
     plans: &[Plan],
     max_work: u64,
 ) -> Result<Audit, AuditFault>
-    requires fits { Fits db.now (block_tree b.now.block) }
+    requires fits { Fits db.now (audited_block (bouquet_tree b.now)) }
     requires point { IsPoint b.now.grid point.now }
-    requires plans { map plan_tree plans.now ≡ plans_of (block_tree b.now.block) }
-    requires each { All (λ p. IsPlan (block_tree b.now.block) (plan_tree p)) plans.now }
+    requires plans { map plan_tree plans.now ≡ plans_of (audited_block (bouquet_tree b.now)) }
+    requires each { All (λ p. IsPlan (audited_block (bouquet_tree b.now)) (plan_tree p)) plans.now }
     ensures audit { IfOk result (λ audit.
         told_audit audit ≡ audit_of (bouquet_tree b.now) db.now point.now) }
     ensures within { IfOk result (λ audit. audit.work ≤ max_work) }
@@ -119,13 +105,13 @@ pub fn audit(
     point: &Point,
     max_work: u64,
 ) -> Result<Audit, AuditFault>
-    requires fits { Fits db.now (block_tree b.now.block) }
+    requires fits { Fits db.now (audited_block (bouquet_tree b.now)) }
     requires point { IsPoint b.now.grid point.now }
     ensures audit { IfOk result (λ audit.
         told_audit audit ≡ audit_of (bouquet_tree b.now) db.now point.now) }
     ensures premise { IfOk result (λ audit. IsTrue audit.below →
         CostPremise (bouquet_tree b.now).costing point.now audit.a audit.b
-        (work_of db.now.tables (block_tree b.now.block))) }
+        (work_of db.now.tables (audited_block (bouquet_tree b.now)))) }
     ensures few { IfOk result (λ audit. audit.plans ≤ max_plans) }
     ensures within { IfOk result (λ audit. audit.work ≤ max_work) }
     ensures refuses { IfErr result (RefusesAudit (bouquet_tree b.now) db.now max_work) }

@@ -1,7 +1,7 @@
 // What plans cost and work, looked at one after another.
-ghost use Rattle.std.specs.Prelude.{◌≡◌, ◌-◌, ◌^◌, ◌<◌, ◌≤◌, ◌&&◌, true, min, nat_le, if◌then◌else◌};
+ghost use Rattle.std.specs.Prelude.{◌≡◌, ◌-◌, ◌^◌, true};
 ghost use Rattle.audit_run.specs.Measures.{is_worse};
-ghost use Rattle.audit_run.specs.Executed.{measure};
+ghost use Rattle.audit_run.specs.Executed.{measure, AreWith, HasWork};
 
 /// What a plan costs at a point, and what it works.
 #[derive(Clone, Copy, Drop)]
@@ -15,10 +15,8 @@ pub(crate) struct Measured {
 // Whether the quotient of cost by work is greater for one plan than for another. A cost times a work may pass 128 bits, so the
 // whole parts of the quotients are compared, and what remains only where they are equal.
 fn is_worse(plan: Measured, other: Measured) -> bool
-    requires some { 1 ≤ plan.work }
-    requires few { plan.work < 2 ^ 64 }
-    requires other_some { 1 ≤ other.work }
-    requires other_few { other.work < 2 ^ 64 }
+    requires plan { HasWork plan }
+    requires other { HasWork other }
     ensures { result ≡ is_worse (measure plan) (measure other) }
 {
     let whole = plan.cost / plan.work;
@@ -60,14 +58,9 @@ impl Figures {
 
     /// The figures with those of one plan more.
     pub fn with(self, plan: Measured) -> Figures
-        requires worst_some { 1 ≤ self.worst.work }
-        requires worst_few { self.worst.work < 2 ^ 64 }
-        requires some { 1 ≤ plan.work }
-        requires few { plan.work < 2 ^ 64 }
-        ensures below { result.below ≡ (self.below && nat_le plan.work plan.cost) }
-        ensures worst { result.worst ≡ (if is_worse (measure plan) (measure self.worst)
-            then plan else self.worst) }
-        ensures cheapest { result.cheapest ≡ min self.cheapest plan.work }
+        requires worst { HasWork self.worst }
+        requires plan { HasWork plan }
+        ensures { AreWith plan self result }
     {
         Figures {
             below: self.below & (plan.work <= plan.cost),

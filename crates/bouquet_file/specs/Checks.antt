@@ -1,7 +1,7 @@
 -- The checks of a file's parts, each of which names the first fault.
 use Rattle.std.specs.Prelude.{ℕ, ◌+◌, ◌^◌, ⊤, nat_eq, nat_le, List, [], ◌∷◌, length, Option, Some, None, codes, if◌then◌else◌, option_and_then, bytes_eq, Err}
 use Rattle.std.specs.Option.{option_or}
-use Rattle.sql_values.specs.Limits.{max_rows, max_columns, max_points, min_levels, max_levels}
+use Rattle.sql_values.specs.Limits.{max_rows, max_columns, max_points, min_levels, max_levels, max_contour_cost}
 use Rattle.serde_json.specs.Data.{Data, Items, Members}
 use Rattle.serde_json.specs.Find.{get_member, as_object, as_str}
 use Rattle.query_block.specs.Blocks.{BlockTree}
@@ -98,7 +98,7 @@ abbrev pub contour_at : BlockTree → (number : ℕ) → Data → Checked Contou
 contour_at block number value = do
   members ← need (fault.Field (path.Contour number)) (as_object value)
   cost ← need (fault.Field (path.Cost number)) (cost_in members)
-  check (fault.BudgetLimit number) (nat_le cost (2 ^ 114))
+  check (fault.BudgetLimit number) (nat_le cost max_contour_cost)
   texts ← need (fault.Field (path.Plans number)) (plans_in members)
   plans ← each (plan_here block number) 1 texts
   pure (record { cost = cost; plans = plans })

@@ -1,6 +1,6 @@
 -- The parts of a file, each of which fits.
 use Rattle.std.specs.Prelude.{ℕ, List, length, Option, codes}
-use Rattle.sql_values.specs.Limits.{max_threshold}
+use Rattle.sql_values.specs.Limits.{max_threshold, max_contours}
 use Rattle.serde_json.specs.Data.{Data, Items}
 use Rattle.serde_json.specs.Find.{get_member}
 use Rattle.serde_json.specs.View.{items_view}
@@ -40,6 +40,6 @@ parts_of value block = do
   threshold ← need (fault.Field path.Threshold) (within 0 max_threshold (unsigned (get_member (codes "threshold") members)))
   relations ← need (fault.Field path.Relations) (list_within (length block.relations) (length block.relations) (get_member (codes "relations") members))
   counts ← each counts_at 1 relations
-  contours ← need (fault.Field path.Contours) (list_within 1 128 (get_member (codes "contours") members))
+  contours ← need (fault.Field path.Contours) (list_within 1 max_contours (get_member (codes "contours") members))
   every contour_fits 1 contours
   pure (record { query = text; levels = levels; threshold = threshold; counts = counts; contours = contours })

@@ -1,6 +1,6 @@
 // The contours of a file: first that all of them fit, then their costs and plans.
 ghost use Rattle.std.specs.Prelude.{◌≡◌, ◌≤◌, All, IfOk, IfSome, length, map, option_map};
-ghost use Rattle.sql_values.specs.Limits.{max_points};
+ghost use Rattle.sql_values.specs.Limits.{max_points, max_contours};
 ghost use Rattle.serde_json.specs.View.{view, items_view, members_view};
 ghost use Rattle.query_block.specs.Blocks.{block_tree};
 ghost use Rattle.plan_tree.specs.Plans.{plan_tree};
@@ -16,11 +16,8 @@ use bouquet_type::Contour;
 use plan_tree::{Plan, PlanFault, is_plan, read_plan};
 use query_block::Block;
 use serde_json::Value;
-use sql_values::MAX_POINTS;
+use sql_values::{MAX_CONTOUR_COST, MAX_POINTS};
 use std::alloc::{AllocError, Global};
-
-// The most that a contour may cost.
-const MOST_COST: u128 = 1 << 114;
 
 // The cost of a contour.
 fn cost_in(members: &Members) -> Option<u128>
@@ -73,7 +70,7 @@ fn contour_fits(number: u32, value: &Value) -> Result<(), OpenFault>
 
 /// Refuses the first value of the contours that doesn't fit.
 pub(crate) fn contours_fit(contours: &[Value]) -> Result<(), OpenFault>
-    requires { length contours.now ≤ 128 }
+    requires { length contours.now ≤ max_contours }
     ensures { result ≡ every contour_fits 1 (items_view contours.now) }
 {
     for (place, contour) in contours.iter().enumerate() {
@@ -158,7 +155,7 @@ fn contour_at(
 {
     let members = need(value.as_object(), FieldPath::Contour(number))?;
     let cost = need(cost_in(members), FieldPath::Cost(number))?;
-    if cost > MOST_COST {
+    if cost > MAX_CONTOUR_COST {
         return Err(OpenFault::BudgetLimit { contour: number });
     }
     let texts = need(plans_in(members), FieldPath::Plans(number))?;
@@ -172,7 +169,7 @@ pub(crate) fn contours_of(
     block: &Block,
     values: &[Value],
 ) -> Result<Vec<Contour>, OpenFault>
-    requires { length values.now ≤ 128 }
+    requires { length values.now ≤ max_contours }
     ensures contours { GivesChecked (λ contours. map contour_tree contours.items) result
         (each (contour_at (block_tree block.now)) 1 (items_view values.now)) }
     ensures count { IfOk result (λ contours. length contours.items ≡ length values.now) }

@@ -1,6 +1,6 @@
 // The parts of a file, each of which fits.
 ghost use Rattle.std.specs.Prelude.{◌≡◌, ◌^◌, ◌≤◌, IfOk, IfSome, Some, length};
-ghost use Rattle.sql_values.specs.Limits.{max_axes, min_levels, max_levels, max_points, max_threshold};
+ghost use Rattle.sql_values.specs.Limits.{max_axes, min_levels, max_levels, max_points, max_threshold, max_contours};
 ghost use Rattle.serde_json.specs.View.{view, members_view};
 ghost use Rattle.query_block.specs.Blocks.{axes_of, block_tree};
 ghost use Rattle.bouquet_file.specs.Steps.{GivesChecked};
@@ -14,7 +14,7 @@ use crate::relations::{KeptCounts, all_counts};
 use crate::values::{Members, list_at, need, number_at, text_at};
 use query_block::Block;
 use serde_json::Value;
-use sql_values::{MAX_LEVELS, MAX_POINTS, MAX_THRESHOLD, MIN_LEVELS};
+use sql_values::{MAX_CONTOURS, MAX_LEVELS, MAX_POINTS, MAX_THRESHOLD, MIN_LEVELS};
 use std::alloc::Global;
 
 /// The parts of a file.
@@ -64,7 +64,7 @@ pub(crate) fn parts_of<'v>(
     ensures counts { IfOk result
         (λ parts. length parts.counts.items ≡ length block.now.relations) }
     ensures some { IfOk result (λ parts. 1 ≤ length parts.contours.now) }
-    ensures few { IfOk result (λ parts. length parts.contours.now ≤ 128) }
+    ensures few { IfOk result (λ parts. length parts.contours.now ≤ max_contours) }
 {
     let members = head_of(file)?;
     let query = need(text_at(members, "query"), FieldPath::Query)?;
@@ -79,7 +79,10 @@ pub(crate) fn parts_of<'v>(
         FieldPath::Relations,
     )?;
     let counts = all_counts(alloc, relations)?;
-    let contours = need(list_at(members, "contours", 1, 128), FieldPath::Contours)?;
+    let contours = need(
+        list_at(members, "contours", 1, MAX_CONTOURS),
+        FieldPath::Contours,
+    )?;
     contours_fit(contours)?;
     Ok(Parts {
         query,

@@ -1,9 +1,10 @@
 -- What is told of a run.
 use Rattle.std.proofs.Common.{◌≡◌, ◌∙◌, ℕ, ℤ, ◌≤◌, List, length, map, sym, ap, subst, arith}
-use Rattle.std.specs.Prelude.{Result, Ok, Err, IfOk}
+use Rattle.std.specs.Prelude.{Result, Ok, Err}
 use Rattle.std.proofs.lemmas.List.{length-map}
 use Rattle.std.proofs.lemmas.List.Sorted.{length_permutation}
-use Rattle.query_block.specs.Blocks.{BlockTree, block_tree}
+use Rattle.row_stack.specs.declared.space.Space.{Space}
+use Rattle.query_block.specs.Blocks.{BlockTree}
 use Rattle.query_block.specs.Combined.{combination_of}
 use Rattle.query_block.specs.Meaning.{every_relation, meaning_of, projected, rows_of}
 use Rattle.db_catalog.specs.Database.{DatabaseState}
@@ -13,10 +14,9 @@ use Rattle.bouquet_type.specs.declared.report.RunFault.{RunFault}
 use Rattle.bouquet_type.specs.Shapes.{BouquetShape}
 use Rattle.bouquet_type.specs.Trees.{IsBouquet, bouquet_tree}
 use Rattle.bouquet_type.specs.Bounded.{MeetsBound}
-use Rattle.bouquet_type.specs.Reports.{told_end}
 use Rattle.bouquet_type.specs.Runs.{RunEnd, run_end}
 use Rattle.bouquet_type.proofs.Meets.{bouquet-bound}
-use Rattle.bouquet_run.specs.Outcomes.{works_over, ReportsRun}
+use Rattle.bouquet_run.specs.Outcomes.{executed_block, works_over, AnswersRun, RefusesRun, TellsEnd}
 
 -- a block means as many rows as were found
 meaning_count : (database : DatabaseState) (block : BlockTree) (words : List (List ℤ)) → AreRowsOf database block words
@@ -26,20 +26,22 @@ meaning_count database block words are =
     let combine = combination_of database.texts block.relations in
     length-map found (projected block.projection) ∙ length_permutation (map combine words) found are.values ∙ length-map words combine
 
--- what is told of a run whose last execution found these words
-module _ (bouquet : BouquetShape) (database : DatabaseState) (most spent : ℕ) (words : List (List ℤ)) (end : RunEnd) (is : IsBouquet bouquet) where
-  pub reports : (result : Result Report RunFault) → IfOk result (λ report. report.rows ≡ length words) → IfOk result (λ report. told_end report ≡ end)
-      → AreRowsOf database (block_tree bouquet.block) words → end ≡ run_end (bouquet_tree bouquet) (works_over database (bouquet_tree bouquet))
-      → spent ≡ end.total → spent ≤ most → IfOk result (ReportsRun (bouquet_tree bouquet) database most spent)
-  reports (Ok report) rows tells are ends paid within =
-      let work = works_over database (bouquet_tree bouquet) in
-      let total = ap (λ (told : RunEnd). told.total) tells in
-      let all = total ∙ ap (λ (told : RunEnd). told.total) ends in
-      record {
-        rows = rows ∙ sym (meaning_count database (block_tree bouquet.block) words are);
-        end = tells ∙ ends;
-        paid = paid ∙ sym total;
-        fits = omega (arith, total, paid, within);
-        bound = subst (MeetsBound (bouquet_tree bouquet) work) (sym all) (bouquet-bound bouquet is work);
-      }
-  reports (Err fault) rows tells are ends paid within = tt
+-- what is told of a run whose last execution left its rows
+module _ (bouquet : BouquetShape) (database : DatabaseState) (most spent : ℕ) (space space' : Space) (end : RunEnd) (is : IsBouquet bouquet) where
+  pub answers : (result : Result Report RunFault) → TellsEnd end space space' result → AreRowsOf database (executed_block (bouquet_tree bouquet)) space.result.rows
+      → end ≡ run_end (bouquet_tree bouquet) (works_over database (bouquet_tree bouquet)) → spent ≡ end.total → spent ≤ most
+      → AnswersRun (bouquet_tree bouquet) database most spent space'.result.rows result
+  answers (Ok report) tells are ends paid within =
+      let block = executed_block (bouquet_tree bouquet) in
+      let total = ap (λ (told : RunEnd). told.total) tells.0 in
+      let all = total ∙ ap (λ (told : RunEnd). told.total) ends in (
+        record {
+          rows = tells.1 ∙ sym (meaning_count database block space.result.rows are);
+          end = tells.0 ∙ ends;
+          paid = paid ∙ sym total;
+          fits = omega (arith, total, paid, within);
+          bound = subst (MeetsBound (bouquet_tree bouquet) (works_over database (bouquet_tree bouquet))) (sym all) (bouquet-bound bouquet is (works_over database (bouquet_tree bouquet)));
+        },
+        subst (AreRowsOf database block) (sym tells.2) are,
+      )
+  answers (Err fault) tells are ends paid within = (subst (RefusesRun (bouquet_tree bouquet) database most spent) (sym tells.0) tt, tells.1)

@@ -1,25 +1,32 @@
 -- How a run of a bouquet ends, over a database.
-use Rattle.std.specs.Prelude.{◌≡◌, ℕ, ◌<◌, ◌≤◌, ⊤, length}
+use Rattle.std.specs.Prelude.{◌≡◌, ℕ, ℤ, ◌<◌, ◌≤◌, ⊤, List, [], length, Result, Ok, Err}
+use Rattle.row_stack.specs.declared.space.Space.{Space}
+use Rattle.query_block.specs.Blocks.{BlockTree}
 use Rattle.query_block.specs.Meaning.{meaning_of}
 use Rattle.plan_tree.specs.Plans.{PlanTree}
 use Rattle.plan_tree.specs.Work.{work_of}
 use Rattle.db_catalog.specs.Database.{DatabaseState}
 use Rattle.bouquet_type.specs.Trees.{BouquetTree}
-use Rattle.bouquet_type.specs.Runs.{run_end, total_work}
+use Rattle.exec_pipe.specs.Executions.{AreRowsOf}
+use Rattle.bouquet_type.specs.Runs.{RunEnd, run_end, total_work}
 use Rattle.bouquet_type.specs.Bounded.{MeetsBound}
 use Rattle.bouquet_type.specs.Reports.{told_end}
 use Rattle.bouquet_type.specs.declared.report.Report.{Report}
 use Rattle.bouquet_type.specs.declared.report.RunFault.{RunFault}
 use Rattle.bouquet_type.specs.declared.report.RunFault.TheVariants.{WorkLimit, NoMemory}
 
--- what each plan of a bouquet's block takes over a database
+-- the block that a run of a bouquet executes
+abbrev pub executed_block : BouquetTree → BlockTree
+executed_block bouquet = bouquet.costing.block
+
+-- what each plan takes that a run of a bouquet may execute, over a database
 abbrev pub works_over : DatabaseState → BouquetTree → PlanTree → ℕ
-works_over database bouquet = work_of database.tables bouquet.costing.block
+works_over database bouquet = work_of database.tables (executed_block bouquet)
 
 -- a report tells the run of a bouquet over a database: how many rows the block means, and how the run ends; so much was paid,
 -- no more than this at the most, and it is within the bound
 pub record ReportsRun (bouquet : BouquetTree) (database : DatabaseState) (most spent : ℕ) (report : Report) : Type 0 where
-  pub rows : report.rows ≡ length (meaning_of database.tables bouquet.costing.block)
+  pub rows : report.rows ≡ length (meaning_of database.tables (executed_block bouquet))
   pub end : told_end report ≡ run_end bouquet (works_over database bouquet)
   pub paid : spent ≡ report.work
   pub fits : report.work ≤ most
@@ -30,3 +37,15 @@ abbrev pub RefusesRun : BouquetTree → DatabaseState → (most spent : ℕ) →
 RefusesRun bouquet database most spent (WorkLimit told) =
     (most < total_work bouquet (works_over database bouquet)) × (told ≡ most) × (spent ≡ most)
 RefusesRun bouquet database most spent NoMemory = ⊤
+
+-- a run is answered: its rows are those of the block that it executes, and a report tells it; or it is refused, without a row
+abbrev pub AnswersRun : BouquetTree → DatabaseState → (most spent : ℕ) → (results : List (List ℤ)) → Result Report RunFault → Type 0
+AnswersRun bouquet database most spent results (Ok report) =
+    ReportsRun bouquet database most spent report × AreRowsOf database (executed_block bouquet) results
+AnswersRun bouquet database most spent results (Err fault) = RefusesRun bouquet database most spent fault × (results ≡ [])
+
+-- this end is told of rows that are there, and they stay; or memory ran out, and they are released
+abbrev pub TellsEnd : RunEnd → (before after : Space) → Result Report RunFault → Type 0
+TellsEnd end before after (Ok report) =
+    (told_end report ≡ end) × (report.rows ≡ length before.result.rows) × (after.result.rows ≡ before.result.rows)
+TellsEnd end before after (Err fault) = (fault ≡ NoMemory) × (after.result.rows ≡ [])

@@ -1,5 +1,6 @@
 // What the runs of a program paid. It relies on the meter for what was spent, and is raised by `run` alone.
-ghost use Rattle.std.specs.Prelude.{◌≡◌, ◌+◌, ◌^◌, ◌≤◌};
+ghost use Rattle.std.specs.Prelude.{◌≡◌, ◌+◌, ◌≤◌};
+ghost use Rattle.work_ledger.specs.Account.{max_account};
 
 use db_catalog::Metered;
 use std::marker::Model;
@@ -35,7 +36,7 @@ impl Book {
 
     /// Takes in what a meter spent.
     pub(crate) fn enter(&mut self, meter: &Metered<'_>)
-        requires { self.old ≤ 2 ^ 126 }
+        requires { self.old ≤ max_account }
         ensures { self.new ≡ self.old + meter.now.account.spent }
     {
         self.paid += meter.spent();

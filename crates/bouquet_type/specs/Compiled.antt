@@ -1,6 +1,7 @@
 -- The compiled bouquet of a block, by its counts, a grid and a threshold.
 use Rattle.std.specs.Prelude.{◌≡◌, ℕ, ◌+◌, ◌<◌, ◌≤◌, nat_lt, List, All, length, map}
 use Rattle.std.specs.List.{count_by, range_with_len}
+use Rattle.sql_values.specs.Limits.{max_contours}
 use Rattle.ess_grid.specs.Points.{top_of}
 use Rattle.cost_model.specs.Costing.{CostingTree}
 use Rattle.cost_model.specs.Optimal.{optimal_cost}
@@ -19,9 +20,9 @@ pub record IsCompiled (bouquet : BouquetTree) : Type 0 where
   pub plans : All (λ contour. contour.plans ≡ greedy bouquet.costing bouquet.threshold (frontier bouquet.costing contour.cost)) bouquet.contours
 
 -- how many contours are needed: one, and one more for each number, from 1, whose cost is below the optimal cost at the top;
--- what plans of a block cost is at least 1 and below 2 ^ 113, so the first 128 numbers are enough
+-- what plans of a block cost is at least 1 and below `cost_bound`, so as many numbers as a bouquet may have contours are enough
 unfoldable pub contour_count : CostingTree → ℕ
-contour_count costing = 1 + count_by (λ number. nat_lt (contour_cost costing number) (optimal_cost costing (top_of costing.grid))) (range_with_len 1 128)
+contour_count costing = 1 + count_by (λ number. nat_lt (contour_cost costing number) (optimal_cost costing (top_of costing.grid))) (range_with_len 1 max_contours)
 
 -- the costs of so many contours
 abbrev pub contour_costs : CostingTree → List ℕ
@@ -31,7 +32,7 @@ contour_costs costing = map (contour_cost costing) (range_with_len 1 (contour_co
 abbrev pub compiled_contour : CostingTree → (threshold cost : ℕ) → ContourTree
 compiled_contour costing threshold cost = record { cost = cost; plans = greedy costing threshold (frontier costing cost) }
 
--- the compiled bouquet: there is no other one of at most 128 contours
+-- the compiled bouquet: there is no other one of at most so many contours as a bouquet may have
 unfoldable pub compiled : CostingTree → (threshold : ℕ) → BouquetTree
 compiled costing threshold = record {
   costing = costing;

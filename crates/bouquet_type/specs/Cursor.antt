@@ -1,5 +1,6 @@
 -- What is left of a bouquet's schedule while it is gone through.
 use Rattle.std.specs.Prelude.{ℕ, ◌+◌, ◌≤◌, ◌++◌, All, List, length, map}
+use Rattle.sql_values.specs.Limits.{max_contours}
 use Rattle.query_block.specs.Blocks.{block_tree}
 use Rattle.plan_tree.specs.declared.plan.Plan.{Plan}
 use Rattle.plan_tree.specs.Plans.{plan_tree}
@@ -32,4 +33,4 @@ pub record IsSchedule (s : ScheduleState) : Type 0 where
   pub bouquet : IsBouquet s.bouquet
   pub contours : All (IsContour (block_tree s.bouquet.block)) s.contours
   pub plans : All (λ p. IsPlan (block_tree s.bouquet.block) (plan_tree p)) s.plans
-  pub few : s.number + length s.contours ≤ 128
+  pub few : s.number + length s.contours ≤ max_contours

@@ -1,6 +1,6 @@
 -- Bouquets as plain data, and what holds of each.
 use Rattle.std.specs.Prelude.{ℕ, ◌^◌, ◌≤◌, All, List, length, map}
-use Rattle.sql_values.specs.Limits.{max_points, max_threshold}
+use Rattle.sql_values.specs.Limits.{max_points, max_threshold, max_contours, max_contour_cost}
 use Rattle.query_block.specs.Blocks.{BlockTree}
 use Rattle.plan_tree.specs.Plans.{PlanTree, plan_tree}
 use Rattle.plan_tree.specs.Enumerated.{IsPlan}
@@ -31,7 +31,7 @@ bouquet_tree bouquet = record {
 
 -- a contour of a block: some plans of the block, no more than a grid has points
 pub record IsContour (block : BlockTree) (contour : Contour) : Type 0 where
-  pub cost : contour.cost ≤ 2 ^ 114
+  pub cost : contour.cost ≤ max_contour_cost
   pub some : 1 ≤ length contour.plans.items
   pub few : length contour.plans.items ≤ max_points
   pub plans : All (λ p. IsPlan block (plan_tree p)) contour.plans.items
@@ -41,5 +41,5 @@ pub record IsBouquet (bouquet : BouquetShape) : Type 0 where
   pub costing : IsCosting (bouquet_tree bouquet).costing
   pub threshold : bouquet.threshold ≤ max_threshold
   pub some : 1 ≤ length bouquet.contours
-  pub few : length bouquet.contours ≤ 128
+  pub few : length bouquet.contours ≤ max_contours
   pub contours : All (IsContour (bouquet_tree bouquet).costing.block) bouquet.contours

@@ -1,6 +1,6 @@
 // A bouquet. Its parts never change.
 ghost use Rattle.std.specs.Prelude.{◌≡◌, ◌-◌, ◌^◌, ◌<◌, ◌≤◌, length, map, slice_index};
-ghost use Rattle.sql_values.specs.Limits.{max_points, max_threshold};
+ghost use Rattle.sql_values.specs.Limits.{max_points, max_threshold, max_contour_cost};
 ghost use Rattle.query_block.specs.Blocks.{block_tree};
 ghost use Rattle.plan_tree.specs.Plans.{plan_tree};
 ghost use Rattle.plan_tree.specs.Enumerated.{IsPlan};
@@ -18,7 +18,7 @@ use std::marker::Model;
 // The budget on a contour of this cost, by a threshold in percent.
 pub(crate) fn budget_on(threshold: u32, cost: u128) -> u128
     requires threshold { threshold ≤ max_threshold }
-    requires cost { cost ≤ 2 ^ 114 }
+    requires cost { cost ≤ max_contour_cost }
     ensures budget { result ≡ budget_of threshold cost }
     ensures bound { result < 2 ^ 118 }
 {

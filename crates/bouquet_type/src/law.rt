@@ -1,5 +1,6 @@
 // The laws of compiled bouquets and of runs. Each has no body: its clauses speak of the definitions alone.
 ghost use Rattle.std.specs.Prelude.{◌≡◌, ℕ, ◌+◌, ◌*◌, ◌<◌, ◌≤◌, ◌⊎◌, ◌++◌, ◌∷◌, List, All, length, sum_by};
+ghost use Rattle.sql_values.specs.Limits.{max_contours};
 ghost use Rattle.plan_tree.specs.Plans.{PlanTree};
 ghost use Rattle.plan_tree.specs.Enumerated.{IsPlan};
 ghost use Rattle.bouquet_type.specs.Trees.{BouquetTree};
@@ -11,7 +12,7 @@ ghost use Rattle.bouquet_type.specs.Runs.{end_of, total_work};
 /// The law of compiled bouquets: what plans cost and the threshold determine a whole compiled bouquet of at most 128 contours,
 /// and no `Bouquet` has more.
 pub fn there_is_one_compiled_bouquet()
-    ensures { (bouquet : BouquetTree) → IsCompiled bouquet → length bouquet.contours ≤ 128 →
+    ensures { (bouquet : BouquetTree) → IsCompiled bouquet → length bouquet.contours ≤ max_contours →
         bouquet ≡ compiled bouquet.costing bouquet.threshold }
 {}
 

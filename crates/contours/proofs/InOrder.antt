@@ -13,11 +13,12 @@ use Rattle.cost_model.specs.Optimal.{optimal_cost}
 use Rattle.cost_model.specs.Frontier.{frontier}
 use Rattle.cost_model.specs.Greedy.{greedy}
 use Rattle.bouquet_type.specs.declared.contour.Contour.{Contour}
-use Rattle.bouquet_type.specs.Trees.{ContourTree, contour_tree}
+use Rattle.bouquet_type.specs.Trees.{ContourTree, IsContour, contour_tree}
 use Rattle.bouquet_type.specs.Budgets.{contour_cost}
 use Rattle.bouquet_type.specs.Compiled.{IsCompiled}
-use Rattle.contours.specs.Contours.{IsReduced, bouquet_of}
+use Rattle.contours.specs.Contours.{IsReduced, AreContours, bouquet_of}
 use Rattle.contours.proofs.Extremes.{optimal-some, optimal-below}
+use Rattle.contours.proofs.Soundness.{compiled-sound}
 
 -- contours with the defined costs, from the first on
 pub record AreFirst (costing : CostingTree) (threshold : ℕ) (contours : List Contour) : Type 0 where
@@ -73,13 +74,9 @@ are-compiled costing threshold contours first some below last =
     }
 
 -- with the last contour
-pub record IsWhole (costing : CostingTree) (threshold : ℕ) (contours : List Contour) : Type 0 where
-  pub compiled : IsCompiled (bouquet_of costing threshold contours)
-  pub few : length contours ≤ 128
-
 pub last-more : (costing : CostingTree) (threshold top : ℕ) (before contours : List Contour) (contour : Contour) → IsCosting costing → AreFirst costing threshold before
     → contours ≡ before ++ contour ∷ [] → IsReduced costing threshold contour → contour.cost ≡ contour_cost costing (length before + 1)
-    → AreBelow costing (length before + 1) top → top ≡ optimal_cost costing (top_of costing.grid) → top ≤ contour.cost → IsWhole costing threshold contours
+    → AreBelow costing (length before + 1) top → top ≡ optimal_cost costing (top_of costing.grid) → top ≤ contour.cost → AreContours costing threshold contours
 last-more costing threshold top before contours contour is first more reduced cost below same reached =
     let long : length contours ≡ length before + 1 = ap length more ∙ length_push before contour in
     let all = subst (AreFirst costing threshold) (sym more) (first-more costing threshold before contour first reduced cost) in
@@ -87,7 +84,10 @@ last-more costing threshold top before contours contour is first more reduced co
     λ number fewer some. subst (λ n. contour_cost costing number < n) same (below number (omega (arith, fewer, long)) some) in
     let last : optimal_cost costing (top_of costing.grid) ≤ contour_cost costing (length contours) =
     subst (λ n. optimal_cost costing (top_of costing.grid) ≤ contour_cost costing n) (sym long) (omega (arith, same, reached, cost)) in
+    let compiled = are-compiled costing threshold contours all (omega (arith, long)) below' last in
     record {
-      compiled = are-compiled costing threshold contours all (omega (arith, long)) below' last;
+      compiled = compiled;
+      sound = compiled-sound (bouquet_of costing threshold contours) is compiled;
       few = few-contours costing (length contours) is below';
+      each = All-weaker (IsReduced costing threshold) (IsContour costing.block) (λ contour reduced. reduced.shape) contours all.reduced;
     }

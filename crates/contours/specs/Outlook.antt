@@ -2,9 +2,8 @@
 use Rattle.std.specs.Prelude.{◌≡◌, ℕ, ◌-◌, ◌^◌, min, List, [], ◌∷◌, map}
 use Rattle.ess_grid.specs.Points.{points_of}
 use Rattle.ess_grid.specs.Order.{successors}
-use Rattle.cost_model.specs.Costing.{CostingTree, costing_tree}
+use Rattle.cost_model.specs.Costing.{CostingShape, CostingTree, IsCosting, costing_tree}
 use Rattle.cost_model.specs.Optimal.{optimal_cost}
-use Rattle.contours.specs.declared.outlook.Outlook.{Outlook}
 
 -- more than any cost
 abbrev pub past_all_costs : ℕ
@@ -19,8 +18,16 @@ least_with least (n ∷ more) = least_with (min least n) more
 abbrev pub cost_beyond : CostingTree → (point : List ℕ) → ℕ
 cost_beyond costing point = least_with past_all_costs (map (optimal_cost costing) (successors costing.grid point))
 
--- the best plans, and both costs for all points in the grid's order
-pub record IsOutlook (costing : CostingTree) (outlook : Outlook) : Type 0 where
-  pub best : costing_tree outlook.best ≡ costing
-  pub costs : outlook.costs.items ≡ map (optimal_cost costing) (points_of costing.grid)
-  pub beyond : outlook.beyond.items ≡ map (cost_beyond costing) (points_of costing.grid)
+-- both costs for all points in the grid's order
+abbrev pub optimal_costs : CostingTree → List ℕ
+optimal_costs costing = map (optimal_cost costing) (points_of costing.grid)
+
+abbrev pub costs_beyond : CostingTree → List ℕ
+costs_beyond costing = map (cost_beyond costing) (points_of costing.grid)
+
+-- the best plans of a costing, and both costs
+pub record IsOutlook (shape best : CostingShape) (numbers above : List ℕ) : Type 0 where
+  pub costing : IsCosting (costing_tree shape)
+  pub same : best ≡ shape
+  pub costs : numbers ≡ optimal_costs (costing_tree shape)
+  pub beyond : above ≡ costs_beyond (costing_tree shape)

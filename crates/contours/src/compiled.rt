@@ -2,11 +2,8 @@
 ghost use Rattle.std.specs.Prelude.{◌≡◌, ◌≤◌, IfOk, length};
 ghost use Rattle.sql_values.specs.Limits.{max_threshold};
 ghost use Rattle.query_block.specs.Blocks.{axes_of, block_tree};
-ghost use Rattle.cost_model.specs.Costing.{costing_tree};
 ghost use Rattle.cost_model.specs.Fits.{FitsBlock};
-ghost use Rattle.bouquet_type.specs.Trees.{bouquet_tree};
-ghost use Rattle.bouquet_type.specs.Compiled.{IsCompiled, compiled};
-ghost use Rattle.bouquet_type.specs.Sound.{IsSound};
+ghost use Rattle.contours.specs.Contours.{IsCompiledOver};
 
 use crate::contours::contours;
 use bouquet_type::Bouquet;
@@ -27,14 +24,8 @@ pub fn compile(
     requires stats { FitsBlock (block_tree block) stats }
     requires axes { grid.axes ≡ axes_of (block_tree block) }
     requires threshold { threshold ≤ max_threshold }
-    ensures block { IfOk result (λ bouquet. bouquet.block ≡ block) }
-    ensures stats { IfOk result (λ bouquet. bouquet.stats ≡ stats) }
-    ensures grid { IfOk result (λ bouquet. bouquet.grid ≡ grid) }
-    ensures threshold { IfOk result (λ bouquet. bouquet.threshold ≡ threshold) }
-    ensures compiled { IfOk result (λ bouquet. IsCompiled (bouquet_tree bouquet)) }
-    ensures whole { IfOk result (λ bouquet. bouquet_tree bouquet
-        ≡ compiled (costing_tree (record { block = block; stats = stats; grid = grid })) threshold) }
-    ensures sound { IfOk result (λ bouquet. IsSound (bouquet_tree bouquet)) }
+    ensures { IfOk result
+        (IsCompiledOver (record { block = block; stats = stats; grid = grid }) threshold) }
 {
     let contours = contours(alloc, &Costing::new(&block, &stats, &grid), threshold)?;
     Ok(Bouquet::new(block, stats, grid, threshold, contours))

@@ -1,14 +1,10 @@
 // The contours of a compiled bouquet.
-ghost use Rattle.std.specs.Prelude.{◌≡◌, ◌≤◌, ◌^◌, All, IfOk, length};
-ghost use Rattle.sql_values.specs.Limits.{max_threshold};
+ghost use Rattle.std.specs.Prelude.{◌≡◌, ◌≤◌, IfOk};
+ghost use Rattle.sql_values.specs.Limits.{max_threshold, max_contour_cost};
 ghost use Rattle.ess_grid.specs.Points.{bottom_of};
 ghost use Rattle.cost_model.specs.Costing.{costing_tree};
 ghost use Rattle.cost_model.specs.Optimal.{optimal_cost};
-ghost use Rattle.bouquet_type.specs.Trees.{IsContour};
-ghost use Rattle.bouquet_type.specs.Compiled.{IsCompiled};
-ghost use Rattle.bouquet_type.specs.Sound.{IsSound};
-ghost use Rattle.contours.specs.Outlook.{IsOutlook};
-ghost use Rattle.contours.specs.Contours.{IsReduced, bouquet_of};
+ghost use Rattle.contours.specs.Contours.{AreContours, IsReduced};
 
 use crate::frontier::frontier;
 use crate::outlook::Outlook;
@@ -20,49 +16,40 @@ use std::alloc::{AllocError, Global};
 // The contour of this cost.
 fn contour(
     alloc: Global,
-    costing: &Costing<'_>,
-    threshold: u32,
     outlook: &Outlook<'_>,
+    threshold: u32,
     cost: u128,
 ) -> Result<Contour, AllocError>
     requires threshold { threshold ≤ max_threshold }
-    requires outlook { IsOutlook (costing_tree costing.now) outlook.now }
-    requires some { optimal_cost (costing_tree costing.now) (bottom_of costing.now.grid) ≤ cost }
-    requires few { cost ≤ 2 ^ 114 }
+    requires some { optimal_cost (costing_tree outlook.now) (bottom_of outlook.now.grid) ≤ cost }
+    requires few { cost ≤ max_contour_cost }
     ensures cost { IfOk result (λ contour. contour.cost ≡ cost) }
-    ensures reduced { IfOk result (IsReduced (costing_tree costing.now) threshold) }
+    ensures reduced { IfOk result (IsReduced (costing_tree outlook.now) threshold) }
 {
-    let _block = costing.block();
-    let points = frontier(alloc, costing, outlook, cost)?;
-    let plans = reduce(alloc, costing, &points, threshold)?;
+    let points = frontier(alloc, outlook, cost)?;
+    let plans = reduce(alloc, outlook.costing(), &points, threshold)?;
     Ok(Contour { cost, plans })
 }
 
 // The contours by an outlook.
 fn contours_by(
     alloc: Global,
-    costing: &Costing<'_>,
-    threshold: u32,
     outlook: &Outlook<'_>,
+    threshold: u32,
 ) -> Result<Vec<Contour>, AllocError>
-    requires threshold { threshold ≤ max_threshold }
-    requires outlook { IsOutlook (costing_tree costing.now) outlook.now }
-    ensures compiled { IfOk result (λ contours.
-        IsCompiled (bouquet_of (costing_tree costing.now) threshold contours.items)) }
-    ensures few { IfOk result (λ contours. length contours.items ≤ 128) }
-    ensures each { IfOk result (λ contours.
-        All (IsContour (costing_tree costing.now).block) contours.items) }
+    requires { threshold ≤ max_threshold }
+    ensures { IfOk result (λ contours.
+        AreContours (costing_tree outlook.now) threshold contours.items) }
 {
-    let _block = costing.block();
-    let top = outlook.top_cost(costing);
-    let bottom = outlook.bottom_cost(costing);
+    let top = outlook.top_cost();
+    let bottom = outlook.bottom_cost();
     let mut cost = bottom;
     let mut contours = Vec::new(alloc);
     while cost < top {
-        contours.push(contour(alloc, costing, threshold, outlook, cost)?)?;
+        contours.push(contour(alloc, outlook, threshold, cost)?)?;
         cost *= 2;
     }
-    let last = contour(alloc, costing, threshold, outlook, cost)?;
+    let last = contour(alloc, outlook, threshold, cost)?;
     contours.push(last)?;
     Ok(contours)
 }
@@ -73,17 +60,11 @@ pub(crate) fn contours(
     costing: &Costing<'_>,
     threshold: u32,
 ) -> Result<Vec<Contour>, AllocError>
-    requires threshold { threshold ≤ max_threshold }
-    ensures compiled { IfOk result (λ contours.
-        IsCompiled (bouquet_of (costing_tree costing.now) threshold contours.items)) }
-    ensures sound { IfOk result (λ contours.
-        IsSound (bouquet_of (costing_tree costing.now) threshold contours.items)) }
-    ensures few { IfOk result (λ contours. length contours.items ≤ 128) }
-    ensures each { IfOk result (λ contours.
-        All (IsContour (costing_tree costing.now).block) contours.items) }
+    requires { threshold ≤ max_threshold }
+    ensures { IfOk result (λ contours.
+        AreContours (costing_tree costing.now) threshold contours.items) }
 {
-    let _block = costing.block();
     let outlook = Outlook::new(alloc, costing)?;
-    let contours = contours_by(alloc, costing, threshold, &outlook)?;
+    let contours = contours_by(alloc, &outlook, threshold)?;
     Ok(contours)
 }

@@ -1,26 +1,46 @@
 // What is worked out once for all contours.
-ghost use Rattle.std.specs.Prelude.{◌≡◌, ◌+◌, ◌<◌, ◌≤◌, ◌^◌, [], IfOk, length, map, nat_lt, slice_index, slice_index_or, if◌then◌else◌};
-ghost use Rattle.ess_grid.specs.Points.{IsPoint, points_of, bottom_of, top_of};
+ghost use Rattle.std.specs.Prelude.{◌≡◌, ◌+◌, ◌<◌, ◌≤◌, [], IfOk, Some, length, nat_lt, slice_index, slice_index_or, if◌then◌else◌};
+ghost use Rattle.sql_values.specs.Limits.{max_contour_cost};
+ghost use Rattle.ess_grid.specs.Points.{IsPoint, points_of, point_at, bottom_of, top_of};
 ghost use Rattle.ess_grid.specs.Order.{next_point};
-ghost use Rattle.cost_model.specs.Costing.{costing_tree};
+ghost use Rattle.cost_model.specs.Costing.{costing_tree, IsCosting};
 ghost use Rattle.cost_model.specs.Optimal.{optimal_cost};
 ghost use Rattle.cost_model.specs.Frontier.{is_on_frontier};
-ghost use Rattle.contours.specs.Outlook.{past_all_costs, cost_beyond, IsOutlook};
+ghost use Rattle.anorexic.specs.Frontiers.{IsFrontierPoint};
+ghost use Rattle.contours.specs.Outlook.{past_all_costs, cost_beyond, optimal_costs, costs_beyond};
 
+use anorexic::FrontierPoint;
 use cost_model::Costing;
 use ess_grid::Point;
 use plan_space::{BestPlans, best_at_all_points};
 use std::alloc::{AllocError, Global};
+use std::marker::Model;
 
-/// The best plans of a block, and the costs that decide which points are on which frontier, all by the places of points.
+/// The best plans of a costing's block, and the costs that decide which points are on which frontier, all by the places of
+/// points.
 #[derive(Drop)]
 pub(crate) struct Outlook<'c> {
-    /// The best plans.
-    pub(crate) best: BestPlans<'c>,
-    /// The optimal cost at each point.
-    pub(crate) costs: Vec<u128>,
-    /// The least optimal cost at the points that are next above each point. Where there is none, `u128::MAX`.
-    pub(crate) beyond: Vec<u128>,
+    costing: &'c Costing<'c>,
+    best: BestPlans<'c>,
+    // The optimal cost at each point.
+    costs: Vec<u128>,
+    // The least optimal cost at the points that are next above each point. Where there is none, `u128::MAX`.
+    beyond: Vec<u128>,
+}
+
+impl<'c> Model for Outlook<'c> {
+    ghost use Rattle.query_block.specs.contracts.condition.Condition as condition;
+    ghost use Rattle.std.specs.Coded.{codes};
+    ghost use Rattle.cost_model.specs.Costing.{CostingShape};
+    ghost use Rattle.contours.specs.Outlook.{IsOutlook};
+
+    ghost Value = { CostingShape };
+
+    ghost coded = { Prim.hlevel (codes, condition.the_row.coded) };
+
+    ghost view = { λ o. o.costing.now };
+
+    ghost invariant = { λ o. IsOutlook o.costing.now o.best o.costs.items o.beyond.items };
 }
 
 // The optimal costs at all points.
@@ -30,8 +50,7 @@ fn optimal_costs(
     best: &BestPlans<'_>,
 ) -> Result<Vec<u128>, AllocError>
     requires { best.now ≡ costing.now }
-    ensures { IfOk result (λ costs. costs.items
-        ≡ map (optimal_cost (costing_tree costing.now)) (points_of costing.now.grid)) }
+    ensures { IfOk result (λ costs. costs.items ≡ optimal_costs (costing_tree costing.now)) }
 {
     let points = costing.grid().points();
     let mut costs = Vec::with_capacity(alloc, points)?;
@@ -43,8 +62,7 @@ fn optimal_costs(
 
 // The optimal cost at the point that is one level higher on this axis. Where there is none, `u128::MAX`.
 fn cost_above(costing: &Costing<'_>, costs: &[u128], q: &Point, axis: usize) -> u128
-    requires costs { costs.now
-        ≡ map (optimal_cost (costing_tree costing.now)) (points_of costing.now.grid) }
+    requires costs { costs.now ≡ optimal_costs (costing_tree costing.now) }
     requires point { IsPoint costing.now.grid q.now }
     requires axis { axis < costing.now.grid.axes }
     ensures { result ≡ (if nat_lt (slice_index q.now axis + 1) costing.now.grid.levels
@@ -60,8 +78,7 @@ fn cost_above(costing: &Costing<'_>, costs: &[u128], q: &Point, axis: usize) -> 
 
 // The least optimal cost at the points that are next above one.
 fn least_above(costing: &Costing<'_>, costs: &[u128], q: &Point) -> u128
-    requires costs { costs.now
-        ≡ map (optimal_cost (costing_tree costing.now)) (points_of costing.now.grid) }
+    requires costs { costs.now ≡ optimal_costs (costing_tree costing.now) }
     requires point { IsPoint costing.now.grid q.now }
     ensures { result ≡ cost_beyond (costing_tree costing.now) q.now }
 {
@@ -78,10 +95,8 @@ fn costs_beyond(
     costing: &Costing<'_>,
     costs: &[u128],
 ) -> Result<Vec<u128>, AllocError>
-    requires { costs.now
-        ≡ map (optimal_cost (costing_tree costing.now)) (points_of costing.now.grid) }
-    ensures { IfOk result (λ beyond. beyond.items
-        ≡ map (cost_beyond (costing_tree costing.now)) (points_of costing.now.grid)) }
+    requires { costs.now ≡ optimal_costs (costing_tree costing.now) }
+    ensures { IfOk result (λ beyond. beyond.items ≡ costs_beyond (costing_tree costing.now)) }
 {
     let grid = costing.grid();
     let points = grid.points();
@@ -95,44 +110,74 @@ fn costs_beyond(
 impl<'c> Outlook<'c> {
     /// That of a costing.
     pub(crate) fn new(alloc: Global, costing: &'c Costing<'c>) -> Result<Outlook<'c>, AllocError>
-        ensures { IfOk result (IsOutlook (costing_tree costing.now)) }
+        ensures { IfOk result (λ outlook. outlook ≡ costing.now) }
     {
+        let _block = costing.block();
         let best = best_at_all_points(alloc, costing)?;
         let costs = optimal_costs(alloc, costing, &best)?;
         let beyond = costs_beyond(alloc, costing, &costs)?;
         Ok(Outlook {
+            costing,
             best,
             costs,
             beyond,
         })
     }
 
-    /// The optimal cost at the bottom of the grid.
-    pub(crate) fn bottom_cost(&self, costing: &Costing<'_>) -> u128
-        requires { IsOutlook (costing_tree costing.now) self.now }
-        ensures { result
-            ≡ optimal_cost (costing_tree costing.now) (bottom_of costing.now.grid) }
+    /// The costing.
+    pub(crate) fn costing(&self) -> &Costing<'c>
+        ensures same { result.now ≡ self.now }
+        ensures costing { IsCosting (costing_tree self.now) }
     {
-        prove!(costing.grid().points() > 0);
+        self.costing
+    }
+
+    /// How many points the grid has.
+    pub(crate) fn points(&self) -> usize
+        ensures { result ≡ length (points_of self.now.grid) }
+    {
+        self.costing.grid().points()
+    }
+
+    /// The optimal cost at the bottom of the grid.
+    pub(crate) fn bottom_cost(&self) -> u128
+        ensures cost { result ≡ optimal_cost (costing_tree self.now) (bottom_of self.now.grid) }
+        ensures costing { IsCosting (costing_tree self.now) }
+    {
+        prove!(self.costing.grid().points() > 0);
         self.costs[0]
     }
 
     /// The optimal cost at its top.
-    pub(crate) fn top_cost(&self, costing: &Costing<'_>) -> u128
-        requires { IsOutlook (costing_tree costing.now) self.now }
-        ensures { result ≡ optimal_cost (costing_tree costing.now) (top_of costing.now.grid) }
+    pub(crate) fn top_cost(&self) -> u128
+        ensures { result ≡ optimal_cost (costing_tree self.now) (top_of self.now.grid) }
     {
-        self.costs[costing.grid().points() - 1]
+        self.costs[self.costing.grid().points() - 1]
     }
 
     /// Whether the point at a place is on the frontier of a contour of this cost.
-    pub(crate) fn is_on_frontier(&self, costing: &Costing<'_>, cost: u128, place: usize) -> bool
-        requires outlook { IsOutlook (costing_tree costing.now) self.now }
-        requires cost { cost ≤ 2 ^ 114 }
-        requires place { place < length (points_of costing.now.grid) }
-        ensures { result ≡ is_on_frontier (costing_tree costing.now) cost
-            (slice_index_or (points_of costing.now.grid) place []) }
+    pub(crate) fn is_on_frontier(&self, cost: u128, place: usize) -> bool
+        requires cost { cost ≤ max_contour_cost }
+        requires place { place < length (points_of self.now.grid) }
+        ensures { result ≡ is_on_frontier (costing_tree self.now) cost
+            (slice_index_or (points_of self.now.grid) place []) }
     {
         self.costs[place] <= cost && cost < self.beyond[place]
+    }
+
+    /// The point at a place with its best plan.
+    pub(crate) fn frontier_point(
+        &self,
+        alloc: Global,
+        place: usize,
+    ) -> Result<FrontierPoint, AllocError>
+        requires { place < length (points_of self.now.grid) }
+        ensures point { IfOk result (λ at. point_at self.now.grid place ≡ Some at.point) }
+        ensures best { IfOk result (IsFrontierPoint (costing_tree self.now)) }
+    {
+        let point = self.costing.grid().point(place);
+        let plan = self.best.plan(alloc, place)?;
+        let cost = self.costs[place];
+        Ok(FrontierPoint { point, plan, cost })
     }
 }

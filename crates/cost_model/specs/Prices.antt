@@ -1,5 +1,5 @@
 -- What each node of a plan costs by itself at a point, by the cards of its sides' sets.
-use Rattle.std.specs.Prelude.{◌≡◌, ℕ, ◌+◌, ◌-◌, ◌*◌, ◌^◌, ◌<◌, List, length, slice_index}
+use Rattle.std.specs.Prelude.{◌≡◌, ℕ, ◌+◌, ◌-◌, ◌*◌, ◌^◌, ◌<◌, ◌≤◌, List, length, slice_index}
 use Rattle.plan_tree.specs.Plans.{PlanTree, Scan, IndexScan, Nest, Hash, Merge, IndexLoop, covers_of}
 use Rattle.plan_tree.specs.Enumerated.{edge_at, column_on}
 use Rattle.plan_tree.specs.Work.{bits, nest_work, hash_work, merge_work, index_loop_work}
@@ -9,6 +9,8 @@ use Rattle.cost_model.specs.Costing.{CostingTree, costing_tree}
 use Rattle.cost_model.specs.Cards.{card_of}
 use Rattle.plan_tree.specs.Sets.{set_of}
 use Rattle.cost_model.specs.Costs.{relation_stats, index_stats, scan_cost, index_scan_cost, candidate_card}
+use Rattle.plan_tree.specs.Roots.{IsSplit}
+use Rattle.sql_values.specs.Limits.{max_product}
 use Rattle.plan_tree.specs.declared.roots.Root.{Root}
 use Rattle.plan_tree.specs.declared.roots.Root.TheVariants as root
 use Rattle.cost_model.specs.Pricing.{Pricing}
@@ -60,9 +62,29 @@ own_at at = own_cost (costing_tree at.costing) at.point
 abbrev pub block_at : Pricing → BlockTree
 block_at at = block_tree at.costing.block
 
+-- what a node costs by itself, and that is far from the end of 128 bits
+pub record IsPrice (at : Pricing) (node : Root) (set price : ℕ) : Type 0 where
+  pub own : price ≡ own_at at node set
+  pub bound : price ≤ 2 ^ 108
+
 -- a set of the block's relations
 abbrev pub IsSetOf : BlockTree → (set : ℕ) → Type 0
 IsSetOf block set = set < 2 ^ length block.relations
+
+-- a set of the block's relations, and the left one of two sides of it
+pub record IsSplitOf (block : BlockTree) (left set : ℕ) : Type 0 where
+  pub split : IsSplit left set
+  pub of_block : IsSetOf block set
+
+-- how many pairs of rows the two sides of a set have
+abbrev pub side_pairs : Pricing → (left set : ℕ) → ℕ
+side_pairs at left set =
+    set_card (costing_tree at.costing) at.point left * set_card (costing_tree at.costing) at.point (set - left)
+
+-- of so many pairs of rows of the two sides of a set the columns of an edge are taken to be equal
+pub record IsCandidateCount (at : Pricing) (edge left set candidates : ℕ) : Type 0 where
+  pub pairs : candidates ≡ candidate_card (costing_tree at.costing) edge at.point (side_pairs at left set)
+  pub few : candidates ≤ max_product
 
 -- the cards of all sets
 abbrev pub AreCards : Pricing → (cards : List ℕ) → Type 0

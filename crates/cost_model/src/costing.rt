@@ -12,10 +12,9 @@ ghost use Rattle.cost_model.specs.Costs.{relation_stats, index_on, index_stats, 
 ghost use Rattle.cost_model.specs.Few.{AreFew, IsFewIndex};
 
 use crate::arithmetic::scaled;
-use crate::set::is_inside;
 use crate::stats::{IndexStats, RelationStats, Stats};
 use ess_grid::{Grid, Point};
-use plan_tree::is_in_set;
+use plan_tree::Subset;
 use query_block::{Block, axis_of_edge};
 use std::marker::Model;
 
@@ -80,17 +79,17 @@ impl<'c> Costing<'c> {
 }
 
 impl<'c> Costing<'c> {
-    /// How many rows a set of relations, bit r for relation r, is taken to give at a point of the grid: the product of
+    /// How many rows a set of relations is taken to give at a point of the grid: the product of
     /// their filtered counts, scaled by the selectivity of each edge between them, each time rounded up. It takes no
     /// memory.
-    pub fn card(&self, set: u8, q: &Point) -> u128
+    pub fn card(&self, set: Subset, q: &Point) -> u128
         requires point { IsPoint self.now.grid q.now }
         ensures card { result ≡ card_of (costing_tree self.now) (set_of set) q.now }
         ensures few { result ≤ max_product }
     {
         let mut card = self.kept_product(set);
         for (number, edge) in self.block.edges().iter().enumerate() {
-            if is_inside(set, edge) {
+            if set.has_both(edge) {
                 card = scaled(card, self.selectivity(number as u8, q));
             }
         }
@@ -98,13 +97,13 @@ impl<'c> Costing<'c> {
     }
 
     // The product of the filtered counts of a set's relations.
-    fn kept_product(&self, set: u8) -> u128
+    fn kept_product(&self, set: Subset) -> u128
         ensures product { result ≡ kept_product (set_of set) 0 self.now.stats.relations }
         ensures few { result ≤ max_product }
     {
         let mut product = 1u128;
         for (number, stats) in self.stats.relations.as_slice().iter().enumerate() {
-            if is_in_set(set, number as u8) {
+            if set.has(number as u8) {
                 product *= u128::from(stats.kept);
             }
         }

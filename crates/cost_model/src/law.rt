@@ -1,7 +1,7 @@
 // The laws of cards and costs. Each has no body: its clauses speak of the definitions alone.
 ghost use Rattle.std.specs.Prelude.{ℕ, ◌≡◌, ◌↔◌, ◌*◌, ◌^◌, ◌<◌, ◌≤◌, ◌&&◌, Contains, IsFalse, List, length};
 ghost use Rattle.std.specs.Int.{div_ceil};
-ghost use Rattle.sql_values.specs.Limits.{max_product};
+ghost use Rattle.sql_values.specs.Limits.{max_product, cost_bound};
 ghost use Rattle.ess_grid.specs.Points.{IsGrid, IsPoint};
 ghost use Rattle.ess_grid.specs.Order.{PointBelow};
 ghost use Rattle.query_block.specs.Meaning.{RelationSet};
@@ -51,7 +51,7 @@ pub fn costs_are_bounded()
         IsCosting costing → ((relation : ℕ) → IsFalse (set relation && other relation)) →
         card_of costing set point * card_of costing other point ≤ max_product }
     ensures cost { (costing : CostingTree) (p : PlanTree) (point : List ℕ) →
-        IsCosting costing → IsSubPlan costing.block p → cost_of costing p point < 2 ^ 113 }
+        IsCosting costing → IsSubPlan costing.block p → cost_of costing p point < cost_bound }
 {}
 
 /// The law of prices: the cost of a plan is the sum of what its nodes cost by themselves.

@@ -25,6 +25,6 @@ pub use law::{
     one_plan_is_best, optimal_costs_are_least,
 };
 pub use prices::{PriceRoom, Prices};
-pub use set::{is_inside, set_count};
+pub use set::set_count;
 pub use stale::{CountName, Stale, check_count};
 pub use stats::{IndexStats, RelationStats, Stats};

@@ -1,6 +1,7 @@
 // What a plan costs: the sum of what its nodes cost by themselves. Each function calls itself for the sides of a join, so the
 // stack that it takes is bounded by how deep the plan is.
 ghost use Rattle.std.specs.Prelude.{◌≡◌, ◌^◌, ◌<◌, ◌≤◌};
+ghost use Rattle.sql_values.specs.Limits.{cost_bound};
 ghost use Rattle.ess_grid.specs.Points.{IsPoint};
 ghost use Rattle.query_block.specs.Blocks.{block_tree};
 ghost use Rattle.plan_tree.specs.Plans.{plan_tree, covers_of, FitsSet};
@@ -23,10 +24,12 @@ fn root_of(p: &Plan) -> Root
     match p {
         Plan::Scan(relation) => Root::Scan(*relation),
         Plan::IndexScan(relation, column) => Root::IndexScan(*relation, *column),
-        Plan::Nest(left, _) => Root::Nest(covers(left)),
-        Plan::Hash(edge, left, _) => Root::Hash(*edge, covers(left)),
-        Plan::Merge(edge, left, _) => Root::Merge(*edge, covers(left)),
-        Plan::IndexLoop(edge, left, relation) => Root::IndexLoop(*edge, covers(left), *relation),
+        Plan::Nest(left, _) => Root::Nest(covers(left).number()),
+        Plan::Hash(edge, left, _) => Root::Hash(*edge, covers(left).number()),
+        Plan::Merge(edge, left, _) => Root::Merge(*edge, covers(left).number()),
+        Plan::IndexLoop(edge, left, relation) => {
+            Root::IndexLoop(*edge, covers(left).number(), *relation)
+        }
     }
 }
 
@@ -47,7 +50,7 @@ fn sum(prices: &Prices<'_>, p: &Plan) -> u128
     requires costing { IsCosting (costing_tree prices.now.costing) }
     requires plan { IsSubPlan (block_at prices.now) (plan_tree p.now) }
     ensures sum { result ≡ sum_of (own_at prices.now) (plan_tree p.now) }
-    ensures bound { result < 2 ^ 113 }
+    ensures bound { result < cost_bound }
 {
     let own = root_cost(prices, p);
     match p {
@@ -66,7 +69,7 @@ impl Costing<'_> {
         requires plan { IsSubPlan (block_tree self.now.block) (plan_tree p.now) }
         requires point { IsPoint self.now.grid q.now }
         ensures cost { result ≡ cost_of (costing_tree self.now) (plan_tree p.now) q.now }
-        ensures bound { result < 2 ^ 113 }
+        ensures bound { result < cost_bound }
     {
         let _block = self.block();
         sum(&Prices::new(self, q, &mut PriceRoom::new()), p)

@@ -8,7 +8,7 @@ ghost use Rattle.query_block.specs.Blocks.{block_tree};
 ghost use Rattle.cost_model.specs.Costing.{costing_tree, IsCosting};
 ghost use Rattle.cost_model.specs.Costs.{relation_stats, index_stats, candidate_card};
 ghost use Rattle.cost_model.specs.Few.{AreFew, IsFewIndex};
-ghost use Rattle.cost_model.specs.Prices.{IsSetOf, block_at, set_card, AreCards};
+ghost use Rattle.cost_model.specs.Prices.{IsSetOf, block_at, set_card};
 
 use crate::arithmetic::times_bits;
 use crate::costing::Costing;
@@ -16,6 +16,7 @@ use crate::set::set_count;
 use crate::set_cards::fill_cards;
 use crate::stats::{IndexStats, RelationStats};
 use ess_grid::{Grid, Point};
+use plan_tree::Subset;
 use query_block::Block;
 use std::marker::Model;
 
@@ -74,17 +75,6 @@ fn fill_sorts(costing: &Costing<'_>, cards: &[u128; 64], sorts: &mut [u128; 64])
     }
 }
 
-// The card of a set is within the limit of combinations.
-fn card_at(costing: &Costing<'_>, cards: &[u128; 64], q: &Point, set: u8) -> u128
-    requires set { IsSetOf (block_tree costing.now.block) set }
-    requires cards { AreCards (record { costing = costing.now; point = q.now }) cards.now }
-    ensures card { result ≡ set_card (costing_tree costing.now) q.now set }
-    ensures few { result ≤ max_product }
-{
-    let _block = costing.block();
-    cards[set as usize]
-}
-
 impl<'a> Prices<'a> {
     /// The prices at this point of the costing's grid, kept in this room.
     pub fn new(costing: &'a Costing<'a>, q: &'a Point, room: &'a mut PriceRoom) -> Prices<'a>
@@ -121,16 +111,17 @@ impl<'a> Prices<'a> {
     }
 
     /// The card of a set.
-    pub(crate) fn card(&self, set: u8) -> u128
+    pub(crate) fn card(&self, set: Subset) -> u128
         requires { IsSetOf (block_at self.now) set }
         ensures card { result ≡ set_card (costing_tree self.now.costing) self.now.point set }
         ensures few { result ≤ max_product }
     {
-        card_at(self.costing, &self.room.cards, self.q, set)
+        let _block = self.block();
+        self.room.cards[set.number() as usize]
     }
 
     /// What sorting so many rows costs.
-    pub(crate) fn sort(&self, set: u8) -> u128
+    pub(crate) fn sort(&self, set: Subset) -> u128
         requires { IsSetOf (block_at self.now) set }
         ensures product { let card = set_card (costing_tree self.now.costing) self.now.point set in
             result ≡ card * bits card }
@@ -138,7 +129,7 @@ impl<'a> Prices<'a> {
     {
         let _block = self.block();
         let _card = self.card(set);
-        self.room.sorts[set as usize]
+        self.room.sorts[set.number() as usize]
     }
 
     /// How many of so many pairs of rows are taken to be equal in the columns of an edge.

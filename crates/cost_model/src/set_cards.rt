@@ -12,9 +12,9 @@ ghost use Rattle.cost_model.specs.SetCards.{AreProducts, AreScaled};
 
 use crate::arithmetic::scaled;
 use crate::costing::Costing;
-use crate::set::{is_inside, set_count};
+use crate::set::set_count;
 use ess_grid::Point;
-use plan_tree::set_of_one;
+use plan_tree::Subset;
 
 // The products of the sets whose highest relation this is.
 fn add_relation(costing: &Costing<'_>, products: &mut [u128; 64], relation: u8)
@@ -23,7 +23,7 @@ fn add_relation(costing: &Costing<'_>, products: &mut [u128; 64], relation: u8)
     ensures { AreProducts (costing_tree costing.now) products.new (2 ^ (relation + 1)) }
 {
     let _block = costing.block();
-    let alone = set_of_one(relation);
+    let alone = Subset::one(relation).number();
     let kept = u128::from(costing.relation(relation).kept);
     for rest in 0..alone {
         products[(alone + rest) as usize] = kept * products[rest as usize];
@@ -66,7 +66,7 @@ fn scale_by_edge(costing: &Costing<'_>, q: &Point, cards: &mut [u128; 64], edge:
     let ends = &block.edges()[edge];
     let selectivity = costing.selectivity(edge as u8, q);
     for set in 0..set_count(block) {
-        let inside = is_inside(set, ends);
+        let inside = Subset::new(set).has_both(ends);
         cards[set as usize] = scaled_inside(inside, cards[set as usize], selectivity);
     }
 }

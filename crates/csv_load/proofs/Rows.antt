@@ -5,8 +5,6 @@ use Rattle.std.proofs.lemmas.List.{drop_more, drop_all}
 use borrow.Author.Tests.{eq-eqb, ne_eqb}
 use Rattle.csv.specs.Records.{field_at}
 use Rattle.sql_values.specs.declared.column.ColumnDef.{ColumnDef}
-use Rattle.sql_values.specs.Stored.{ValueRow}
-use Rattle.db_catalog.specs.Batch.{BatchState, with_row_ended}
 use Rattle.csv_load.specs.declared.fault.LoadFault.{LoadFault}
 use Rattle.csv_load.specs.declared.fault.LoadFault.TheVariants.{FieldCount}
 use Rattle.csv_load.specs.Field.{field_fault, field_value}
@@ -55,12 +53,6 @@ entry_row-more i columns fields column field inside c e = rw (drop-field_at fiel
 pub entry_row-all : (i : ℕ) (columns : List ColumnDef) (fields : Entry) → length columns ≤ i → entry_row (drop i columns) fields ≡ []
 unfolding entry_row
 entry_row-all i columns fields last = rw (drop_all i columns last) refl
-
--- a batch whose open row became the last of its rows
-pub row_ended : (old now new : BatchState) (row : ValueRow) → new ≡ with_row_ended now → now.columns ≡ old.columns → now.rows ≡ old.rows → now.row ≡ row → old.row ≡ []
-    → new ≡ record old { rows = old.rows ++ row ∷ [] }
-row_ended old now new row ended columns rows same whole =
-    let made : with_row_ended now ≡ record old { rows = old.rows ++ row ∷ [] } = rw (columns, rows, same, whole) refl in ended ∙ made
 
 pub ruleset of_rows = (field_at-none, entry_fault-other, entry_fault-from, fields_fault_from-more, fields_fault_from-bad, fields_fault_from-all, entry_row-more, entry_row-all, append_assoc)
 

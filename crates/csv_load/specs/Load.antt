@@ -1,16 +1,17 @@
 -- The rows of a CSV file, or its first fault.
-use Rattle.std.specs.Prelude.{◌≡◌, ℕ, ◌==◌, List, [], ◌∷◌, map, length, Option, Some, None, Result, Ok, Err, slice_get, if◌then◌else◌}
+use Rattle.std.specs.Prelude.{◌≡◌, ◌≢◌, ℕ, ◌==◌, List, [], ◌∷◌, map, length, Option, Some, None, Result, Ok, Err, IfOk, IfErr, OnErr, IsOkAnd, slice_get, if◌then◌else◌}
 use Rattle.std.specs.Option.{option_or, option_and_then}
 use Rattle.std.specs.List.{zip, enumerate_from, filter_map}
 use Rattle.csv.specs.Reading.{records, strip_bom, default_config}
 use Rattle.sql_values.specs.declared.column.ColumnDef.{ColumnDef}
 use Rattle.sql_values.specs.Stored.{ValueRow}
+use Rattle.db_catalog.specs.Batch.{BatchState}
 use Rattle.db_catalog.specs.Database.{DatabaseState, table_at, with_rows}
 use Rattle.db_catalog.specs.Refused.{append_fault}
 use Rattle.db_catalog.specs.declared.fault.DbFault.{DbFault}
 use Rattle.db_catalog.specs.declared.fault.DbFault.TheVariants as db
 use Rattle.csv_load.specs.declared.fault.LoadFault.{LoadFault}
-use Rattle.csv_load.specs.declared.fault.LoadFault.TheVariants.{Header, FieldCount, Limit}
+use Rattle.csv_load.specs.declared.fault.LoadFault.TheVariants.{Header, FieldCount, Limit, NoMemory}
 use Rattle.csv_load.specs.Field.{field_fault, field_value}
 use Rattle.csv_load.specs.Header.{header_fault}
 
@@ -93,3 +94,18 @@ pub record Appends (table : ℕ) (old new : DatabaseState) (count : ℕ) (rows :
     : Type 0 where
   pub appended : new ≡ with_rows old table rows
   pub counted : count ≡ length rows
+
+-- what comes of a file: its rows are appended, or it is refused with the fault that is due and nothing changes; only memory
+-- may be wanting besides
+pub record Loads (table : ℕ) (bytes : List ℕ) (old new : DatabaseState) (result : Result ℕ LoadFault)
+    : Type 0 where
+  pub loaded : IfOk result (λ count. IsOkAnd (load_due old table bytes) (λ rows. Appends table old new count rows))
+  pub refused : IfErr result (λ fault. fault ≢ NoMemory → load_due old table bytes ≡ Err fault)
+  pub unchanged : OnErr result (new ≡ old)
+
+-- a batch for these columns, of just these rows, with none begun
+pub record IsBatchOf (of : List ColumnDef) (given : List ValueRow) (batch : BatchState)
+    : Type 0 where
+  pub columns : batch.columns ≡ of
+  pub rows : batch.rows ≡ given
+  pub row : batch.row ≡ []

@@ -1,11 +1,9 @@
 // A file into a table: its header, then entry after entry into a batch, which the table gets when all were good. Reading
 // ends at the first fault.
-ghost use Rattle.std.specs.Prelude.{◌≡◌, ◌≢◌, ◌+◌, ◌<◌, ◌≤◌, ◌^◌, [], ◌∷◌, ◌++◌, length, map, IfOk, OnOk, OnErr, IfErr, IsOkAnd, Err};
+ghost use Rattle.std.specs.Prelude.{◌+◌, ◌<◌, ◌≤◌, ◌^◌, [], ◌∷◌, ◌++◌, length, map, IfOk, OnOk};
 ghost use Rattle.csv.specs.Records.{fields_of};
-ghost use Rattle.sql_values.specs.Limits.{max_columns};
-ghost use Rattle.db_catalog.specs.Database.{table_at};
 ghost use Rattle.csv_load.specs.Entries.{records_left, GivesEntries};
-ghost use Rattle.csv_load.specs.Load.{entry_fault, entry_row, entries_fault, file_fault, file_rows, entries_of, load_due, Appends};
+ghost use Rattle.csv_load.specs.Load.{entry_fault, entry_row, entries_fault, file_fault, file_rows, entries_of, Loads, IsBatchOf};
 ghost use Rattle.csv_load.specs.Fault.{GivesFault};
 
 use crate::entries::{next_entry, reader_of};
@@ -27,12 +25,10 @@ fn put_entry(
     entry: &ByteRecord,
     n: u64,
 ) -> Result<(), LoadFault>
-    requires columns { batch.old.columns ≡ columns.now }
+    requires batch { IsBatchOf columns.now batch.old.rows batch.old }
     requires few { length columns.now < 2 ^ 31 }
-    requires whole { batch.old.row ≡ [] }
-    ensures row { OnOk result (batch.new ≡ record batch.old {
-      rows = batch.old.rows ++ entry_row columns.now (fields_of entry.now) ∷ [];
-    }) }
+    ensures row { OnOk result (IsBatchOf columns.now
+        (batch.old.rows ++ entry_row columns.now (fields_of entry.now) ∷ []) batch.new) }
     ensures fault { GivesFault (entry_fault columns.now n (fields_of entry.now)) result }
 {
     if entry.len() != columns.len() {
@@ -66,13 +62,10 @@ fn put_entries<R: Read>(
 ) -> Result<(), LoadFault>
     requires gives { GivesEntries R.remaining reader.old }
     requires short { length (records_left R.remaining reader.old) < 2 ^ 63 }
-    requires columns { batch.old.columns ≡ columns.now }
+    requires empty { IsBatchOf columns.now [] batch.old }
     requires few { length columns.now < 2 ^ 31 }
-    requires empty { batch.old.rows ≡ [] }
-    requires whole { batch.old.row ≡ [] }
-    ensures rows { OnOk result (batch.new ≡ record batch.old {
-      rows = map (entry_row columns.now) (records_left R.remaining reader.old);
-    }) }
+    ensures rows { OnOk result (IsBatchOf columns.now
+        (map (entry_row columns.now) (records_left R.remaining reader.old)) batch.new) }
     ensures fault { GivesFault (entries_fault columns.now
         (records_left R.remaining reader.old)) result }
 {
@@ -89,10 +82,8 @@ fn put_entries<R: Read>(
 fn batch_of(alloc: Global, columns: &[ColumnDef], bytes: &[u8]) -> Result<Batch, LoadFault>
     requires some { 1 ≤ length columns.now }
     requires few { length columns.now < 2 ^ 31 }
-    ensures columns { IfOk result (λ batch. batch.columns ≡ columns.now) }
-    ensures whole { IfOk result (λ batch. batch.row ≡ []) }
-    ensures rows { IfOk result (λ batch.
-        batch.rows ≡ file_rows columns.now (entries_of bytes.now)) }
+    ensures rows { IfOk result
+        (IsBatchOf columns.now (file_rows columns.now (entries_of bytes.now))) }
     ensures fault { GivesFault (file_fault columns.now (entries_of bytes.now)) result }
 {
     let mut reader = reader_of(alloc, bytes);
@@ -115,12 +106,8 @@ fn batch_of(alloc: Global, columns: &[ColumnDef], bytes: &[u8]) -> Result<Batch,
 /// when all entries are good.
 #[tactic(auto, unfolding(crate::specs::Load::load_of, crate::specs::Load::load_due))]
 pub fn load(alloc: Global, db: &mut Database, table: u32, bytes: &[u8]) -> Result<u64, LoadFault>
-    requires there { table < length db.old.tables }
-    ensures loaded { IfOk result (λ count. IsOkAnd (load_due db.old table bytes.now)
-        (λ rows. Appends table db.old db.new count rows)) }
-    ensures refused { IfErr result (λ fault.
-        fault ≢ LoadFault.NoMemory → load_due db.old table bytes.now ≡ Err fault) }
-    ensures unchanged { OnErr result (db.new ≡ db.old) }
+    requires { table < length db.old.tables }
+    ensures { Loads table bytes.now db.old db.new result }
 {
     let batch = batch_of(alloc, db.columns(table), bytes)?;
     let rows = batch.rows();

@@ -1,5 +1,5 @@
 -- How tables and batches are kept: as words, of which each means something.
-use Rattle.std.specs.Prelude.{◌≡◌, ℕ, ◌*◌, ◌<◌, ◌≤◌, ℤ, List, [], ◌∷◌, ◌++◌, All, length, map, nat_eq, take, sum_by, slice_index_or, slice_set}
+use Rattle.std.specs.Prelude.{◌≡◌, ℕ, ◌*◌, ◌^◌, ◌<◌, ◌≤◌, ℤ, List, [], ◌∷◌, ◌++◌, All, length, map, nat_eq, take, sum_by, slice_get, slice_index_or, slice_set, Some}
 use Rattle.std.specs.List.{IsDistinct}
 use Rattle.std.specs.Str.{bytes_eq}
 use Rattle.sql_values.specs.declared.column.ColumnDef.{ColumnDef}
@@ -7,6 +7,7 @@ use Rattle.sql_values.specs.Limits.{max_tables, max_columns}
 use Rattle.sql_values.specs.Dictionary.{with_texts}
 use Rattle.sql_values.specs.Stored.{StoredTable, IsRowOf, AreWords, row_of, texts_in}
 use Rattle.heap_pages.specs.Rows.{HeapState, cut_rows}
+use Rattle.db_catalog.specs.Database.{DatabaseState, table_at, IsRowAt}
 use Rattle.db_catalog.specs.Indexes.{IndexesState, kept_index}
 use Rattle.db_catalog.specs.declared.table.Table.{Table}
 
@@ -49,8 +50,9 @@ pub record IsWide (table : Table) : Type 0 where
   pub width : table.heap.columns ≡ length table.columns.items
   pub wide : All (λ words. length words ≡ table.heap.columns) table.heap.rows
 
--- so many words make so many rows of a table with indexes
+-- so many words make so many rows, whose number can be added to, of a table with indexes
 pub record HasWords (words rows : ℕ) (table : Table) : Type 0 where
+  pub few : rows ≤ 2 ^ 62
   pub is_wide : IsWide table
   pub filled : words ≡ rows * table.heap.columns
   pub indexes : AreIndexes table
@@ -108,6 +110,12 @@ pub record AreKept (names texts : List (List ℕ)) (tables : List Table) : Type 
   pub few_tables : length tables ≤ max_tables
   pub each_kept : All (IsKept texts) tables
   pub distinct_texts : IsDistinct bytes_eq texts
+
+-- the heap of a table: as wide as the table, and each of its rows stands for the table's row of that number
+pub record IsHeapOf (database : DatabaseState) (number : ℕ) (heap : HeapState) : Type 0 where
+  pub width : heap.columns ≡ length (table_at database number).columns
+  pub count : length heap.rows ≡ length (table_at database number).rows
+  pub rows : (i : ℕ) → (words : List ℤ) → slice_get heap.rows i ≡ Some words → IsRowAt database number i words
 
 -- the parts of a batch: whole rows, the open one, for which there is room, and the texts of both
 pub record IsBatch (columns : List ColumnDef) (texts : List (List ℕ)) (rows : ℕ) (words row : List ℤ) (room : ℕ) : Type 0 where

@@ -1,9 +1,10 @@
 // Rows on their way into a table: words in one flat vector, and the texts that they name in a dictionary of their own.
 // It relies on that dictionary, and never looks at a database.
-ghost use Rattle.std.specs.Prelude.{◌≡◌, ◌+◌, ◌*◌, ◌<◌, ◌≤◌, [], ◌∷◌, ◌++◌, length, OnOk, OnErr, IfOk};
+ghost use Rattle.std.specs.Prelude.{◌≡◌, ◌+◌, ◌*◌, ◌<◌, ◌≤◌, [], ◌∷◌, ◌++◌, length, OnOk, IfOk};
 ghost use Rattle.std.specs.Prelude.{vec_capacity};
 ghost use Rattle.sql_values.specs.declared.value.Value.TheVariants as value;
 ghost use Rattle.sql_values.specs.Stored.{IsRowOf};
+ghost use Rattle.heap_pages.specs.Changes.{Becomes};
 ghost use Rattle.db_catalog.specs.Database.{FillRows, rows_in};
 ghost use Rattle.db_catalog.specs.Batch.{FitsNext, with_value, with_row_ended};
 ghost use Rattle.db_catalog.specs.Batch.{with_whole_row};
@@ -100,8 +101,7 @@ impl Batch {
     /// A text, in the next column. A refusal changes nothing.
     pub fn put_text(&mut self, text: &[u8]) -> Result<(), AllocError>
         requires { FitsNext self.old (value.Text text.now) }
-        ensures put { OnOk result (self.new ≡ with_value self.old (value.Text text.now)) }
-        ensures unchanged { OnErr result (self.new ≡ self.old) }
+        ensures { Becomes (with_value self.old (value.Text text.now)) self.old self.new result }
     {
         let code = self.texts.add(text)?;
         push_within(&mut self.row, code);
@@ -111,8 +111,7 @@ impl Batch {
     /// Ends a row that has a value in each column. A refusal changes nothing.
     pub fn end_row(&mut self) -> Result<(), AllocError>
         requires { length self.old.row ≡ length self.old.columns }
-        ensures ended { OnOk result (self.new ≡ with_row_ended self.old) }
-        ensures unchanged { OnErr result (self.new ≡ self.old) }
+        ensures { Becomes (with_row_ended self.old) self.old self.new result }
     {
         self.words.extend_from_slice(&self.row)?;
         self.row.clear();

@@ -1,23 +1,19 @@
 // The database: tables under their names, the one dictionary of their texts, and the names of all indexes. It relies on
 // the heap for rows and on the batch for their words, and never drops or changes a row.
 ghost use Rattle.std.specs.Prelude.{◌≡◌, ◌+◌, ◌*◌, ◌<◌, ◌≤◌, ◌^◌, [], ◌∷◌, ◌++◌, length, map, All};
-ghost use Rattle.std.specs.Prelude.{OnOk, OnErr, IfOk, IfSome, nat_eq, vec_capacity, Contains};
-ghost use Rattle.std.specs.Prelude.{IsSomeAnd, slice_get, filter, drop};
+ghost use Rattle.std.specs.Prelude.{OnOk, OnErr, IfOk, nat_eq, vec_capacity, IsSomeAnd, slice_get};
 ghost use Rattle.std.specs.List.{IsDistinct};
 ghost use Rattle.std.specs.Str.{bytes_eq};
 ghost use Rattle.sql_values.specs.Limits.{max_tables, max_columns, max_rows};
-ghost use Rattle.btree_index.specs.Entries.{HaveWords, IsOn, entries_left, first_row, is_within, next_charge};
 ghost use Rattle.db_catalog.specs.Database.{with_table, with_rows, with_index, new_table, rows_in};
-ghost use Rattle.db_catalog.specs.Database.{table_at, table_number, FillRows, IsRowAt, StandAsWords};
-ghost use Rattle.db_catalog.specs.Meter.{table_pages, page_rows, HasSlot, IsRowIn};
-ghost use Rattle.work_ledger.specs.Account.{Pays};
-ghost use Rattle.work_ledger.specs.Charges.{page_charge, row_charge, fetch_charge, node_charge};
-ghost use Rattle.db_catalog.specs.Indexes.{index_at, index_height};
+ghost use Rattle.db_catalog.specs.Database.{table_at, table_number, FillRows};
+ghost use Rattle.db_catalog.specs.Meter.{table_pages, page_rows};
 ghost use Rattle.db_catalog.specs.Refused.{Refuses, creation_fault, append_fault, index_fault};
 ghost use Rattle.db_catalog.specs.Refused.{room_fault, texts_fault};
 ghost use Rattle.db_catalog.specs.Kept.{MeanRows, SameRows, AppendsWords, HasWords, kept_words};
-ghost use Rattle.db_catalog.specs.Kept.{HasColumn, IndexesColumn};
+ghost use Rattle.db_catalog.specs.Kept.{HasColumn, IndexesColumn, IsHeapOf};
 ghost use Rattle.heap_pages.specs.Rows.{cut_rows};
+ghost use Rattle.heap_pages.specs.Changes.{Becomes};
 ghost use Rattle.sql_values.specs.Dictionary.{with_texts};
 
 use crate::batch::Batch;
@@ -25,15 +21,13 @@ use crate::check::{check_columns, check_limit, check_unindexed, duplicate};
 use crate::fault::DbFault;
 use crate::recode::recode;
 use crate::table::Table;
-use btree_index::Cursor;
-use heap_pages::{HeapFault, PageView};
+use heap_pages::{Heap, HeapFault};
 use sql_values::{
     ColumnDef, LimitName, MAX_COLUMNS, MAX_ROWS, MAX_TABLES, MAX_TEXT_BYTES, MAX_TEXTS, MAX_WORDS,
     Texts, Value,
 };
 use std::alloc::{AllocError, Global};
 use std::marker::Model;
-use work_ledger::{Exhausted, Ledger};
 
 /// Tables and their rows. A table has a number, from 0, by the order in which tables were made.
 #[derive(Drop)]
@@ -129,7 +123,6 @@ fn append_words(
     rows: u64,
 ) -> Result<(), HeapFault>
     requires there { number < length tables.old }
-    requires few { rows ≤ 2 ^ 62 }
     requires filled { IsSomeAnd (slice_get tables.old number) (HasWords (length words.items) rows) }
     ensures appended { OnOk result (AppendsWords number rows words.items tables.old tables.new) }
     ensures unchanged { OnErr result (tables.new ≡ tables.old) }
@@ -219,9 +212,9 @@ impl Database {
 
     /// Makes an index, of a name, of a column of a table. The checks, in order: the name, among those of all indexes, then
     /// the column, which is indexed already; that refusal has the column's name.
+    #[tactic(auto, using(crate::proofs::Tables::of_reads))]
     pub fn create_index(&mut self, name: &[u8], table: u32, column: u8) -> Result<(), DbFault>
-        requires there { table < length self.old.tables }
-        requires column { column < length (table_at self.old table).columns }
+        requires { column < length (table_at self.old table).columns }
         ensures created { OnOk result (self.new ≡ with_index self.old name.now table column) }
         ensures unchanged { OnErr result (self.new ≡ self.old) }
         ensures refuses { Refuses (index_fault self.old name.now table column) result }
@@ -238,9 +231,9 @@ impl Database {
     }
 
     // The checks of `create_index`.
+    #[tactic(auto, using(crate::proofs::Tables::of_reads))]
     fn check_index(&self, name: &[u8], table: u32, column: u8) -> Result<(), DbFault>
-        requires there { table < length self.now.tables }
-        requires column { column < length (table_at self.now table).columns }
+        requires { column < length (table_at self.now table).columns }
         ensures { Refuses (index_fault self.now name.now table column) result }
     {
         if self.index_names.code_of(name).is_some() {
@@ -254,11 +247,10 @@ impl Database {
     pub fn append_rows(&mut self, table: u32, rows: &[Value]) -> Result<(), DbFault>
         requires there { table < length self.old.tables }
         requires fill { FillRows (table_at self.old table).columns rows.now }
-        ensures appended { OnOk result (self.new
-            ≡ with_rows self.old table (rows_in (table_at self.old table).columns rows.now)) }
-        ensures unchanged { OnErr result (self.new ≡ self.old) }
-        ensures refuses { Refuses (append_fault self.old table
-            (rows_in (table_at self.old table).columns rows.now)) result }
+        ensures appended { let more = rows_in (table_at self.old table).columns rows.now in
+            Becomes (with_rows self.old table more) self.old self.new result }
+        ensures refuses { let more = rows_in (table_at self.old table).columns rows.now in
+            Refuses (append_fault self.old table more) result }
     {
         let batch = Batch::filled(self.alloc, self.columns(table), rows)?;
         self.append_batch(table, batch)
@@ -270,8 +262,7 @@ impl Database {
         requires there { table < length self.old.tables }
         requires columns { batch.columns ≡ (table_at self.old table).columns }
         requires whole { batch.row ≡ [] }
-        ensures appended { OnOk result (self.new ≡ with_rows self.old table batch.rows) }
-        ensures unchanged { OnErr result (self.new ≡ self.old) }
+        ensures appended { Becomes (with_rows self.old table batch.rows) self.old self.new result }
         ensures refuses { Refuses (append_fault self.old table batch.rows) result }
     {
         self.check_room(table, batch.rows)?;
@@ -349,7 +340,7 @@ impl Database {
         ensures count { result ≡ length (table_at self.now table).rows }
         ensures few { result ≤ max_rows }
     {
-        self.tables[table as usize].heap.rows()
+        self.heap(table).rows()
     }
 
     /// The numbers of a table's columns that are indexed, from 0, each once, in the order in which their indexes were made.
@@ -365,98 +356,10 @@ impl Database {
 
     /// How many rows stand on page `no` of a table, from 0.
     pub fn rows_on_page(&self, table: u32, no: u64) -> usize
-        requires there { table < length self.now.tables }
-        requires page { no < table_pages self.now table }
+        requires { no < table_pages self.now table }
         ensures { result ≡ page_rows self.now table no }
     {
-        self.tables[table as usize].heap.rows_on_page(no)
-    }
-
-    // Opens page `no` of a table, from 0, which pays for it.
-    pub(crate) fn page(
-        &self,
-        table: u32,
-        no: u64,
-        ledger: &mut Ledger,
-    ) -> Result<PageView, Exhausted>
-        requires there { table < length self.now.tables }
-        requires page { no < table_pages self.now table }
-        ensures page { IfOk result (λ view. view.number ≡ no) }
-        ensures pays { Pays page_charge ledger.old ledger.new result }
-    {
-        self.tables[table as usize].heap.page(no, ledger)
-    }
-
-    // The words of the row in this slot, from 0, of an opened page, which pays for the row.
-    pub(crate) fn row_of(
-        &self,
-        table: u32,
-        view: &PageView,
-        slot: usize,
-        ledger: &mut Ledger,
-    ) -> Result<&[i64], Exhausted>
-        requires there { table < length self.now.tables }
-        requires slot { HasSlot self.now table view.now.number slot }
-        ensures row { IfOk result (λ words. IsRowIn self.now table view.now.number slot words.now) }
-        ensures pays { Pays row_charge ledger.old ledger.new result }
-    {
-        self.tables[table as usize].heap.row_of(view, slot, ledger)
-    }
-
-    // The words of row `i` of a table, from 0, which pays for the look-up.
-    pub(crate) fn fetch(&self, table: u32, i: u64, ledger: &mut Ledger) -> Result<&[i64], Exhausted>
-        requires there { table < length self.now.tables }
-        requires row { i < length (table_at self.now table).rows }
-        ensures row { IfOk result (λ words. IsRowAt self.now table i words.now) }
-        ensures pays { Pays fetch_charge ledger.old ledger.new result }
-    {
-        self.tables[table as usize].heap.fetch(i, ledger)
-    }
-
-    // Descends in the index of a column to the entries with words from `from` to `to`, which pays for each level.
-    pub(crate) fn seek(
-        &self,
-        table: u32,
-        column: u8,
-        from: i64,
-        to: i64,
-        ledger: &mut Ledger,
-    ) -> Result<Cursor, Exhausted>
-        requires there { table < length self.now.tables }
-        requires indexed { Contains (table_at self.now table).indexed column }
-        ensures range { IfOk result (λ cursor. entries_left (index_at self.now table column) cursor
-            ≡ filter (is_within from to) (index_at self.now table column)) }
-        ensures placed { IfOk result (λ cursor. IsOn (index_at self.now table column) cursor) }
-        ensures words { HaveWords (index_at self.now table column) }
-        ensures rows { StandAsWords self.now table }
-        ensures pays { Pays (node_charge * index_height self.now table column) ledger.old ledger.new result }
-    {
-        self.index(table, column).seek(from, to, ledger)
-    }
-
-    // The row of a cursor's next entry, which pays for it.
-    pub(crate) fn next(
-        &self,
-        table: u32,
-        column: u8,
-        cursor: &mut Cursor,
-        ledger: &mut Ledger,
-    ) -> Result<Option<u64>, Exhausted>
-        requires there { table < length self.now.tables }
-        requires indexed { Contains (table_at self.now table).indexed column }
-        requires placed { IsOn (index_at self.now table column) cursor.old }
-        ensures row { IfOk result (λ row.
-            row ≡ first_row (entries_left (index_at self.now table column) cursor.old)) }
-        ensures there { IfOk result (λ row.
-            IfSome row (λ i. i < length (table_at self.now table).rows)) }
-        ensures left { OnOk result (entries_left (index_at self.now table column) cursor.new
-            ≡ drop 1 (entries_left (index_at self.now table column) cursor.old)) }
-        ensures unchanged { OnErr result (cursor.new ≡ cursor.old) }
-        ensures placed { IsOn (index_at self.now table column) cursor.new }
-        ensures pays { Pays (next_charge (entries_left (index_at self.now table column) cursor.old))
-            ledger.old ledger.new result }
-    {
-        self.index(table, column).next(cursor, ledger)
+        self.heap(table).rows_on_page(no)
     }
 
     /// How many pages a table's rows take.
@@ -464,6 +367,14 @@ impl Database {
         requires { table < length self.now.tables }
         ensures { result ≡ table_pages self.now table }
     {
-        self.tables[table as usize].heap.pages()
+        self.heap(table).pages()
+    }
+
+    // The rows of a table.
+    pub(crate) fn heap(&self, table: u32) -> &Heap
+        requires { table < length self.now.tables }
+        ensures { IsHeapOf self.now table result.now }
+    {
+        &self.tables[table as usize].heap
     }
 }

@@ -1,8 +1,9 @@
 // The indexes of one table: the columns that are indexed, in the order in which that was asked, and beside each its
 // index. It relies on btree_index for order and search, and never drops an index.
-ghost use Rattle.std.specs.Prelude.{ℕ, ◌≡◌, ◌<◌, [], ◌∷◌, ◌++◌, length, Contains, OnOk, OnErr};
+ghost use Rattle.std.specs.Prelude.{ℕ, ◌≡◌, ◌<◌, [], ◌∷◌, ◌++◌, length, Contains};
 ghost use Rattle.std.specs.Prelude.{slice_index_or, vec_capacity};
 ghost use Rattle.std.specs.List.Sorted.{IsPermutation};
+ghost use Rattle.heap_pages.specs.Changes.{Becomes};
 ghost use Rattle.btree_index.specs.Entries.{IsInOrder};
 ghost use Rattle.db_catalog.specs.Database.{DatabaseState};
 ghost use Rattle.db_catalog.specs.Indexes.{no_indexes, column_entries, index_at};
@@ -77,11 +78,9 @@ impl Indexes {
 
     // An index more, behind the others. A refusal changes nothing.
     pub(crate) fn add(&mut self, column: u8, index: Index) -> Result<(), AllocError>
-        ensures added { OnOk result (self.new ≡ record {
-          columns = self.old.columns ++ column ∷ [];
-          entries = self.old.entries ++ index ∷ [];
-        }) }
-        ensures unchanged { OnErr result (self.new ≡ self.old) }
+        ensures { let columns = self.old.columns ++ column ∷ [] in
+            let entries = self.old.entries ++ index ∷ [] in
+            Becomes (record { columns = columns; entries = entries }) self.old self.new result }
     {
         self.columns.reserve(1)?;
         self.entries.push(index)?;

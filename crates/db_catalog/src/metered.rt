@@ -3,7 +3,7 @@
 ghost use Rattle.std.specs.Prelude.{◌≡◌, ◌+◌, ◌*◌, ◌<◌, ◌≤◌, ◌^◌, length, filter, drop, Contains};
 ghost use Rattle.std.specs.Prelude.{IfOk, IfSome, OnOk, OnErr};
 ghost use Rattle.btree_index.specs.Entries.{HaveWords, IsOn, entries_left, first_row, is_within, next_charge};
-ghost use Rattle.work_ledger.specs.Account.{IsInBounds};
+ghost use Rattle.work_ledger.specs.Account.{IsInBounds, max_account};
 ghost use Rattle.work_ledger.specs.Charges.{page_charge, row_charge, fetch_charge, node_charge};
 ghost use Rattle.sql_values.specs.Limits.{max_columns, max_rows};
 ghost use Rattle.db_catalog.specs.Database.{table_at, IsRowAt, StandAsWords};
@@ -32,6 +32,7 @@ impl<'d> Model for Metered<'d> {
     ghost view = { λ m. record { database = m.database.now; account = m.ledger } };
 }
 
+#[tactic(auto, using(crate::proofs::Tables::of_reads))]
 impl<'d> Metered<'d> {
     /// Nothing is spent, and nothing may be.
     pub fn new(database: &'d Database) -> Metered<'d>
@@ -62,7 +63,7 @@ impl<'d> Metered<'d> {
 
     /// Allows as much work more as the budget says, counted from what is spent. What was left before is gone.
     pub fn grant(&mut self, budget: u128)
-        requires { self.old.account.spent + budget ≤ 2 ^ 126 }
+        requires { self.old.account.spent + budget ≤ max_account }
         ensures spent { self.new.account.spent ≡ self.old.account.spent }
         ensures limit { self.new.account.limit ≡ self.old.account.spent + budget }
         ensures database { self.new.database ≡ self.old.database }
@@ -72,7 +73,7 @@ impl<'d> Metered<'d> {
 
     /// Pays `n` units. A payment that doesn't fit spends what is left and is refused.
     pub fn pay(&mut self, n: u128) -> Result<(), Exhausted>
-        requires { n ≤ 2 ^ 126 }
+        requires { n ≤ max_account }
         ensures reads { Reads n self.old self.new result }
         ensures never_falls { self.old.account.spent ≤ self.new.account.spent }
         ensures bounds { IsInBounds self.new.account }
@@ -109,8 +110,7 @@ impl<'d> Metered<'d> {
 
     /// How many rows stand on page `no` of a table, from 0.
     pub fn rows_on_page(&self, table: u32, no: u64) -> usize
-        requires there { table < length self.now.database.tables }
-        requires page { no < table_pages self.now.database table }
+        requires { no < table_pages self.now.database table }
         ensures { result ≡ page_rows self.now.database table no }
     {
         self.database.rows_on_page(table, no)
@@ -125,40 +125,37 @@ impl<'d> Metered<'d> {
 
     /// Opens page `no` of a table, from 0, which pays for it.
     pub fn scan_page(&mut self, table: u32, no: u64) -> Result<PageView, Exhausted>
-        requires there { table < length self.old.database.tables }
-        requires page { no < table_pages self.old.database table }
+        requires { no < table_pages self.old.database table }
         ensures page { IfOk result (λ view. view.number ≡ no) }
         ensures reads { Reads page_charge self.old self.new result }
     {
-        self.database.page(table, no, &mut self.ledger)
+        self.database.heap(table).page(no, &mut self.ledger)
     }
 
     /// The words of the row in this slot, from 0, of an opened page, which pays for the row.
     pub fn row(&mut self, table: u32, view: &PageView, slot: usize) -> Result<&'d [i64], Exhausted>
-        requires there { table < length self.old.database.tables }
-        requires slot { HasSlot self.old.database table view.now.number slot }
+        requires { HasSlot self.old.database table view.now.number slot }
         ensures row { IfOk result (λ words.
             IsRowIn self.old.database table view.now.number slot words.now) }
         ensures reads { Reads row_charge self.old self.new result }
     {
-        self.database.row_of(table, view, slot, &mut self.ledger)
+        let heap = self.database.heap(table);
+        heap.row_of(view, slot, &mut self.ledger)
     }
 
     /// The words of row `i` of a table, from 0, which pays for the look-up.
     pub fn fetch(&mut self, table: u32, i: u64) -> Result<&'d [i64], Exhausted>
-        requires there { table < length self.old.database.tables }
-        requires row { i < length (table_at self.old.database table).rows }
+        requires { i < length (table_at self.old.database table).rows }
         ensures row { IfOk result (λ words. IsRowAt self.old.database table i words.now) }
         ensures reads { Reads fetch_charge self.old self.new result }
     {
-        self.database.fetch(table, i, &mut self.ledger)
+        self.database.heap(table).fetch(i, &mut self.ledger)
     }
 
     /// Descends in the index of a column to the entries with words from `from` to `to`, both included, which pays for each
     /// level. There are none where `from` is greater than `to`, and none for NULL. What the entries and the rows are is told.
     pub fn seek(&mut self, table: u32, column: u8, from: i64, to: i64) -> Result<Cursor, Exhausted>
-        requires there { table < length self.old.database.tables }
-        requires indexed { Contains (table_at self.old.database table).indexed column }
+        requires { Contains (table_at self.old.database table).indexed column }
         ensures range { IfOk result (λ cursor.
             entries_left (index_at self.old.database table column) cursor
             ≡ filter (is_within from to) (index_at self.old.database table column)) }
@@ -170,7 +167,8 @@ impl<'d> Metered<'d> {
             self.old self.new result }
     {
         self.database
-            .seek(table, column, from, to, &mut self.ledger)
+            .index(table, column)
+            .seek(from, to, &mut self.ledger)
     }
 
     /// The row of the cursor's next entry, which pays for the entry and moves the cursor past it. Past the last entry there
@@ -181,7 +179,6 @@ impl<'d> Metered<'d> {
         column: u8,
         cursor: &mut Cursor,
     ) -> Result<Option<u64>, Exhausted>
-        requires there { table < length self.old.database.tables }
         requires indexed { Contains (table_at self.old.database table).indexed column }
         requires placed { IsOn (index_at self.old.database table column) cursor.old }
         ensures row { IfOk result (λ row.
@@ -196,6 +193,8 @@ impl<'d> Metered<'d> {
             (next_charge (entries_left (index_at self.old.database table column) cursor.old))
             self.old self.new result }
     {
-        self.database.next(table, column, cursor, &mut self.ledger)
+        self.database
+            .index(table, column)
+            .next(cursor, &mut self.ledger)
     }
 }

@@ -9,33 +9,31 @@ ghost use Rattle.db_catalog.specs.Meter.{IsRowIn, page_rows, table_pages};
 use crate::database::Database;
 use btree_index::Index;
 
+#[tactic(auto, using(crate::proofs::Tables::of_reads))]
 impl Database {
     /// The words of row `i` of a table, from 0. This read isn't paid.
     pub fn plain_row(&self, table: u32, i: u64) -> &[i64]
-        requires there { table < length self.now.tables }
-        requires row { i < length (table_at self.now table).rows }
+        requires { i < length (table_at self.now table).rows }
         ensures { IsRowAt self.now table i result.now }
     {
-        self.tables[table as usize].heap.get(i)
+        self.heap(table).get(i)
     }
 
     /// The words of the rows on page `no` of a table, from 0, one row after another. This read isn't paid.
     pub fn plain_page(&self, table: u32, no: u64) -> &[i64]
-        requires there { table < length self.now.tables }
-        requires page { no < table_pages self.now table }
+        requires { no < table_pages self.now table }
         ensures filled { length result.now
             ≡ page_rows self.now table no * length (table_at self.now table).columns }
         ensures rows { (slot : ℕ) → slot < page_rows self.now table no
             → let width = length (table_at self.now table).columns in
             IsRowIn self.now table no slot (take width (drop (slot * width) result.now)) }
     {
-        self.tables[table as usize].heap.plain_page(no)
+        self.heap(table).plain_page(no)
     }
 
     // The index of a column.
     pub(crate) fn index(&self, table: u32, column: u8) -> &Index
-        requires there { table < length self.now.tables }
-        requires indexed { Contains (table_at self.now table).indexed column }
+        requires { Contains (table_at self.now table).indexed column }
         ensures entries { result.now ≡ index_at self.now table column }
         ensures height { height_of (length result.now) ≡ index_height self.now table column }
         ensures rows { StandAsWords self.now table }
@@ -46,8 +44,7 @@ impl Database {
     /// The entries of a column's index with words from `from` to `to`, both included, in order by word, then row. There are
     /// none where `from` is greater than `to`, and none for NULL. They aren't paid, and are found by two descents.
     pub fn entries_within(&self, table: u32, column: u8, from: i64, to: i64) -> &[(i64, u64)]
-        requires there { table < length self.now.tables }
-        requires indexed { Contains (table_at self.now table).indexed column }
+        requires { Contains (table_at self.now table).indexed column }
         ensures entries { result.now ≡ filter (is_within from to) (index_at self.now table column) }
         ensures words { HaveWords (index_at self.now table column) }
         ensures rows { StandAsWords self.now table }
@@ -57,8 +54,7 @@ impl Database {
 
     /// How many levels a column's index has.
     pub fn height(&self, table: u32, column: u8) -> u32
-        requires there { table < length self.now.tables }
-        requires indexed { Contains (table_at self.now table).indexed column }
+        requires { Contains (table_at self.now table).indexed column }
         ensures { result ≡ index_height self.now table column }
     {
         self.index(table, column).height()

@@ -68,8 +68,7 @@ impl Table {
         words: Vec<i64>,
         rows: u64,
     ) -> Result<(), HeapFault>
-        requires few { rows ≤ 2 ^ 62 }
-        requires filled { HasWords (length words.items) rows self.old }
+        requires { HasWords (length words.items) rows self.old }
         ensures appended { OnOk result (TakesWords rows words.items self.old self.new) }
         ensures unchanged { OnErr result (self.new ≡ self.old) }
     {
@@ -86,8 +85,7 @@ impl Table {
         words: &[i64],
         rows: u64,
     ) -> Result<Vec<Index>, AllocError>
-        requires few { rows ≤ 2 ^ 62 }
-        requires filled { HasWords (length words.now) rows self.now }
+        requires { HasWords (length words.now) rows self.now }
         ensures { IfOk result (λ indexes. indexes.items
             ≡ map (kept_index (self.now.heap.rows ++ cut_rows self.now.heap.columns rows words.now))
             self.now.indexes.columns) }
@@ -109,7 +107,6 @@ impl Table {
         words: &[i64],
         rows: u64,
     ) -> Result<Index, AllocError>
-        requires few { rows ≤ 2 ^ 62 }
         requires filled { HasWords (length words.now) rows self.now }
         requires there { place < length self.now.indexes.columns }
         ensures { IfOk result (λ index. index

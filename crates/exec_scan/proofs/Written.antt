@@ -43,13 +43,15 @@ written_of block relation number table columns offset row old new of same long w
     let within : start + size ≤ length old = omega (arith, inside block number table columns offset of, offset_is, columns_are, long) in
     let short : length front ≡ start = length-take-le start old (omega (arith, within)) in
     let rest : drop start new ≡ row ++ back = ap (drop start) parts ∙ drop_at front (row ++ back) start short in
+    let size-new : length new ≡ width_of block = ap length parts ∙ simp (length-append, length-drop) (omega (arith, short, wide, columns_are, within, long)) in
     record {
       others = record {
+        wide = size-new ∙ sym long;
         before = ap (take start) parts ∙ take_at front (row ++ back) start short;
         behind = sym (drop-drop size start new) ∙ ap (drop size) rest ∙ drop_at row back size (wide ∙ columns_are);
       };
       stand = ap (take size) rest ∙ take_at row back size (wide ∙ columns_are);
-      long = ap length parts ∙ simp (length-append, length-drop) (omega (arith, short, wide, columns_are, within, long));
+      long = size-new;
     }
 
 -- the first of the rows that a scan keeps, written so: the scan is known by its parts

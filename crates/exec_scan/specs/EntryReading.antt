@@ -1,17 +1,22 @@
 -- What is seen of a reader of rows by the entries of an index, what it has left to read, and what is always so of it.
-use Rattle.std.specs.Prelude.{◌≡◌, ℕ, ℤ, ◌*◌, ◌<◌, List, [], ◌∷◌, Contains, Option, Some, None, MatchOption, length}
+use Rattle.std.specs.Prelude.{◌≡◌, ℕ, ℤ, ◌*◌, ◌<◌, List, [], ◌∷◌, Contains, Option, Some, None, IsSome, MatchOption, Result, OnOk, OnErr, filter, length}
 use Rattle.sql_values.specs.Stored.{StandsFor}
+use Rattle.work_ledger.specs.Charges.{node_charge}
 use Rattle.plan_tree.specs.Left.{Left}
 use Rattle.btree_index.specs.declared.index.Cursor.{Cursor}
-use Rattle.btree_index.specs.Entries.{IndexEntry, IsOn, entries_left}
-use Rattle.db_catalog.specs.Database.{DatabaseState, table_at}
-use Rattle.db_catalog.specs.Indexes.{index_at, row_of_entry}
+use Rattle.btree_index.specs.Entries.{HaveWords, IndexEntry, IsOn, entries_left, is_within}
+use Rattle.db_catalog.specs.Database.{DatabaseState, StandAsWords, table_at}
+use Rattle.db_catalog.specs.Indexes.{index_at, index_height, row_of_entry}
 
 -- the table, the column by whose index it reads, and where it is among the entries, once it has descended to them
 pub record EntryReaderState : Type 0 where
   pub table : ℕ
   pub column : ℕ
   pub cursor : Option Cursor
+
+-- a reader that hasn't descended yet
+abbrev pub reader_by : (table column : ℕ) → EntryReaderState
+reader_by table column = record { table = table; column = column; cursor = None }
 
 -- the table is there and has an index on the column, on whose entries the cursor stands
 pub record IsReaderOf (database : DatabaseState) (reader : EntryReaderState) : Type 0 where
@@ -38,6 +43,27 @@ ReadsEntry database old new words =
     (entry : IndexEntry) × (entries_ahead database old ≡ entry ∷ entries_ahead database new)
     × StandsFor database.texts (table_at database old.table).columns words (row_of_entry database old.table entry)
 
+-- what its descent costs
+abbrev pub descent_charge : DatabaseState → EntryReaderState → ℕ
+descent_charge database reader = node_charge * index_height database reader.table reader.column
+
 -- only where it is among the entries changes
 abbrev pub MovesReader : (old new : EntryReaderState) → Type 0
 MovesReader old new = new ≡ record old { cursor = new.cursor }
+
+-- it has come to exactly the entries with words of a range; or it is refused, and nothing changes
+pub record Descends {T E : Type 0} (database : DatabaseState) (from to : ℤ) (old new : EntryReaderState) (result : Result T E) : Type 0 where
+  pub entries : OnOk result (entries_ahead database new ≡ filter (is_within from to) (index_at database old.table old.column))
+  pub descended : OnOk result (IsSome new.cursor)
+  pub unchanged : OnErr result (new ≡ old)
+
+-- the entries of an index have words, and so has each row of the table
+pub record IsIndexOfWords (database : DatabaseState) (table column : ℕ) : Type 0 where
+  pub entries : HaveWords (index_at database table column)
+  pub rows : StandAsWords database table
+
+-- it reads on in its index: once it has descended to the entries, it stands among them
+pub record ReadsOn (database : DatabaseState) (old new : EntryReaderState) : Type 0 where
+  pub moves : MovesReader old new
+  pub descended : IsSome old.cursor → IsSome new.cursor
+  pub index : IsReaderOf database new

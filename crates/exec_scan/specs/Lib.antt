@@ -1,5 +1,6 @@
 pub mod Places
 pub mod OnWay
+pub mod Stepping
 pub mod TableReading
 pub mod EntryReading
 pub mod Reading

@@ -15,8 +15,9 @@ pub record AreOfRelation (block : BlockTree) (relation table columns offset : �
   pub columns_are : columns ≡ length (relation_at block.relations relation).columns
   pub offset_is : offset ≡ offset_of block relation
 
--- the words of the other relations in a row of all stay as they are
+-- the words of the other relations in a row of all stay as they are, and the row is as wide
 pub record KeepsOtherWords (block : BlockTree) (relation : ℕ) (old new : List ℤ) : Type 0 where
+  pub wide : length new ≡ length old
   pub before : take (offset_of block relation) new ≡ take (offset_of block relation) old
   pub behind : let past = offset_of block relation + length (relation_at block.relations relation).columns in
       drop past new ≡ drop past old

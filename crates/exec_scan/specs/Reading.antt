@@ -1,16 +1,18 @@
 -- What is left to read of a relation's rows on each of the two ways to them, and what is always so of a way.
-use Rattle.std.specs.Prelude.{◌≡◌, ℕ, ℤ, ◌+◌, ◌*◌, Bool, List, [], ◌∷◌, Option, Some, None, length, map, filter}
+use Rattle.std.specs.Prelude.{◌≡◌, ℕ, ℤ, ◌+◌, ◌*◌, Bool, List, [], ◌∷◌, Option, Some, None, MatchOption, length, map, filter}
 use Rattle.std.specs.List.Sorted.{IsPermutation}
 use Rattle.work_ledger.specs.Charges.{open_charge}
 use Rattle.sql_values.specs.Stored.{AreWordsOf, StoredTable, ValueRow, values_of}
-use Rattle.query_block.specs.Blocks.{RelationTree}
+use Rattle.query_block.specs.Blocks.{IsRelation, RelationTree}
 use Rattle.query_block.specs.Meaning.{meets_filter}
+use Rattle.plan_tree.specs.Enumerated.{HasUsable, IsIndexed}
 use Rattle.plan_tree.specs.Usable.{is_usable}
 use Rattle.plan_tree.specs.Work.{index_scan_work, scan_work, table_rows}
 use Rattle.plan_tree.specs.Left.{Left}
 use Rattle.btree_index.specs.declared.index.Cursor.{Cursor}
 use Rattle.btree_index.specs.Entries.{IndexEntry}
 use Rattle.db_catalog.specs.Database.{DatabaseState}
+use Rattle.db_catalog.specs.Fits.{FitsTable}
 use Rattle.db_catalog.specs.Indexes.{index_at, index_height, row_of_entry}
 use Rattle.exec_scan.specs.declared.way.Way.{Way}
 use Rattle.exec_scan.specs.declared.way.Way.TheVariants as way
@@ -76,8 +78,18 @@ abbrev pub IsReaderIn : DatabaseState → Way → Type 0
 IsReaderIn database (way.Table reader) = IsTableReader database reader
 IsReaderIn database (way.Index reader) = IsReaderOf database reader
 
+-- a relation of a block, whose table is in the database
+pub record IsRelationIn (database : DatabaseState) (own : RelationTree) : Type 0 where
+  pub allowed : IsRelation own
+  pub fits : FitsTable database own
+
+-- the relation's rows are in its table; by a column they are found where an index on it can use the filter
+abbrev pub CanBeFound : RelationTree → (column : Option ℕ) → Type 0
+CanBeFound own column = MatchOption column (Unit {0}) (λ c. IsIndexed own c × HasUsable own c)
+
 -- a way to the rows of this relation
 pub record IsWayTo (database : DatabaseState) (own : RelationTree) (way : Way) : Type 0 where
+  pub relation : IsRelationIn database own
   pub table : table_of way ≡ own.table
   pub reading : IsReaderIn database way
 
@@ -102,3 +114,14 @@ work_by tables own (Some column) out = index_scan_work tables own column out
 pub record HasAll (database : DatabaseState) (own : RelationTree) (way : Way) : Type 0 where
   pub rows : IsPermutation (kept_rows database own way) (filter (meets_filter own.filter) (table_rows database.tables own))
   pub due : (out : ℕ) → open_charge + (read_due database own way).due + out ≡ work_by database.tables own (column_of way) out
+
+-- a way to the rows of this relation by a column or its table, on which nothing is read yet
+pub record LeadsTo (database : DatabaseState) (own : RelationTree) (by : Option ℕ) (found : Way) : Type 0 where
+  pub way : IsWayTo database own found
+  pub column : column_of found ≡ by
+  pub all : HasAll database own found
+
+-- it leads on to the rows of this relation, by the same column or its table
+pub record FindsOn (database : DatabaseState) (own : RelationTree) (old new : Way) : Type 0 where
+  pub way : IsWayTo database own new
+  pub column : column_of new ≡ column_of old

@@ -1,23 +1,19 @@
 -- What the operator of a leaf has left of the rows of its relation, and what is always so of one.
-use Rattle.std.specs.Prelude.{ℕ, map}
-use Rattle.plan_tree.specs.Plans.{PlanTree, Scan, IndexScan, Nest, Hash, Merge, IndexLoop}
+use Rattle.std.specs.Prelude.{◌≡◌, ℕ, ◌+◌, map}
+use Rattle.std.specs.List.Sorted.{IsPermutation}
+use Rattle.work_ledger.specs.Charges.{open_charge}
+use Rattle.plan_tree.specs.Plans.{PlanTree, has_leaf}
 use Rattle.plan_tree.specs.Left.{Left}
+use Rattle.plan_tree.specs.Work.{work_of}
 use Rattle.query_block.specs.Blocks.{BlockTree, relation_at}
+use Rattle.query_block.specs.Meaning.{rows_of}
 use Rattle.db_catalog.specs.Database.{DatabaseState}
+use Rattle.db_catalog.specs.Fits.{Fits}
 use Rattle.exec_scan.specs.declared.way.Way.{Way}
 use Rattle.exec_scan.specs.OnWay.{with_emits}
 use Rattle.exec_scan.specs.Places.{AreOfRelation, placed_row}
 use Rattle.exec_scan.specs.Reading.{IsReaderIn, kept_rows, read_due, table_of}
-use Rattle.exec_scan.specs.State.{ScanState}
-
--- the plan is the scan of a relation, by whatever its rows are found
-abbrev pub IsLeaf : PlanTree → Type 0
-IsLeaf (Scan relation) = Unit {0}
-IsLeaf (IndexScan relation column) = Unit {0}
-IsLeaf (Nest left right) = ⊥
-IsLeaf (Hash edge left right) = ⊥
-IsLeaf (Merge edge left right) = ⊥
-IsLeaf (IndexLoop edge left relation) = ⊥
+use Rattle.exec_scan.specs.State.{ScanState, leaf_of}
 
 -- what finding the rows of a relation has left: of the rows ahead those come that meet its filter, each in its place, and
 -- the work of reading is due
@@ -33,7 +29,20 @@ find_left database block relation way =
 abbrev pub scan_left : DatabaseState → BlockTree → ScanState → Left
 scan_left database block scan = with_emits (find_left database block scan.place.relation scan.way)
 
--- a scan of a relation of the block over the tables of the database
+-- a scan of a relation of the block, which fits the database, over its tables
 pub record IsScanOver (database : DatabaseState) (block : BlockTree) (scan : ScanState) : Type 0 where
+  pub fits : Fits database block
   pub numbers : AreOfRelation block scan.place.relation (table_of scan.way) scan.place.columns scan.place.offset
   pub reading : IsReaderIn database scan.way
+
+-- the scan of a leaf, of which nothing is read yet: the rows of the leaf are left, and with the opening what is due is its work
+pub record BeginsLeaf (database : DatabaseState) (block : BlockTree) (plan : PlanTree) (scan : ScanState) : Type 0 where
+  pub operator : IsScanOver database block scan
+  pub leaf : leaf_of scan ≡ plan
+  pub rest : IsPermutation (scan_left database block scan).rest (rows_of database.tables block (has_leaf plan))
+  pub due : open_charge + (scan_left database block scan).due ≡ work_of database.tables block plan
+
+-- it goes on as the scan of the same leaf
+pub record ScansOn (database : DatabaseState) (block : BlockTree) (old new : ScanState) : Type 0 where
+  pub operator : IsScanOver database block new
+  pub leaf : leaf_of new ≡ leaf_of old

@@ -1,9 +1,10 @@
 -- What is seen of a reader of a whole table, what it has left to read, and what is always so of it.
-use Rattle.std.specs.Prelude.{◌≡◌, ℕ, ℤ, ◌+◌, ◌-◌, ◌*◌, ◌<◌, ◌≤◌, min, List, [], ◌∷◌, length, drop}
+use Rattle.std.specs.Prelude.{◌≡◌, ℕ, ℤ, ◌+◌, ◌-◌, ◌*◌, ◌<◌, ◌≤◌, min, List, [], ◌∷◌, length, drop, Result, OnOk, OnErr}
 use Rattle.sql_values.specs.Limits.{max_columns}
 use Rattle.sql_values.specs.Stored.{ValueRow, StandsFor}
 use Rattle.heap_pages.specs.Rows.{rows_per_page, row_number}
 use Rattle.plan_tree.specs.Left.{Left}
+use Rattle.work_ledger.specs.Charges.{page_charge}
 use Rattle.db_catalog.specs.Database.{DatabaseState, table_at}
 use Rattle.db_catalog.specs.Meter.{table_pages}
 
@@ -17,12 +18,16 @@ pub record TableReaderState : Type 0 where
   pub slots : ℕ
   pub slot : ℕ
 
+-- the table is there, and rows of it stand on a page
+pub record HasTable (database : DatabaseState) (table : ℕ) : Type 0 where
+  pub there : table < length database.tables
+  pub some : 1 ≤ length (table_at database table).columns
+  pub few : length (table_at database table).columns ≤ max_columns
+
 -- the table is there and has so many pages; the page at hand is the last that is opened, and its rows are the last on the
 -- opened pages
 pub record IsTableReader (database : DatabaseState) (reader : TableReaderState) : Type 0 where
-  pub there : reader.table < length database.tables
-  pub some : 1 ≤ length (table_at database reader.table).columns
-  pub few : length (table_at database reader.table).columns ≤ max_columns
+  pub table : HasTable database reader.table
   pub pages : reader.pages ≡ table_pages database reader.table
   pub opened : reader.opened ≤ reader.pages
   pub page : reader.page ≡ reader.opened - 1
@@ -50,3 +55,28 @@ LooksAt database old new words =
 -- only where it is in its table changes
 abbrev pub MovesOn : (old new : TableReaderState) → Type 0
 MovesOn old new = new ≡ record old { opened = new.opened; page = new.page; slots = new.slots; slot = new.slot }
+
+-- no page of the table is opened yet: all its rows are ahead, and its pages and rows are due
+pub record StartsTable (database : DatabaseState) (number : ℕ) (at : TableReaderState) : Type 0 where
+  pub table : at.table ≡ number
+  pub reader : IsTableReader database at
+  pub rows : table_ahead database at ≡ (table_at database number).rows
+  pub due : (table_due database at).due ≡ page_charge * table_pages database number + length (table_at database number).rows
+
+-- all rows of the opened pages are looked at, and there is a page behind them
+pub record EndsPage (database : DatabaseState) (at : TableReaderState) : Type 0 where
+  pub reader : IsTableReader database at
+  pub looked : at.slot ≡ at.slots
+  pub page : at.opened < at.pages
+
+-- the next page is opened, none of whose rows is looked at; or it is refused, and nothing changes
+pub record OpensPage {T E : Type 0} (database : DatabaseState) (old new : TableReaderState) (result : Result T E) : Type 0 where
+  pub opened : OnOk result (new.opened ≡ old.opened + 1)
+  pub some : OnOk result (new.slot < new.slots)
+  pub rows : OnOk result (table_ahead database new ≡ table_ahead database old)
+  pub unchanged : OnErr result (new ≡ old)
+
+-- it goes on in its table
+pub record ReadsTableOn (database : DatabaseState) (old new : TableReaderState) : Type 0 where
+  pub moves : MovesOn old new
+  pub reader : IsTableReader database new

@@ -1,13 +1,10 @@
 // Rows by the entries of an index: it descends to those of a range of words, and then fetches the row of each. It relies on
 // the meter for entries and rows, and fetches the row of an entry once.
-ghost use Rattle.std.specs.Prelude.{◌≡◌, ◌↔◌, ◌*◌, [], filter, IfOk, OnOk, OnErr, IsSome, IsTrue, MatchOption, None};
-ghost use Rattle.work_ledger.specs.Charges.{node_charge};
-ghost use Rattle.btree_index.specs.Entries.{HaveWords, is_within};
-ghost use Rattle.db_catalog.specs.Database.{StandAsWords};
-ghost use Rattle.db_catalog.specs.Indexes.{index_at, index_height};
+ghost use Rattle.std.specs.Prelude.{◌≡◌, ◌↔◌, [], IfOk, IsSome, IsTrue, MatchOption};
 ghost use Rattle.db_catalog.specs.Meter.{Reads};
-ghost use Rattle.plan_tree.specs.Left.{PaysDue};
-ghost use Rattle.exec_scan.specs.EntryReading.{EntryReaderState, IsReaderOf, MovesReader, ReadsEntry, entries_ahead, entries_due};
+ghost use Rattle.exec_scan.specs.EntryReading.{Descends, IsIndexOfWords, IsReaderOf, ReadsEntry, ReadsOn};
+ghost use Rattle.exec_scan.specs.EntryReading.{descent_charge, entries_ahead, entries_due, reader_by};
+ghost use Rattle.exec_scan.specs.Stepping.{PaysFor};
 
 use btree_index::Cursor;
 use db_catalog::Metered;
@@ -39,9 +36,7 @@ impl Model for EntryReader {
 impl EntryReader {
     /// A reader by the index on a column, to which it hasn't descended yet.
     pub fn new(table: u32, column: u8) -> EntryReader
-        ensures table { result.table ≡ table }
-        ensures column { result.column ≡ column }
-        ensures cursor { result.cursor ≡ None }
+        ensures { result ≡ reader_by table column }
     {
         EntryReader {
             table,
@@ -68,18 +63,11 @@ impl EntryReader {
     /// `from` is greater than `to`, and none for NULL. What the entries and the rows are is told.
     pub fn descend(&mut self, from: i64, to: i64, meter: &mut Metered<'_>) -> Result<(), Exhausted>
         requires index { IsReaderOf meter.old.database self.old }
-        ensures entries { OnOk result (entries_ahead meter.old.database self.new
-            ≡ filter (is_within from to) (index_at meter.old.database self.old.table self.old.column)) }
-        ensures descended { OnOk result (IsSome self.new.cursor) }
-        ensures words { HaveWords (index_at meter.old.database self.old.table self.old.column) }
-        ensures rows { StandAsWords meter.old.database self.old.table }
-        ensures reads { Reads (node_charge * index_height meter.old.database self.old.table self.old.column)
+        ensures descends { Descends meter.old.database from to self.old self.new result }
+        ensures words { IsIndexOfWords meter.old.database self.old.table self.old.column }
+        ensures reads { Reads (descent_charge meter.old.database self.old)
             meter.old meter.new result }
-
-        // How it stands then.
-        ensures unchanged { OnErr result (self.new ≡ self.old) }
-        ensures moves { MovesReader self.old self.new }
-        ensures index { IsReaderOf meter.old.database self.new }
+        ensures goes_on { ReadsOn meter.old.database self.old self.new }
     {
         let cursor = meter.seek(self.table, self.column, from, to)?;
         self.cursor = Some(cursor);
@@ -92,15 +80,9 @@ impl EntryReader {
         ensures row { IfOk result (λ found. MatchOption found
             ((entries_ahead meter.old.database self.new ≡ []) × (self.new ≡ self.old))
             (λ words. ReadsEntry meter.old.database self.old self.new words.now)) }
-        ensures pays { PaysDue (entries_due meter.old.database self.old)
-            (entries_due meter.old.database self.new)
-            meter.old.account meter.new.account result }
-
-        // Whatever the answer.
-        ensures descended { IsSome self.old.cursor → IsSome self.new.cursor }
-        ensures database { meter.new.database ≡ meter.old.database }
-        ensures moves { MovesReader self.old self.new }
-        ensures index { IsReaderOf meter.old.database self.new }
+        ensures pays { PaysFor (entries_due meter.old.database)
+            self.old self.new meter.old meter.new result }
+        ensures goes_on { ReadsOn meter.old.database self.old self.new }
     {
         let Some(mut cursor) = self.cursor else {
             return Ok(None);

@@ -1,12 +1,11 @@
 // The rows of a whole table, page after page. It relies on the meter to lend each row for pay, and never looks at a row
 // twice.
-ghost use Rattle.std.specs.Prelude.{◌≡◌, ◌+◌, ◌*◌, ◌<◌, ◌≤◌, [], length, IfOk, OnOk, OnErr, MatchOption};
-ghost use Rattle.sql_values.specs.Limits.{max_columns};
+ghost use Rattle.std.specs.Prelude.{◌≡◌, [], IfOk, MatchOption};
 ghost use Rattle.work_ledger.specs.Charges.{page_charge};
-ghost use Rattle.db_catalog.specs.Database.{table_at};
-ghost use Rattle.db_catalog.specs.Meter.{Reads, table_pages};
-ghost use Rattle.plan_tree.specs.Left.{PaysDue};
-ghost use Rattle.exec_scan.specs.TableReading.{IsTableReader, LooksAt, MovesOn, table_ahead, table_due};
+ghost use Rattle.db_catalog.specs.Meter.{Reads};
+ghost use Rattle.exec_scan.specs.Stepping.{PaysFor};
+ghost use Rattle.exec_scan.specs.TableReading.{EndsPage, HasTable, IsTableReader, LooksAt, OpensPage};
+ghost use Rattle.exec_scan.specs.TableReading.{ReadsTableOn, StartsTable, table_ahead, table_due};
 
 use db_catalog::Metered;
 use heap_pages::PageView;
@@ -43,15 +42,8 @@ impl Model for TableReader {
 impl TableReader {
     /// A reader of a table, of which no page is opened yet.
     pub(crate) fn new(table: u32, meter: &Metered<'_>) -> TableReader
-        requires there { table < length meter.now.database.tables }
-        requires some { 1 ≤ length (table_at meter.now.database table).columns }
-        requires few { length (table_at meter.now.database table).columns ≤ max_columns }
-        ensures table { result.table ≡ table }
-        ensures reader { IsTableReader meter.now.database result }
-        ensures rows { table_ahead meter.now.database result ≡ (table_at meter.now.database table).rows }
-        ensures due { (table_due meter.now.database result).due
-            ≡ page_charge * table_pages meter.now.database table
-            + length (table_at meter.now.database table).rows }
+        requires { HasTable meter.now.database table }
+        ensures { StartsTable meter.now.database table result }
     {
         TableReader {
             table,
@@ -65,17 +57,10 @@ impl TableReader {
 
     // Opens the next page, once all rows of the one before are looked at.
     fn open_page(&mut self, meter: &mut Metered<'_>) -> Result<(), Exhausted>
-        requires reader { IsTableReader meter.old.database self.old }
-        requires looked { self.old.slot ≡ self.old.slots }
-        requires page { self.old.opened < self.old.pages }
-        ensures opened { OnOk result (self.new.opened ≡ self.old.opened + 1) }
-        ensures some { OnOk result (self.new.slot < self.new.slots) }
-        ensures rows { OnOk result (table_ahead meter.old.database self.new
-            ≡ table_ahead meter.old.database self.old) }
-        ensures unchanged { OnErr result (self.new ≡ self.old) }
+        requires { EndsPage meter.old.database self.old }
+        ensures opens { OpensPage meter.old.database self.old self.new result }
         ensures reads { Reads page_charge meter.old meter.new result }
-        ensures moves { MovesOn self.old self.new }
-        ensures reader { IsTableReader meter.old.database self.new }
+        ensures goes_on { ReadsTableOn meter.old.database self.old self.new }
     {
         self.page = meter.scan_page(self.table, self.opened)?;
         self.opened += 1;
@@ -95,14 +80,9 @@ impl TableReader {
             ((table_ahead meter.old.database self.old ≡ [])
             × ((table_due meter.old.database self.old).due ≡ 0) × (self.new ≡ self.old))
             (λ words. LooksAt meter.old.database self.old self.new words.now)) }
-        ensures pays { PaysDue (table_due meter.old.database self.old)
-            (table_due meter.old.database self.new)
-            meter.old.account meter.new.account result }
-
-        // Whatever the answer.
-        ensures database { meter.new.database ≡ meter.old.database }
-        ensures moves { MovesOn self.old self.new }
-        ensures reader { IsTableReader meter.old.database self.new }
+        ensures pays { PaysFor (table_due meter.old.database)
+            self.old self.new meter.old meter.new result }
+        ensures goes_on { ReadsTableOn meter.old.database self.old self.new }
     {
         if self.slot == self.slots {
             if self.opened == self.pages {

@@ -1,12 +1,12 @@
 // The two ways to the rows of a relation: through its whole table, or by the index on one of its columns. It relies on
 // their readers for what is read and paid, and never gives a row that doesn't meet the relation's filter.
 ghost use Rattle.std.specs.Prelude.{◌≡◌, IfOk, OnOk, IsSome, MatchOption};
-ghost use Rattle.query_block.specs.Blocks.{IsRelation, relation_tree};
-ghost use Rattle.plan_tree.specs.Enumerated.{HasUsable, IsIndexed};
-ghost use Rattle.plan_tree.specs.Left.{PaysDue};
-ghost use Rattle.db_catalog.specs.Fits.{FitsTable};
-ghost use Rattle.exec_scan.specs.EntryReading.{IsReaderOf, MovesReader};
-ghost use Rattle.exec_scan.specs.Reading.{AreNone, HasAll, IsFirstRow, IsWayTo, column_of, kept_rows, read_due, rows_ahead, wanted_due, wanted_entries, wanted_rows};
+ghost use Rattle.query_block.specs.Blocks.{relation_tree};
+ghost use Rattle.exec_scan.specs.EntryReading.{ReadsOn};
+ghost use Rattle.exec_scan.specs.Reading.{AreNone, CanBeFound, FindsOn, IsFirstRow, IsRelationIn, IsWayTo, LeadsTo};
+ghost use Rattle.exec_scan.specs.Reading.{kept_rows, read_due, rows_ahead, wanted_due, wanted_entries, wanted_rows};
+ghost use Rattle.exec_scan.specs.Stepping.{PaysFor};
+ghost use Rattle.exec_scan.specs.declared.way.Way.TheVariants.{Index};
 
 use crate::entry_reader::EntryReader;
 use crate::table_reader::TableReader;
@@ -28,20 +28,14 @@ fn descend_to_wanted(
     relation: &Relation,
     meter: &mut Metered<'_>,
 ) -> Result<(), Exhausted>
-    requires relation { IsRelation (relation_tree relation.now) }
-    requires fits { FitsTable meter.old.database (relation_tree relation.now) }
-    requires table { reader.old.table ≡ relation.now.table }
-    requires index { IsReaderOf meter.old.database reader.old }
+    requires way { IsWayTo meter.old.database (relation_tree relation.now) (Index reader.old) }
     ensures descended { OnOk result (IsSome reader.new.cursor) }
     ensures entries { OnOk result
         (wanted_entries meter.old.database (relation_tree relation.now) reader.new
         ≡ wanted_entries meter.old.database (relation_tree relation.now) reader.old) }
-    ensures pays { PaysDue (wanted_due meter.old.database (relation_tree relation.now) reader.old)
-        (wanted_due meter.old.database (relation_tree relation.now) reader.new)
-        meter.old.account meter.new.account result }
-    ensures database { meter.new.database ≡ meter.old.database }
-    ensures moves { MovesReader reader.old reader.new }
-    ensures index { IsReaderOf meter.old.database reader.new }
+    ensures pays { PaysFor (wanted_due meter.old.database (relation_tree relation.now))
+        reader.old reader.new meter.old meter.new result }
+    ensures goes_on { ReadsOn meter.old.database reader.old reader.new }
 {
     if reader.has_descended() {
         return Ok(());
@@ -57,24 +51,16 @@ fn read_wanted<'d>(
     relation: &Relation,
     meter: &mut Metered<'d>,
 ) -> Result<Option<&'d [i64]>, Exhausted>
-    requires relation { IsRelation (relation_tree relation.now) }
-    requires fits { FitsTable meter.old.database (relation_tree relation.now) }
-    requires table { reader.old.table ≡ relation.now.table }
-    requires index { IsReaderOf meter.old.database reader.old }
+    requires way { IsWayTo meter.old.database (relation_tree relation.now) (Index reader.old) }
     ensures row { let own = relation_tree relation.now in
+        let rows = wanted_rows meter.old.database own in
         IfOk result (λ found. MatchOption found
-        (AreNone (wanted_rows meter.old.database own reader.old)
-        (wanted_rows meter.old.database own reader.new)
-        (wanted_due meter.old.database own reader.new))
+        (AreNone (rows reader.old) (rows reader.new) (wanted_due meter.old.database own reader.new))
         (λ words. IsFirstRow meter.old.database.texts own
-        (wanted_rows meter.old.database own reader.old)
-        (wanted_rows meter.old.database own reader.new) words.now)) }
-    ensures pays { PaysDue (wanted_due meter.old.database (relation_tree relation.now) reader.old)
-        (wanted_due meter.old.database (relation_tree relation.now) reader.new)
-        meter.old.account meter.new.account result }
-    ensures database { meter.new.database ≡ meter.old.database }
-    ensures moves { MovesReader reader.old reader.new }
-    ensures index { IsReaderOf meter.old.database reader.new }
+        (rows reader.old) (rows reader.new) words.now)) }
+    ensures pays { PaysFor (wanted_due meter.old.database (relation_tree relation.now))
+        reader.old reader.new meter.old meter.new result }
+    ensures goes_on { ReadsOn meter.old.database reader.old reader.new }
 {
     descend_to_wanted(reader, relation, meter)?;
     reader.read(meter)
@@ -83,14 +69,9 @@ fn read_wanted<'d>(
 impl Way {
     /// The way to a relation's rows by the index on a column, or else through its table. Nothing is read yet.
     pub(crate) fn new(relation: &Relation, column: Option<u8>, meter: &Metered<'_>) -> Way
-        requires relation { IsRelation (relation_tree relation.now) }
-        requires fits { FitsTable meter.now.database (relation_tree relation.now) }
-        requires column { MatchOption column (Unit {0})
-            (λ column. IsIndexed (relation_tree relation.now) column
-            × HasUsable (relation_tree relation.now) column) }
-        ensures column { column_of result ≡ column }
-        ensures way { IsWayTo meter.now.database (relation_tree relation.now) result }
-        ensures all { HasAll meter.now.database (relation_tree relation.now) result }
+        requires relation { IsRelationIn meter.now.database (relation_tree relation.now) }
+        requires found { CanBeFound (relation_tree relation.now) column }
+        ensures { LeadsTo meter.now.database (relation_tree relation.now) column result }
     {
         match column {
             None => Way::Table(TableReader::new(relation.table, meter)),
@@ -104,23 +85,17 @@ impl Way {
         relation: &Relation,
         meter: &mut Metered<'d>,
     ) -> Result<Option<&'d [i64]>, Exhausted>
-        requires relation { IsRelation (relation_tree relation.now) }
-        requires fits { FitsTable meter.old.database (relation_tree relation.now) }
         requires way { IsWayTo meter.old.database (relation_tree relation.now) self.old }
         ensures row { let own = relation_tree relation.now in
+            let rows = rows_ahead meter.old.database own in
             IfOk result (λ found. MatchOption found
-            (AreNone (rows_ahead meter.old.database own self.old)
-            (rows_ahead meter.old.database own self.new)
-            (read_due meter.old.database own self.new))
+            (AreNone (rows self.old) (rows self.new) (read_due meter.old.database own self.new))
             (λ words. IsFirstRow meter.old.database.texts own
-            (rows_ahead meter.old.database own self.old)
-            (rows_ahead meter.old.database own self.new) words.now)) }
-        ensures pays { PaysDue (read_due meter.old.database (relation_tree relation.now) self.old)
-            (read_due meter.old.database (relation_tree relation.now) self.new)
-            meter.old.account meter.new.account result }
-        ensures database { meter.new.database ≡ meter.old.database }
-        ensures column { column_of self.new ≡ column_of self.old }
-        ensures way { IsWayTo meter.old.database (relation_tree relation.now) self.new }
+            (rows self.old) (rows self.new) words.now)) }
+        ensures pays { PaysFor (read_due meter.old.database (relation_tree relation.now))
+            self.old self.new meter.old meter.new result }
+        ensures goes_on { FindsOn meter.old.database (relation_tree relation.now)
+            self.old self.new }
     {
         match self {
             Way::Table(reader) => reader.read(meter),
@@ -134,23 +109,17 @@ impl Way {
         relation: &Relation,
         meter: &mut Metered<'d>,
     ) -> Result<Option<&'d [i64]>, Exhausted>
-        requires relation { IsRelation (relation_tree relation.now) }
-        requires fits { FitsTable meter.old.database (relation_tree relation.now) }
         requires way { IsWayTo meter.old.database (relation_tree relation.now) self.old }
         ensures row { let own = relation_tree relation.now in
+            let rows = kept_rows meter.old.database own in
             IfOk result (λ found. MatchOption found
-            (AreNone (kept_rows meter.old.database own self.old)
-            (kept_rows meter.old.database own self.new)
-            (read_due meter.old.database own self.new))
+            (AreNone (rows self.old) (rows self.new) (read_due meter.old.database own self.new))
             (λ words. IsFirstRow meter.old.database.texts own
-            (kept_rows meter.old.database own self.old)
-            (kept_rows meter.old.database own self.new) words.now)) }
-        ensures pays { PaysDue (read_due meter.old.database (relation_tree relation.now) self.old)
-            (read_due meter.old.database (relation_tree relation.now) self.new)
-            meter.old.account meter.new.account result }
-        ensures database { meter.new.database ≡ meter.old.database }
-        ensures column { column_of self.new ≡ column_of self.old }
-        ensures way { IsWayTo meter.old.database (relation_tree relation.now) self.new }
+            (rows self.old) (rows self.new) words.now)) }
+        ensures pays { PaysFor (read_due meter.old.database (relation_tree relation.now))
+            self.old self.new meter.old meter.new result }
+        ensures goes_on { FindsOn meter.old.database (relation_tree relation.now)
+            self.old self.new }
     {
         let filter = relation.filter.as_slice();
         let columns = relation.columns.as_slice();

@@ -1,5 +1,5 @@
 -- How a heap keeps its rows: words in pages of one size, and what its fields have to do with one another.
-use Rattle.std.specs.Prelude.{◌≡◌, ℕ, ℤ, min, ◌+◌, ◌-◌, ◌*◌, ◌/◌, ◌^◌, ◌≤◌, List, [], ◌∷◌, ◌++◌, length, Vec}
+use Rattle.std.specs.Prelude.{◌≡◌, ℕ, ℤ, min, ◌+◌, ◌-◌, ◌*◌, ◌/◌, ◌^◌, ◌<◌, ◌≤◌, List, [], ◌∷◌, ◌++◌, length, Vec}
 use Rattle.std.specs.declared.alloc.Global.{Global}
 use Rattle.heap_pages.specs.Limits.{page_words, max_rows, max_columns}
 use Rattle.heap_pages.specs.Rows.{rows_per_page}
@@ -19,6 +19,12 @@ pub record PagesState : Type 0 where
   pub size : ℕ
   pub words : List ℤ
   pub count : ℕ
+
+-- the words end on this page, or right before it
+pub record EndOn (pages : PagesState) (number : ℕ) : Type 0 where
+  pub there : number < pages.count
+  pub begun : number * pages.size ≤ length pages.words
+  pub last : length pages.words ≤ number * pages.size + pages.size
 
 pub record ArePackedPages (size : ℕ) (pages : List (Vec ℤ Global)) : Type 0 where
   pub some_words : 1 ≤ size

@@ -2,3 +2,4 @@ pub mod Limits
 pub mod Rows
 pub mod Layout
 pub mod Refused
+pub mod Changes

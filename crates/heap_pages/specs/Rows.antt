@@ -1,5 +1,5 @@
 -- A table as a list of rows, and the pages on which they stand.
-use Rattle.std.specs.Prelude.{min, ℕ, ℤ, zero, suc, ◌+◌, ◌-◌, ◌*◌, ◌/◌, List, [], ◌∷◌, take, drop}
+use Rattle.std.specs.Prelude.{min, ℕ, ℤ, zero, suc, ◌+◌, ◌-◌, ◌*◌, ◌/◌, ◌<◌, List, [], ◌∷◌, take, drop}
 use Rattle.heap_pages.specs.Limits.{page_words}
 
 -- a row has a word in each column
@@ -32,3 +32,8 @@ rows_on_page columns rows page = min (rows_per_page columns) (rows - page * rows
 -- the number of the row in this slot of this page
 abbrev pub row_number : ℕ → ℕ → ℕ → ℕ
 row_number columns page slot = page * rows_per_page columns + slot
+
+-- a page has such a slot, and one of so many rows stands in it
+pub record IsSlot (columns rows page slot : ℕ) : Type 0 where
+  pub on_page : slot < rows_per_page columns
+  pub there : row_number columns page slot < rows

@@ -1,11 +1,12 @@
 // The heap: rows in packed pages, as many whole rows on each as fit. It relies on the ledger for each paid read, and
 // never moves, changes or drops a row.
-ghost use Rattle.std.specs.Prelude.{◌≡◌, ℕ, ◌+◌, ◌-◌, ◌*◌, ◌/◌, ◌^◌, ◌<◌, ◌≤◌, [], ◌∷◌, ◌++◌, take, drop, length, Some, slice_get, OnOk, OnErr, IfOk};
+ghost use Rattle.std.specs.Prelude.{◌≡◌, ℕ, ◌+◌, ◌-◌, ◌*◌, ◌/◌, ◌^◌, ◌<◌, ◌≤◌, [], ◌∷◌, ◌++◌, take, drop, length, max, Some, slice_get, IfOk};
 ghost use Rattle.work_ledger.specs.Account.{Pays};
 ghost use Rattle.work_ledger.specs.Charges.{page_charge, row_charge, fetch_charge};
 ghost use Rattle.heap_pages.specs.Limits.{page_words, max_rows, max_columns};
 ghost use Rattle.heap_pages.specs.Refused.{KeepsRowLimit};
-ghost use Rattle.heap_pages.specs.Rows.{cut_rows, rows_per_page, pages_of, rows_on_page, row_number};
+ghost use Rattle.heap_pages.specs.Rows.{cut_rows, rows_per_page, pages_of, rows_on_page, row_number, IsSlot};
+ghost use Rattle.heap_pages.specs.Changes.{Becomes};
 
 use crate::pages::Pages;
 use sql_values::MAX_ROWS;
@@ -92,9 +93,7 @@ impl Heap {
     pub fn new(alloc: Global, columns: usize) -> Heap
         requires some { 1 ≤ columns }
         requires few { columns ≤ max_columns }
-        ensures columns { result.columns ≡ columns }
-        ensures rows { result.rows ≡ [] }
-        ensures spare { result.spare ≡ 0 }
+        ensures { result ≡ record { columns = columns; rows = []; spare = 0 } }
     {
         let per_page = PAGE_WORDS / columns;
         Heap {
@@ -164,8 +163,7 @@ impl Heap {
 
     // The row in this slot of page `number`.
     fn row_at(&self, number: usize, slot: usize) -> &[i64]
-        requires on_page { slot < rows_per_page self.now.columns }
-        requires there { row_number self.now.columns number slot < length self.now.rows }
+        requires { IsSlot self.now.columns (length self.now.rows) number slot }
         ensures { slice_get self.now.rows (row_number self.now.columns number slot) ≡ Some result.now }
     {
         self.pages
@@ -175,11 +173,7 @@ impl Heap {
     /// Makes room for `n` more rows. A refusal leaves the rows and the room as they were.
     pub fn reserve(&mut self, n: u64) -> Result<(), HeapFault>
         requires { n ≤ 2 ^ 62 }
-        ensures rows { self.new.rows ≡ self.old.rows }
-        ensures columns { self.new.columns ≡ self.old.columns }
-        ensures spare { OnOk result (n ≤ self.new.spare) }
-        ensures kept { self.old.spare ≤ self.new.spare }
-        ensures unchanged { OnErr result (self.new ≡ self.old) }
+        ensures reserved { Becomes (record self.old { spare = max self.old.spare n }) self.old self.new result }
         ensures limit { KeepsRowLimit (length self.old.rows + n) result }
     {
         let value = self.rows + n;
@@ -198,9 +192,10 @@ impl Heap {
         requires room { 0 < self.old.spare }
         requires width { length row.now ≡ self.old.columns }
         ensures place { result ≡ length self.old.rows }
-        ensures rows { self.new.rows ≡ self.old.rows ++ row.now ∷ [] }
-        ensures columns { self.new.columns ≡ self.old.columns }
-        ensures spare { self.new.spare + 1 ≡ self.old.spare }
+        ensures appended { self.new ≡ record self.old {
+          rows = self.old.rows ++ row.now ∷ [];
+          spare = self.old.spare - 1;
+        } }
     {
         let place = self.rows;
         let number = self.page_of(place);
@@ -215,11 +210,8 @@ impl Heap {
     pub fn append_rows(&mut self, words: Vec<i64>, n: u64) -> Result<(), HeapFault>
         requires some { n ≤ 2 ^ 62 }
         requires filled { length words.items ≡ n * self.old.columns }
-        ensures rows { OnOk result
-            (self.new.rows ≡ self.old.rows ++ cut_rows self.old.columns n words.items) }
-        ensures columns { self.new.columns ≡ self.old.columns }
-        ensures spare { OnOk result (self.new.spare ≡ 0) }
-        ensures unchanged { OnErr result (self.new ≡ self.old) }
+        ensures appended { let rows = self.old.rows ++ cut_rows self.old.columns n words.items in
+            Becomes (record self.old { rows = rows; spare = 0 }) self.old self.new result }
         ensures limit { KeepsRowLimit (length self.old.rows + n) result }
     {
         if n > MAX_ROWS - self.rows {
@@ -253,8 +245,7 @@ impl Heap {
         slot: usize,
         ledger: &mut Ledger,
     ) -> Result<&[i64], Exhausted>
-        requires on_page { slot < rows_per_page self.now.columns }
-        requires there { row_number self.now.columns view.now.number slot < length self.now.rows }
+        requires { IsSlot self.now.columns (length self.now.rows) view.now.number slot }
         ensures row { IfOk result (λ row. slice_get self.now.rows
             (row_number self.now.columns view.now.number slot) ≡ Some row.now) }
         ensures pays { Pays row_charge ledger.old ledger.new result }

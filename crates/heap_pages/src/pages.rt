@@ -1,8 +1,9 @@
 // Words in pages of one size, each of them one block that is taken whole. All pages are full but the last one that has
 // words; behind it pages may stand that are still empty. It never moves a word that is there.
-ghost use Rattle.std.specs.Prelude.{◌≡◌, ◌+◌, ◌*◌, ◌<◌, ◌≤◌, [], ◌++◌, take, drop, length, OnOk, OnErr, vec_len};
+ghost use Rattle.std.specs.Prelude.{◌≡◌, ◌+◌, ◌*◌, ◌<◌, ◌≤◌, [], ◌++◌, take, drop, length, max, OnOk, vec_len};
 ghost use Rattle.heap_pages.specs.Limits.{page_words};
-ghost use Rattle.heap_pages.specs.Layout.{words_of_pages, ArePackedPages};
+ghost use Rattle.heap_pages.specs.Layout.{words_of_pages, ArePackedPages, EndOn};
+ghost use Rattle.heap_pages.specs.Changes.{Becomes};
 
 use std::alloc::{AllocError, Global};
 use std::marker::Model;
@@ -40,7 +41,7 @@ fn add_pages(
     ensures kept { take (vec_len pages.old) pages.new.items ≡ pages.old.items }
     ensures words { words_of_pages pages.new.items ≡ words_of_pages pages.old.items }
     ensures packed { ArePackedPages size pages.old.items → ArePackedPages size pages.new.items }
-    ensures enough { OnOk result (count ≤ vec_len pages.new) }
+    ensures count { OnOk result (vec_len pages.new ≡ max (vec_len pages.old) count) }
 {
     for _number in pages.len()..count {
         pages.push(Vec::with_capacity(alloc, size)?)?;
@@ -61,9 +62,7 @@ impl Pages {
     pub(crate) fn new(alloc: Global, size: usize) -> Pages
         requires some { 1 ≤ size }
         requires few { size ≤ page_words }
-        ensures size { result.size ≡ size }
-        ensures words { result.words ≡ [] }
-        ensures count { result.count ≡ 0 }
+        ensures { result ≡ record { size = size; words = []; count = 0 } }
     {
         Pages {
             alloc,
@@ -84,11 +83,7 @@ impl Pages {
 
     /// Takes pages until there are `count` of them, or none.
     pub(crate) fn reach(&mut self, count: usize) -> Result<(), AllocError>
-        ensures size { self.new.size ≡ self.old.size }
-        ensures words { self.new.words ≡ self.old.words }
-        ensures enough { OnOk result (count ≤ self.new.count) }
-        ensures kept { self.old.count ≤ self.new.count }
-        ensures unchanged { OnErr result (self.new ≡ self.old) }
+        ensures { Becomes (record self.old { count = max self.old.count count }) self.old self.new result }
     {
         let present = self.pages.len();
         let added = add_pages(self.alloc, self.size, &mut self.pages, count);
@@ -100,9 +95,7 @@ impl Pages {
 
     // How many words stand on page `number`, behind which no page has words.
     fn filled(&self, number: usize) -> usize
-        requires there { number < self.now.count }
-        requires begun { number * self.now.size ≤ length self.now.words }
-        requires last { length self.now.words ≤ number * self.now.size + self.now.size }
+        requires { EndOn self.now number }
         ensures { number * self.now.size + result ≡ length self.now.words }
     {
         self.pages[number].len()
@@ -110,12 +103,9 @@ impl Pages {
 
     /// Puts words behind those that are there, all of them on page `number`.
     pub(crate) fn append(&mut self, number: usize, more: &[i64])
-        requires there { number < self.old.count }
-        requires begun { number * self.old.size ≤ length self.old.words }
+        requires last { EndOn self.old number }
         requires fits { length self.old.words + length more.now ≤ number * self.old.size + self.old.size }
-        ensures words { self.new.words ≡ self.old.words ++ more.now }
-        ensures size { self.new.size ≡ self.old.size }
-        ensures count { self.new.count ≡ self.old.count }
+        ensures { self.new ≡ record self.old { words = self.old.words ++ more.now } }
     {
         let Ok(()) = self.pages[number].extend_from_slice(more) else {
             unreachable!()
@@ -127,9 +117,7 @@ impl Pages {
         requires begun { first * self.old.size ≤ length self.old.words }
         requires free { length self.old.words < first * self.old.size + self.old.size }
         requires room { length self.old.words + length more.now ≤ self.old.count * self.old.size }
-        ensures words { self.new.words ≡ self.old.words ++ more.now }
-        ensures size { self.new.size ≡ self.old.size }
-        ensures count { self.new.count ≡ self.old.count }
+        ensures { self.new ≡ record self.old { words = self.old.words ++ more.now } }
     {
         let mut number = first;
         let mut rest = more;

@@ -4,6 +4,7 @@
 //! is 1. It never builds a block by hand.
 #![tactic(auto)]
 
+mod appends;
 mod bouquet_runs;
 mod bouquets;
 mod canonical;
@@ -35,9 +36,11 @@ enum Question {
     BouquetRun,
     Stack,
     Index,
+    Heap,
+    Append,
 }
 
-const FILES: [(&str, Question); 12] = [
+const FILES: [(&str, Question); 14] = [
     ("canonical.txt", Question::CanonicalText),
     ("runs.txt", Question::Run),
     ("large.txt", Question::Run),
@@ -50,6 +53,8 @@ const FILES: [(&str, Question); 12] = [
     ("bouquet_runs.txt", Question::BouquetRun),
     ("stacks.txt", Question::Stack),
     ("indexes.txt", Question::Index),
+    ("heaps.txt", Question::Heap),
+    ("appends.txt", Question::Append),
 ];
 
 // How many lines agree, and how many don't.
@@ -78,6 +83,8 @@ fn answered(
         Question::BouquetRun => bouquet_runs::bouquet_run_line(alloc, db, line),
         Question::Stack => stores::stack_line(alloc, line),
         Question::Index => stores::index_line(alloc, line),
+        Question::Heap => stores::heap_line(alloc, line),
+        Question::Append => appends::append_line(alloc, db, line),
     }
 }
 

@@ -1,10 +1,12 @@
-// What a stack of rows and an index hold after calls that take memory, whose numbers the line says.
+// What a stack of rows, an index and a heap hold after calls that take memory, whose numbers the line says.
 ghost use Rattle.std.specs.Prelude.{◌≡◌, ◌≤◌, ◌*◌, ◌^◌, length, IfOk, OnOk};
 ghost use Rattle.row_stack.specs.Limits.{max_width};
 
 use crate::wrong::Wrong;
 use btree_index::Index;
+use heap_pages::{Heap, HeapFault};
 use row_stack::RowStack;
+use sql_values::MAX_COLUMNS;
 use std::alloc::Global;
 use work_ledger::Ledger;
 
@@ -82,4 +84,49 @@ pub(crate) fn index_line(alloc: Global, line: &str) -> Result<String, Wrong> {
     let index = index_of(alloc, asked.parse()?)?;
     let found = rows_found(&index)?;
     Ok(format!(in alloc; "{asked} => {} {} {found}\n", index.nodes(), index.height())?)
+}
+
+// Appends so many rows to a heap that has room for them, each with its number in every column, and adds the numbers up that
+// then stand in the last column.
+fn fill(alloc: Global, heap: &mut Heap, columns: usize, rows: u64) -> Result<u64, Wrong>
+    requires some { 1 ≤ columns }
+    requires columns { columns ≡ heap.old.columns }
+    requires room { rows ≤ heap.old.spare }
+    requires few { rows ≤ 2 ^ 62 }
+{
+    for number in 0..rows {
+        let row = vec![in alloc; number as i64; columns]?;
+        heap.append(&row);
+    }
+    let mut sum = 0u64;
+    for i in 0..heap.rows() {
+        let row = heap.get(i);
+        let last = row.last().copied().unwrap_or(0);
+        sum = sum.saturating_add(last.unsigned_abs());
+    }
+    Ok(sum)
+}
+
+// What a line has to be: the columns of a heap, for how many rows room is made, and how many are appended; and then the rows
+// that there are, their pages, and the sum of their numbers. A room past the limit is refused with the rows that it is for.
+pub(crate) fn heap_line(alloc: Global, line: &str) -> Result<String, Wrong> {
+    let (asked, _) = line.split_once(" => ").ok_or("numbers and what is there")?;
+    let (columns, calls) = asked.split_once(' ').ok_or("columns")?;
+    let (reserved, appended) = calls.split_once(' ').ok_or("a room and rows")?;
+    let columns: usize = columns.parse()?;
+    let reserved: u64 = reserved.parse()?;
+    let appended: u64 = appended.parse()?;
+    if columns == 0 || columns > MAX_COLUMNS || appended > reserved || reserved > 1 << 62 {
+        return Err("1 to 32 columns, and no more rows than there is room for".into());
+    }
+    let mut heap = Heap::new(alloc, columns);
+    match heap.reserve(reserved) {
+        Ok(()) => {}
+        Err(HeapFault::RowLimit { value }) => {
+            return Ok(format!(in alloc; "{asked} => refused {value}\n")?);
+        }
+        Err(fault) => return Err(fault.into()),
+    }
+    let sum = fill(alloc, &mut heap, columns, appended)?;
+    Ok(format!(in alloc; "{asked} => {} {} {sum}\n", heap.rows(), heap.pages())?)
 }

@@ -11,8 +11,8 @@ use Rattle.plan_tree.specs.declared.roots.Root.{Root}
 use Rattle.plan_tree.specs.declared.roots.Root.TheVariants as root
 use Rattle.plan_space.specs.declared.entry.Entry.{Entry}
 use Rattle.plan_tree.specs.Roots.{Stands}
-use Rattle.plan_space.specs.Table.{entry_at, side_costs, offered, rank, NotLater, IsOffered}
-use Rattle.cost_model.specs.Pricing.{Pricing}
+use Rattle.plan_space.specs.Table.{entry_at, side_costs, offered, rank, NotLater, IsFirstOf}
+use Rattle.plan_space.specs.Search.{SearchShape, IsFound}
 use Rattle.cost_model.specs.Prices.{own_at, block_at}
 use Rattle.plan_tree.proofs.Bits.{same-relation}
 use Rattle.plan_space.specs.Steps.{Group, Considers, IsByEdge, IsBeforeEdge, IsByLeft, IsBeforeLeft, IsLookUpBy, IsScanBy, ReadsRelation}
@@ -24,60 +24,58 @@ pub not-later-itself : (a : Entry) → NotLater a a
 not-later-itself a = ap is_gt (tied_itself nat_list_cmp_total (rank a))
 
 -- an entry is the node that it names over the entries of its sides
-pub is-offered : (at : Pricing) (table : List Entry) (set : ℕ) (entry : Entry) → IsOffered (own_at at) (block_at at) table set entry → offered (own_at at) table entry.root set ≡ entry
-is-offered at table set entry kept i = record { cost = sym kept.cost i; root = entry.root }
+pub is-offered : (sought : SearchShape) (entry : Entry) → IsFound sought entry → offered (own_at sought.at) sought.table entry.root sought.set ≡ entry
+is-offered sought entry kept i = record { cost = sym kept.cost i; root = entry.root }
 
-module _ (at : Pricing) (table : List Entry) (set : ℕ) where
-  pub nothing : (group : Group) (a : Entry) → IsOffered (own_at at) (block_at at) table set a → ((node : Root) → group node → Stands (block_at at) node set → ⊥)
-      → Considers at table set group a a
-  nothing group a kept none = record { kept = kept; found = not-later-itself a; all = λ node in-group stands. absurd (none node in-group stands) }
+module _ (sought : SearchShape) where
+  pub nothing : (group : Group) (a : Entry) → ((node : Root) → group node → Stands (block_at sought.at) node sought.set → ⊥) → Considers sought group a a
+  nothing group a none = record { kept = λ kept. kept; found = not-later-itself a; all = λ node in-group stands. absurd (none node in-group stands) }
 
-  pub chosen : (a b : Entry) (entry : Entry) → IsOffered (own_at at) (block_at at) table set a → IsOffered (own_at at) (block_at at) table set entry
-      → (b ≡ a) ⊎ (b ≡ entry) → NotLater b a → NotLater b entry → Considers at table set (λ node. node ≡ entry.root) a b
-  chosen a b entry kept kept' either found offers = record {
-    kept = elim either [
-      | inl same ↦ subst (IsOffered (own_at at) (block_at at) table set) (sym same) kept
-      | inr same ↦ subst (IsOffered (own_at at) (block_at at) table set) (sym same) kept'
+  pub chosen : (a b entry : Entry) (node : Root) → IsFound sought entry → entry.root ≡ node → IsFirstOf a entry b → Considers sought (λ other. other ≡ node) a b
+  chosen a b entry node offers same keeps = record {
+    kept = λ kept. elim keeps.either [
+      | inl one ↦ subst (IsFound sought) (sym one) kept
+      | inr one ↦ subst (IsFound sought) (sym one) offers
     ];
-    found = found;
-    all = λ node is stands.
-        subst (NotLater b) (sym (ap (λ one. offered (own_at at) table one set) is ∙ is-offered at table set entry kept')) offers;
+    found = keeps.to_found;
+    all = λ other is stands.
+        subst (NotLater b) (sym (ap (λ one. offered (own_at sought.at) sought.table one sought.set) (is ∙ sym same) ∙ is-offered sought entry offers)) keeps.to_offered;
   }
 
-  pub and-then : (G H K : Group) (a b c : Entry) → Considers at table set G a b → Considers at table set H b c
-      → ((node : Root) → K node → Stands (block_at at) node set → G node ⊎ H node) → Considers at table set K a c
+  pub and-then : (G H K : Group) (a b c : Entry) → Considers sought G a b → Considers sought H b c → ((node : Root) → K node → Stands (block_at sought.at) node sought.set → G node ⊎ H node)
+      → Considers sought K a c
   and-then G H K a b c first second covers = record {
-    kept = second.kept;
+    kept = λ kept. second.kept (first.kept kept);
     found = not-later-then c b a second.found first.found;
     all = λ node in-group stands. elim (covers node in-group stands) [
-      | inl one ↦ not-later-then c b (offered (own_at at) table node set) second.found (first.all node one stands)
+      | inl one ↦ not-later-then c b (offered (own_at sought.at) sought.table node sought.set) second.found (first.all node one stands)
       | inr one ↦ second.all node one stands
     ];
   }
 
-  pub narrow : (G K : Group) (a b : Entry) → Considers at table set G a b → ((node : Root) → K node → Stands (block_at at) node set → G node) → Considers at table set K a b
+  pub narrow : (G K : Group) (a b : Entry) → Considers sought G a b → ((node : Root) → K node → Stands (block_at sought.at) node sought.set → G node) → Considers sought K a b
   narrow G K a b first covers = record { kept = first.kept; found = first.found; all = λ node in-group stands. first.all node (covers node in-group stands) stands }
 
   -- ---- the groups of joins
 
   -- a look-up by this edge over this left side is of the one relation on the right
-  pub looked-up : (edge left relation : ℕ) → set - left ≡ 2 ^ relation → (node : Root) → IsLookUpBy edge left node → Stands (block_at at) node set → node ≡ root.IndexLoop edge left relation
+  pub looked-up : (edge left relation : ℕ) → sought.set - left ≡ 2 ^ relation → (node : Root) → IsLookUpBy edge left node → Stands (block_at sought.at) node sought.set → node ≡ root.IndexLoop edge left relation
   looked-up edge left relation right (root.Scan r) group stands = absurd group
   looked-up edge left relation right (root.IndexScan r c) group stands = absurd group
   looked-up edge left relation right (root.Nest s) group stands = absurd group
   looked-up edge left relation right (root.Hash n s) group stands = absurd group
   looked-up edge left relation right (root.Merge n s) group stands = absurd group
   looked-up edge left relation right (root.IndexLoop n s r) group stands =
-      let same = same-relation r relation (sym stands.2.one ∙ ap (λ side. set - side) group.1 ∙ right) in
+      let same = same-relation r relation (sym stands.2.one ∙ ap (λ side. sought.set - side) group.1 ∙ right) in
       λ i. root.IndexLoop (group.0 i) (group.1 i) (same i)
 
-  pub no-look-up : (edge left : ℕ) → ((relation : ℕ) → set - left ≡ 2 ^ relation → ⊥) → (node : Root) → IsLookUpBy edge left node → Stands (block_at at) node set → ⊥
+  pub no-look-up : (edge left : ℕ) → ((relation : ℕ) → sought.set - left ≡ 2 ^ relation → ⊥) → (node : Root) → IsLookUpBy edge left node → Stands (block_at sought.at) node sought.set → ⊥
   no-look-up edge left none (root.Scan r) group stands = group
   no-look-up edge left none (root.IndexScan r c) group stands = group
   no-look-up edge left none (root.Nest s) group stands = group
   no-look-up edge left none (root.Hash n s) group stands = group
   no-look-up edge left none (root.Merge n s) group stands = group
-  no-look-up edge left none (root.IndexLoop n s r) group stands = none r (ap (λ side. set - side) (sym group.1) ∙ stands.2.one)
+  no-look-up edge left none (root.IndexLoop n s r) group stands = none r (ap (λ side. sought.set - side) (sym group.1) ∙ stands.2.one)
 
   pub of-edge : (edge left : ℕ) (node : Root) → IsByEdge edge left node → ((node ≡ root.Hash edge left) ⊎ (node ≡ root.Merge edge left)) ⊎ IsLookUpBy edge left node
   of-edge edge left (root.Scan r) group = absurd group
@@ -110,7 +108,7 @@ module _ (at : Pricing) (table : List Entry) (set : ℕ) where
   next-edge edge left (root.Merge n s) group = before n edge s left group
   next-edge edge left (root.IndexLoop n s r) group = before n edge s left group
 
-  pub of-left : (left : ℕ) (node : Root) → IsByLeft left node → Stands (block_at at) node set → (node ≡ root.Nest left) ⊎ IsBeforeEdge (length at.costing.block.edges) left node
+  pub of-left : (left : ℕ) (node : Root) → IsByLeft left node → Stands (block_at sought.at) node sought.set → (node ≡ root.Nest left) ⊎ IsBeforeEdge (length sought.at.costing.block.edges) left node
   of-left left (root.Scan r) group stands = absurd group
   of-left left (root.IndexScan r c) group stands = absurd group
   of-left left (root.Nest s) group stands = inl (ap root.Nest group)
@@ -125,7 +123,7 @@ module _ (at : Pricing) (table : List Entry) (set : ℕ) where
       by true is = inl (grind arith)
       by false is = inr (grind arith)
 
-  pub no-left : (node : Root) → IsBeforeLeft 1 node → Stands (block_at at) node set → ⊥
+  pub no-left : (node : Root) → IsBeforeLeft 1 node → Stands (block_at sought.at) node sought.set → ⊥
   no-left (root.Scan r) group stands = group
   no-left (root.IndexScan r c) group stands = group
   no-left (root.Nest s) group stands = omega (arith, group, stands.some)
@@ -143,17 +141,17 @@ module _ (at : Pricing) (table : List Entry) (set : ℕ) where
 
   -- ---- what joins cost at the least
 
-  same-sides : (left side cost : ℕ) → cost ≡ (entry_at table left).cost + (entry_at table (set - left)).cost → side ≡ left → cost ≤ (entry_at table side).cost + (entry_at table (set - side)).cost
-  same-sides left side cost is same = omega (arith, is, ap (λ one. (entry_at table one).cost + (entry_at table (set - one)).cost) same)
+  same-sides : (left side cost : ℕ) → cost ≡ (entry_at sought.table left).cost + (entry_at sought.table (sought.set - left)).cost → side ≡ left → cost ≤ (entry_at sought.table side).cost + (entry_at sought.table (sought.set - side)).cost
+  same-sides left side cost is same = omega (arith, is, ap (λ one. (entry_at sought.table one).cost + (entry_at sought.table (sought.set - one)).cost) same)
 
-  pub both-least : (left cost : ℕ) → cost ≡ (entry_at table left).cost + (entry_at table (set - left)).cost → ((relation : ℕ) → set - left ≡ 2 ^ relation → ⊥)
-      → (node : Root) → IsByLeft left node → Stands (block_at at) node set → cost ≤ side_costs table node set
+  pub both-least : (left cost : ℕ) → cost ≡ (entry_at sought.table left).cost + (entry_at sought.table (sought.set - left)).cost → ((relation : ℕ) → sought.set - left ≡ 2 ^ relation → ⊥)
+      → (node : Root) → IsByLeft left node → Stands (block_at sought.at) node sought.set → cost ≤ side_costs sought.table node sought.set
   both-least left cost is none (root.Scan r) group stands = absurd group
   both-least left cost is none (root.IndexScan r c) group stands = absurd group
   both-least left cost is none (root.Nest s) group stands = same-sides left s cost is group
   both-least left cost is none (root.Hash n s) group stands = same-sides left s cost is group
   both-least left cost is none (root.Merge n s) group stands = same-sides left s cost is group
-  both-least left cost is none (root.IndexLoop n s r) group stands = absurd (none r (ap (λ side. set - side) (sym group) ∙ stands.2.one))
+  both-least left cost is none (root.IndexLoop n s r) group stands = absurd (none r (ap (λ side. sought.set - side) (sym group) ∙ stands.2.one))
 
   -- ---- the ways to read a relation
 
@@ -175,25 +173,24 @@ module _ (at : Pricing) (table : List Entry) (set : ℕ) where
   next-column relation column done all is (root.Merge n s) group = absurd group
   next-column relation column done all is (root.IndexLoop n s r) group = absurd group
 
-  pub read-all : (relation cost : ℕ) (result : Entry) → set ≡ 2 ^ relation → cost ≡ own_at at (root.Scan relation) set
-      → Considers at table set (IsScanBy relation (relation_at (block_at at).relations relation).indexes) (record { cost = cost; root = root.Scan relation }) result
-      → Considers at table set ReadsRelation result result
-  read-all relation cost result is price considers = record {
-    kept = considers.kept;
+  -- after a scan that is offered, the scans by all indexes
+  pub read-all : (relation : ℕ) (start result : Entry) → sought.set ≡ 2 ^ relation → IsFound sought start → start.root ≡ root.Scan relation
+      → Considers sought (IsScanBy relation (relation_at (block_at sought.at).relations relation).indexes) start result → Considers sought ReadsRelation result result
+  read-all relation start result is kept scans considers = record {
+    kept = λ found. found;
     found = not-later-itself result;
     all = read;
   }
     where
-      read : (node : Root) → ReadsRelation node → Stands (block_at at) node set → NotLater result (offered (own_at at) table node set)
+      read : (node : Root) → ReadsRelation node → Stands (block_at sought.at) node sought.set → NotLater result (offered (own_at sought.at) sought.table node sought.set)
       read (root.Scan r) group stands =
           let same : r ≡ relation = same-relation r relation (sym stands.1 ∙ is) in
-          let scan : offered (own_at at) table (root.Scan r) set ≡ record { cost = cost; root = root.Scan relation } =
-          let worth : 0 + own_at at (root.Scan r) set ≡ cost = omega (arith, ap (λ n. own_at at (root.Scan n) set) same, price) in
-          λ i. record { cost = worth i; root = root.Scan (same i) } in
+          let scan : offered (own_at sought.at) sought.table (root.Scan r) sought.set ≡ start =
+          ap (λ node. offered (own_at sought.at) sought.table node sought.set) (ap root.Scan same ∙ sym scans) ∙ is-offered sought start kept in
           subst (NotLater result) (sym scan) considers.found
       read (root.IndexScan r c) group stands =
           let same : r ≡ relation = same-relation r relation (sym stands.1 ∙ is) in
-          considers.all (root.IndexScan r c) (same, subst (λ n. IsIndexed (relation_at (block_at at).relations n) c) same stands.0.indexed) stands
+          considers.all (root.IndexScan r c) (same, subst (λ n. IsIndexed (relation_at (block_at sought.at).relations n) c) same stands.0.indexed) stands
       read (root.Nest s) group stands = absurd group
       read (root.Hash n s) group stands = absurd group
       read (root.Merge n s) group stands = absurd group

@@ -19,6 +19,7 @@ use Rattle.plan_tree.specs.Roots.{Stands, IsSplit}
 use Rattle.plan_space.specs.Table.{entry_at, side_costs, offered, NotLater, IsLeast, AreLeast, AreStanding, Follows}
 use Rattle.cost_model.specs.Prices.{OwnCost, sum_of, own_at, block_at}
 use Rattle.cost_model.specs.Pricing.{Pricing}
+use Rattle.plan_space.specs.Search.{SearchShape, IsFound, IsLeastFound}
 use Rattle.plan_space.specs.Steps.{Considers, ReadsRelation, IsBeforeLeft}
 use Rattle.plan_tree.proofs.Bits.{whole-of}
 use Rattle.plan_space.proofs.Exchange.{best}
@@ -64,23 +65,22 @@ no-reading block relation set least highest (root.Hash n s) group stands = group
 no-reading block relation set least highest (root.Merge n s) group stands = group
 no-reading block relation set least highest (root.IndexLoop n s r) group stands = group
 
-module _ (at : Pricing) (table : List Entry) (set : ℕ) where
-  pub least-alone : (start result : Entry) → Considers at table set ReadsRelation start start → Considers at table set (IsBeforeLeft set) start result
-      → IsLeast (own_at at) (block_at at) table set result
-  least-alone start result readings joins = record {
-    kept = joins.kept;
-    least = λ node stands. elim (reads-or-joins (block_at at) set node stands) [
-      | inl reads ↦ not-later-then result start (offered (own_at at) table node set) joins.found (readings.all node reads stands)
+module _ (sought : SearchShape) where
+  pub least-alone : (start result : Entry) → IsFound sought start → Considers sought ReadsRelation start start → Considers sought (IsBeforeLeft sought.set) start result → IsLeastFound sought result
+  least-alone start result found readings joins = record {
+    kept = joins.kept found;
+    least = λ node stands. elim (reads-or-joins (block_at sought.at) sought.set node stands) [
+      | inl reads ↦ not-later-then result start (offered (own_at sought.at) sought.table node sought.set) joins.found (readings.all node reads stands)
       | inr before ↦ joins.all node before stands
     ];
   }
 
-  pub least-split : (relation : ℕ) (start result : Entry) → 2 ^ relation < set → set < 2 ^ (relation + 1) → Considers at table set (IsBeforeLeft set) start result
-      → IsLeast (own_at at) (block_at at) table set result
-  least-split relation start result least highest joins = record {
-    kept = joins.kept;
-    least = λ node stands. elim (reads-or-joins (block_at at) set node stands) [
-      | inl reads ↦ absurd (no-reading (block_at at) relation set least highest node reads stands)
+  pub least-split : (relation : ℕ) (start result : Entry) → 2 ^ relation < sought.set → sought.set < 2 ^ (relation + 1) → IsFound sought start
+      → Considers sought (IsBeforeLeft sought.set) start result → IsLeastFound sought result
+  least-split relation start result least highest found joins = record {
+    kept = joins.kept found;
+    least = λ node stands. elim (reads-or-joins (block_at sought.at) sought.set node stands) [
+      | inl reads ↦ absurd (no-reading (block_at sought.at) relation sought.set least highest node reads stands)
       | inr before ↦ joins.all node before stands
     ];
   }

@@ -1,4 +1,4 @@
--- What was found for a set at one point serves at each point that has the same levels on the edges inside the set: there
+-- What was found for a set at one point serves at each point that has the same levels on the axes inside the set: there
 -- cards, own costs and the costs of least entries are the same.
 use Rattle.std.proofs.Common.{◌≡◌, ℕ, zero, suc, ◌+◌, ◌-◌, ◌*◌, ◌^◌, ◌<◌, ◌≤◌, ◌&&◌, ◌||◌, ◌⊎◌, inl, inr, not, Bool, true, false, IsTrue, cond, List, [], ◌∷◌, length, nat_eq, bit_and, bit_or, refl, ap, subst, ◌∙◌, arith}
 use Rattle.std.specs.Prelude.{slice_index}

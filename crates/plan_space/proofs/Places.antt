@@ -48,7 +48,7 @@ is-point grid inside point is = record {
   levels = All-kept_levels inside 0 grid.levels point is.levels;
 }
 
--- where these are the edges inside a set, it is alike for the set
+-- where these are the axes inside a set, it is alike for the set
 pub alike-place : (at : Pricing) (set : ℕ) (inside : List Bool) (place : ℕ) → IsCosting (costing_tree at.costing) → IsPoint at.costing.grid at.point → AreInside (block_at at) set inside
     → place ≡ place_at at.costing.grid.levels (kept_levels inside 0 at.point) → IsAlikePlace at set place
 alike-place at set inside place is point edges there = record {

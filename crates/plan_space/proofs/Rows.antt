@@ -1,23 +1,10 @@
 -- The rows of a grid's first points.
-use Rattle.std.proofs.Common.{◌≡◌, ℕ, ◌+◌, ◌^◌, ◌<◌, ◌≤◌, Bool, true, false, List, [], ◌∷◌, ◌++◌, Some, length, nat_lt, get_or, refl, sym, ap, subst, ◌∙◌, length-append, arith}
+use Rattle.std.proofs.Common.{◌≡◌, ◌+◌, ◌<◌, ◌≤◌, Bool, true, false, List, [], ◌∷◌, ◌++◌, Some, length, nat_lt, get_or, refl, sym, ap, subst, ◌∙◌, length-append, arith}
 use Rattle.std.proofs.lemmas.List.{get_or_append_left, get_or-append-add}
 use Rattle.ess_grid.specs.Points.{point_at}
-use Rattle.query_block.specs.Blocks.{block_tree}
 use Rattle.cost_model.specs.Costing.{CostingShape}
 use Rattle.plan_space.specs.declared.entry.Entry.{Entry}
-use Rattle.plan_space.specs.Table.{AreLeast}
-use Rattle.cost_model.specs.Prices.{own_at}
-use Rattle.plan_space.specs.Alike.{AreLeastRows}
-
--- the entries of a row are least at a point
-abbrev pub LeastAt : CostingShape → (point : List ℕ) → List Entry → Type 0
-LeastAt costing point row =
-    AreLeast (own_at (record { costing = costing; point = point })) (block_tree costing.block) row (2 ^ length (block_tree costing.block).relations)
-
--- so at the point at this place
-abbrev pub IsLeastRow : CostingShape → (place : ℕ) → List Entry → Type 0
-IsLeastRow costing place row =
-    (point : List ℕ) → point_at costing.grid place ≡ Some point → LeastAt costing point row
+use Rattle.plan_space.specs.Alike.{LeastAt, IsLeastRow, AreLeastRows}
 
 pub moved : (costing other : CostingShape) (rows lent : List (List Entry)) → AreLeastRows costing rows → costing ≡ other → lent ≡ rows → AreLeastRows other lent
 moved costing other rows lent least same is = subst (λ one. AreLeastRows one lent) same (subst (AreLeastRows costing) (sym is) least)

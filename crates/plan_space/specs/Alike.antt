@@ -1,7 +1,7 @@
 -- When what was found for a set at one point serves at another one, and the tables of many points.
 use Rattle.std.specs.Prelude.{◌≡◌, ℕ, ◌^◌, ◌<◌, Bool, false, Some, IsTrue, List, [], length, slice_index, slice_index_or}
 use Rattle.ess_grid.specs.Points.{point_at}
-use Rattle.query_block.specs.Blocks.{BlockTree, block_tree}
+use Rattle.query_block.specs.Blocks.{BlockTree, axis_of_edge, block_tree}
 use Rattle.query_block.specs.Meaning.{is_inside}
 use Rattle.plan_tree.specs.Enumerated.{edge_at}
 use Rattle.plan_tree.specs.Sets.{set_of}
@@ -11,10 +11,10 @@ use Rattle.plan_space.specs.Table.{AreLeast}
 use Rattle.cost_model.specs.Pricing.{Pricing}
 use Rattle.cost_model.specs.Prices.{own_at, block_at}
 
--- each edge inside a set has the same level at both points: then each plan of the set costs the same at both
+-- the axis of each edge inside a set has the same level at both points: then each plan of the set costs the same at both
 pub record IsAlike (block : BlockTree) (set : ℕ) (point other : List ℕ) : Type 0 where
   pub levels : (edge : ℕ) → edge < length block.edges → IsTrue (is_inside (set_of set) (edge_at block.edges edge))
-      → slice_index point edge ≡ slice_index other edge
+      → slice_index point (axis_of_edge edge) ≡ slice_index other (axis_of_edge edge)
 
 -- the point of the grid at this place is such a one
 pub record IsAlikePlace (at : Pricing) (set place : ℕ) : Type 0 where
@@ -22,18 +22,31 @@ pub record IsAlikePlace (at : Pricing) (set place : ℕ) : Type 0 where
   pub there : point_at at.costing.grid place ≡ Some other
   pub alike : IsAlike (block_at at) set other at.point
 
--- for each edge, whether it is inside a set
+-- for each axis, whether its edge is inside a set
 abbrev pub AreInside : BlockTree → (set : ℕ) → List Bool → Type 0
 AreInside block set inside =
-    (edge : ℕ) → edge < length block.edges → slice_index_or inside edge false ≡ is_inside (set_of set) (edge_at block.edges edge)
+    (edge : ℕ) → edge < length block.edges → slice_index_or inside (axis_of_edge edge) false ≡ is_inside (set_of set) (edge_at block.edges edge)
 
 -- the same for all sets
 abbrev pub AreInsideSets : BlockTree → List (List Bool) → Type 0
 AreInsideSets block inside = (set : ℕ) → set < 64 → AreInside block set (slice_index_or inside set [])
 
--- the tables of the first points of the grid, each a row: its entries are least at its point
+-- the entries of a row are least at a point
+abbrev pub LeastAt : CostingShape → (point : List ℕ) → List Entry → Type 0
+LeastAt costing point row =
+    AreLeast (own_at (record { costing = costing; point = point })) (block_tree costing.block) row (2 ^ length (block_tree costing.block).relations)
+
+-- so at the point at this place of the grid
+abbrev pub IsLeastRow : CostingShape → (place : ℕ) → List Entry → Type 0
+IsLeastRow costing place row = (point : List ℕ) → point_at costing.grid place ≡ Some point → LeastAt costing point row
+
+-- the tables of the first points of the grid, each a row
 abbrev pub AreLeastRows : CostingShape → List (List Entry) → Type 0
 AreLeastRows costing rows =
     (place : ℕ) (point : List ℕ) → place < length rows → point_at costing.grid place ≡ Some point
-    → AreLeast (own_at (record { costing = costing; point = point })) (block_tree costing.block)
-    (slice_index_or rows place []) (2 ^ length (block_tree costing.block).relations)
+    → LeastAt costing point (slice_index_or rows place [])
+
+-- what is known of earlier points: which axes are inside which sets, and the tables of the first points
+pub record AreEarlier (costing : CostingShape) (inside : List (List Bool)) (rows : List (List Entry)) : Type 0 where
+  pub edges : AreInsideSets (block_tree costing.block) inside
+  pub tables : AreLeastRows costing rows

@@ -1,3 +1,4 @@
 pub mod Table
+pub mod Search
 pub mod Steps
 pub mod Alike

@@ -1,13 +1,13 @@
 -- What each step of the search for a set's entry has considered.
-use Rattle.std.specs.Prelude.{◌≡◌, ℕ, ◌<◌, ◌≤◌, IsTrue, List, nat_eq}
+use Rattle.std.specs.Prelude.{◌≡◌, ◌⊎◌, ℕ, ◌<◌, IsTrue, List, nat_eq}
 use Rattle.std.specs.List.{list_any}
 use Rattle.plan_tree.specs.declared.roots.Root.{Root}
 use Rattle.plan_tree.specs.declared.roots.Root.TheVariants as root
 use Rattle.plan_space.specs.declared.entry.Entry.{Entry}
 use Rattle.plan_tree.specs.Roots.{Stands}
-use Rattle.plan_space.specs.Table.{offered, NotLater, IsOffered, AreLeast}
-use Rattle.cost_model.specs.Pricing.{Pricing}
-use Rattle.cost_model.specs.Prices.{IsSetOf, own_at, block_at}
+use Rattle.plan_space.specs.Table.{offered, NotLater}
+use Rattle.plan_space.specs.Search.{SearchShape, IsFound}
+use Rattle.cost_model.specs.Prices.{own_at, block_at}
 
 -- some nodes
 abbrev pub Group : Type 1
@@ -30,6 +30,10 @@ IsBeforeEdge edge left (root.Nest side) = ⊥
 IsBeforeEdge edge left (root.Hash number side) = (number < edge) × (side ≡ left)
 IsBeforeEdge edge left (root.Merge number side) = (number < edge) × (side ≡ left)
 IsBeforeEdge edge left (root.IndexLoop number side relation) = (number < edge) × (side ≡ left)
+
+-- the joins by one edge that read both sides
+abbrev pub IsPairBy : (edge left : ℕ) → Group
+IsPairBy edge left node = (node ≡ root.Hash edge left) ⊎ (node ≡ root.Merge edge left)
 
 -- all joins with this left side
 abbrev pub IsByLeft : (left : ℕ) → Group
@@ -58,18 +62,13 @@ ReadsRelation (root.Hash number side) = ⊥
 ReadsRelation (root.Merge number side) = ⊥
 ReadsRelation (root.IndexLoop number side relation) = ⊥
 
--- the entries of all smaller sets are least
-pub record IsFilledBelow (at : Pricing) (table : List Entry) (set : ℕ) : Type 0 where
-  pub some : 1 ≤ set
-  pub below : IsSetOf (block_at at) set
-  pub small : set < 64
-  pub filled : AreLeast (own_at at) (block_at at) table set
-
--- the result is a node over entries, not later than what was found before nor than any node of a group
-pub record Considers (at : Pricing) (table : List Entry) (set : ℕ) (group : Group) (before after : Entry) : Type 0 where
-  pub kept : IsOffered (own_at at) (block_at at) table set after
+-- after the step an entry is kept that is a node over entries where the one before was, and that is not later than the one
+-- before, nor than any node of a group
+pub record Considers (sought : SearchShape) (group : Group) (before after : Entry) : Type 0 where
+  pub kept : IsFound sought before → IsFound sought after
   pub found : NotLater after before
-  pub all : (node : Root) → group node → Stands (block_at at) node set → NotLater after (offered (own_at at) table node set)
+  pub all : (node : Root) → group node → Stands (block_at sought.at) node sought.set
+      → NotLater after (offered (own_at sought.at) sought.table node sought.set)
 
 -- look-ups by one edge with this left side
 abbrev pub IsLookUpBy : (edge left : ℕ) → Group

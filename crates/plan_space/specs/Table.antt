@@ -1,6 +1,6 @@
 -- The table that is filled: for each set of relations the cheapest way to join it, by the entries of smaller sets. What a
 -- node costs by itself is a function of the node and the set.
-use Rattle.std.specs.Prelude.{◌≡◌, ℕ, ◌+◌, ◌-◌, ◌*◌, ◌^◌, ◌<◌, ◌≤◌, List, ◌∷◌, slice_index_or, false}
+use Rattle.std.specs.Prelude.{◌≡◌, ◌⊎◌, ℕ, ◌+◌, ◌-◌, ◌*◌, ◌^◌, ◌<◌, ◌≤◌, List, ◌∷◌, slice_index_or, false}
 use Rattle.std.specs.Ordering.{nat_cmp, is_gt}
 use Rattle.std.specs.Cmp.Lexicographic.{slice_cmp}
 use Rattle.query_block.specs.Blocks.{BlockTree}
@@ -9,7 +9,7 @@ use Rattle.plan_tree.specs.declared.roots.Root.{Root}
 use Rattle.plan_tree.specs.declared.roots.Root.TheVariants as root
 use Rattle.plan_space.specs.declared.entry.Entry.{Entry}
 use Rattle.plan_tree.specs.Roots.{root_numbers, Stands}
-use Rattle.cost_model.specs.Prices.{OwnCost}
+use Rattle.cost_model.specs.Prices.{OwnCost, IsSetOf}
 
 -- the entry of a set
 abbrev pub entry_at : List Entry → (set : ℕ) → Entry
@@ -35,6 +35,12 @@ rank entry = entry.cost ∷ root_numbers entry.root
 abbrev pub NotLater : Entry → Entry → Type 0
 NotLater entry other = is_gt (slice_cmp nat_cmp (rank entry) (rank other)) ≡ false
 
+-- of what was found and what is offered, the one that is kept is not later than either
+pub record IsFirstOf (found offered kept : Entry) : Type 0 where
+  pub either : (kept ≡ found) ⊎ (kept ≡ offered)
+  pub to_found : NotLater kept found
+  pub to_offered : NotLater kept offered
+
 -- the entry of a set is a node over the entries of its sides, and its cost is far from the end of 128 bits
 pub record IsOffered (own : OwnCost) (block : BlockTree) (table : List Entry) (set : ℕ) (entry : Entry) : Type 0 where
   pub stands : Stands block entry.root set
@@ -53,6 +59,12 @@ AreLeast own block table end = (set : ℕ) → 1 ≤ set → set < end → IsLea
 -- each of these nodes may be the outermost one of a plan of its set
 abbrev pub AreStanding : BlockTree → List Entry → (end : ℕ) → Type 0
 AreStanding block table end = (set : ℕ) → 1 ≤ set → set < end → Stands block (entry_at table set).root set
+
+-- a set of the block's relations that has an entry
+pub record HasEntry (block : BlockTree) (set : ℕ) : Type 0 where
+  pub some : 1 ≤ set
+  pub below : IsSetOf block set
+  pub small : set < 64
 
 -- the plan has in each node the entry of the node's set
 abbrev pub Follows : List Entry → PlanTree → (set : ℕ) → Type 0

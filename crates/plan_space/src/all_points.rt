@@ -1,16 +1,16 @@
 // The best plans of a block at all points of its grid.
 ghost use Rattle.std.specs.Prelude.{◌≡◌, ℕ, ◌^◌, ◌<◌, ◌≤◌, List, Some, IfOk, length};
+ghost use Rattle.sql_values.specs.Limits.{cost_bound};
 ghost use Rattle.ess_grid.specs.Points.{points_of, point_at};
 ghost use Rattle.query_block.specs.Blocks.{block_tree};
 ghost use Rattle.plan_tree.specs.Plans.{plan_tree};
 ghost use Rattle.cost_model.specs.Costing.{costing_tree};
 ghost use Rattle.cost_model.specs.Best.{IsBest};
 ghost use Rattle.cost_model.specs.Optimal.{optimal_cost};
-ghost use Rattle.plan_space.specs.Table.{AreLeast, AreStanding};
-ghost use Rattle.cost_model.specs.Prices.{own_at};
-ghost use Rattle.plan_space.specs.Alike.{AreInsideSets, AreLeastRows};
+ghost use Rattle.plan_space.specs.Table.{AreStanding};
+ghost use Rattle.plan_space.specs.Alike.{AreEarlier, AreLeastRows, IsLeastRow};
 
-use crate::alike::edges_inside_sets;
+use crate::alike::axes_inside_sets;
 use crate::entry::Entry;
 use crate::search::rebuilt;
 use crate::sets::set_of_all;
@@ -55,13 +55,9 @@ fn row_of(
     rows: &[[Entry; 64]],
     place: usize,
 ) -> [Entry; 64]
-    requires inside { AreInsideSets (block_tree costing.now.block) inside.now }
-    requires rows { AreLeastRows costing.now rows.now }
+    requires earlier { AreEarlier costing.now inside.now rows.now }
     requires place { place < length (points_of costing.now.grid) }
-    ensures { (point : List ℕ) → point_at costing.now.grid place ≡ Some point →
-        AreLeast (own_at (record { costing = costing.now; point = point }))
-        (block_tree costing.now.block) result
-        (2 ^ length (block_tree costing.now.block).relations) }
+    ensures { IsLeastRow costing.now place result }
 {
     let q = costing.grid().point(place);
     filled(&Prices::new(costing, &q, room), inside, rows)
@@ -72,7 +68,7 @@ fn rows_of(alloc: Global, costing: &Costing<'_>) -> Result<Vec<[Entry; 64]>, All
     ensures rows { IfOk result (λ rows. AreLeastRows costing.now rows.items) }
     ensures all { IfOk result (λ rows. length rows.items ≡ length (points_of costing.now.grid)) }
 {
-    let inside = edges_inside_sets(costing.block());
+    let inside = axes_inside_sets(costing.block());
     let points = costing.grid().points();
     let mut room = PriceRoom::new();
     let mut rows = Vec::with_capacity(alloc, points)?;
@@ -84,7 +80,7 @@ fn rows_of(alloc: Global, costing: &Costing<'_>) -> Result<Vec<[Entry; 64]>, All
 }
 
 /// Finds the best plans at all points at once: each set of relations is searched once for each combination of the levels of
-/// the edges inside it. An error is want of memory.
+/// the axes inside it. An error is want of memory.
 pub fn best_at_all_points<'c>(
     alloc: Global,
     costing: &'c Costing<'c>,
@@ -99,10 +95,7 @@ impl BestPlans<'_> {
     // The entries at the point at this place.
     fn row(&self, place: usize) -> &[Entry; 64]
         requires { place < length (points_of self.now.grid) }
-        ensures least { (point : List ℕ) → point_at self.now.grid place ≡ Some point →
-            AreLeast (own_at (record { costing = self.now; point = point }))
-            (block_tree self.now.block) result.now
-            (2 ^ length (block_tree self.now.block).relations) }
+        ensures least { IsLeastRow self.now place result.now }
         ensures stands { AreStanding (block_tree self.now.block) result.now
             (2 ^ length (block_tree self.now.block).relations) }
     {
@@ -114,10 +107,10 @@ impl BestPlans<'_> {
         requires { place < length (points_of self.now.grid) }
         ensures cost { (point : List ℕ) → point_at self.now.grid place ≡ Some point →
             result ≡ optimal_cost (costing_tree self.now) point }
-        ensures bound { result < 2 ^ 113 }
+        ensures bound { result < cost_bound }
     {
         let all = set_of_all(self.costing.block());
-        self.row(place)[all as usize].cost
+        self.row(place)[all.number() as usize].cost
     }
 
     /// The best plan at the point at this place of the grid, from 0: of all plans of the block the cheapest, and of equally

@@ -1,9 +1,9 @@
 // What is kept of the best plan of a set of relations, and which of two such plans is kept.
-ghost use Rattle.std.specs.Prelude.{◌≡◌, ◌⊎◌};
+ghost use Rattle.std.specs.Prelude.{◌≡◌};
 ghost use Rattle.std.specs.Ordering.{nat_cmp};
 ghost use Rattle.std.specs.Cmp.Lexicographic.{slice_cmp};
 ghost use Rattle.plan_tree.specs.Roots.{root_numbers};
-ghost use Rattle.plan_space.specs.Table.{NotLater};
+ghost use Rattle.plan_space.specs.Table.{IsFirstOf};
 
 use plan_tree::Root;
 use std::cmp::Ordering;
@@ -36,30 +36,24 @@ fn root_order(root: Root, other: Root) -> Ordering
     root_numbers(root).cmp(&root_numbers(other))
 }
 
-// Of two plans of equal cost, whose outermost nodes these are, the second where it is first in plan order.
-fn keep_first(found: Entry, root: Root) -> Entry
-    ensures either { (result ≡ found) ⊎ (result ≡ record { cost = found.cost; root = root }) }
-    ensures found { NotLater result found }
-    ensures offered { NotLater result (record { cost = found.cost; root = root }) }
+// Of two plans of equal cost, the second where its outermost node is first in plan order.
+fn keep_first(found: Entry, offered: Entry) -> Entry
+    requires { found.cost ≡ offered.cost }
+    ensures { IsFirstOf found offered result }
 {
-    match root_order(found.root, root) {
-        Ordering::Greater => Entry {
-            cost: found.cost,
-            root,
-        },
+    match root_order(found.root, offered.root) {
+        Ordering::Greater => offered,
         _ => found,
     }
 }
 
 /// Of the plan that was found and the plan that is offered, the cheaper one; of equally cheap ones the first in plan order.
-pub(crate) fn keep(found: Entry, cost: u128, root: Root) -> Entry
-    ensures either { (result ≡ found) ⊎ (result ≡ record { cost = cost; root = root }) }
-    ensures found { NotLater result found }
-    ensures offered { NotLater result (record { cost = cost; root = root }) }
+pub(crate) fn keep(found: Entry, offered: Entry) -> Entry
+    ensures { IsFirstOf found offered result }
 {
-    match found.cost.cmp(&cost) {
+    match found.cost.cmp(&offered.cost) {
         Ordering::Less => found,
-        Ordering::Equal => keep_first(found, root),
-        Ordering::Greater => Entry { cost, root },
+        Ordering::Equal => keep_first(found, offered),
+        Ordering::Greater => offered,
     }
 }

@@ -1,175 +1,118 @@
 // The joins that may be the outermost node of a plan of a set: each split of the set into two sides, and for each split a
 // nested loop and the joins by each edge that crosses it.
-ghost use Rattle.std.specs.Prelude.{◌≡◌, ◌↔◌, ◌⊎◌, ◌-◌, ◌^◌, ◌<◌, ◌≤◌, IsTrue, bit_and, length};
-ghost use Rattle.query_block.specs.Blocks.{block_tree, relation_at};
-ghost use Rattle.plan_tree.specs.declared.roots.Root.TheVariants.{Nest, Hash, Merge};
-ghost use Rattle.plan_tree.specs.Roots.{IsCrossed, IsSplit};
-ghost use Rattle.plan_space.specs.Table.{IsOffered};
-ghost use Rattle.cost_model.specs.Prices.{own_at, block_at};
-ghost use Rattle.plan_space.specs.Steps.{Considers, IsFilledBelow, IsByEdge, IsBeforeEdge, IsByLeft, IsBeforeLeft, IsLookUpBy};
+ghost use Rattle.std.specs.Prelude.{◌≡◌, ◌-◌, ◌^◌, ◌<◌, ◌≤◌, length};
+ghost use Rattle.plan_tree.specs.declared.roots.Root.TheVariants.{Nest};
+ghost use Rattle.plan_tree.specs.Roots.{IsSplit};
+ghost use Rattle.plan_space.specs.Search.{JoinsSides};
+ghost use Rattle.plan_space.specs.Steps.{Considers, IsByEdge, IsBeforeEdge, IsByLeft, IsBeforeLeft, IsLookUpBy, IsPairBy};
 
 use crate::entry::Entry;
-use crate::steps::{both_sides, consider, least_sides, left_side};
-use cost_model::Prices;
-use plan_tree::{Root, column_of_edge, is_crossed, is_indexed};
+use crate::steps::Search;
+use plan_tree::{Root, Subset, column_of_edge, is_crossed, is_indexed};
 
-// A nested loop of the two sides of a set.
-fn by_nest(prices: &Prices<'_>, table: &[Entry; 64], set: u8, left: u8, start: Entry) -> Entry
-    requires ready { IsFilledBelow prices.now table.now set }
-    requires split { IsSplit left set }
-    requires start { IsOffered (own_at prices.now) (block_at prices.now) table.now set start }
-    ensures { Considers prices.now table.now set (λ node. node ≡ Nest left) start result }
-{
-    let cost = both_sides(prices, table, set, left) + prices.nest(left, set);
-    consider(prices, table, set, start, cost, Root::Nest(left))
-}
-
-// A hash join and a merge join of the two sides of a set by an edge.
-fn by_pairs(
-    prices: &Prices<'_>,
-    table: &[Entry; 64],
-    set: u8,
-    left: u8,
-    edge: u8,
-    start: Entry,
-) -> Entry
-    requires ready { IsFilledBelow prices.now table.now set }
-    requires split { IsSplit left set }
-    requires crossed { IsCrossed (block_at prices.now).edges edge left (set - left) }
-    requires start { IsOffered (own_at prices.now) (block_at prices.now) table.now set start }
-    ensures { Considers prices.now table.now set
-        (λ node. (node ≡ Hash edge left) ⊎ (node ≡ Merge edge left)) start result }
-{
-    let sides = both_sides(prices, table, set, left);
-    let candidates = prices.candidates(edge, left, set);
-    let cost = sides + prices.hash(edge, left, set, candidates);
-    let found = consider(prices, table, set, start, cost, Root::Hash(edge, left));
-    let cost = sides + prices.merge(edge, left, set, candidates);
-    consider(prices, table, set, found, cost, Root::Merge(edge, left))
-}
-
-// The index loop by an edge whose right side is this one relation.
-fn by_relation(
-    prices: &Prices<'_>,
-    table: &[Entry; 64],
-    set: u8,
-    left: u8,
-    edge: u8,
-    relation: u8,
-    start: Entry,
-) -> Entry
-    requires ready { IsFilledBelow prices.now table.now set }
-    requires split { IsSplit left set }
-    requires crossed { IsCrossed (block_at prices.now).edges edge left (set - left) }
-    requires relation { set - left ≡ 2 ^ relation }
-    requires start { IsOffered (own_at prices.now) (block_at prices.now) table.now set start }
-    ensures { Considers prices.now table.now set (IsLookUpBy edge left) start result }
-{
-    let block = prices.block();
-    let column = column_of_edge(block, edge, relation);
-    if !is_indexed(block, relation, column) {
-        return start;
+impl Search<'_> {
+    // A nested loop of the two sides of the set.
+    fn by_nest(&self, left: Subset, start: Entry) -> Entry
+        requires { IsSplit left self.now.set }
+        ensures { Considers self.now (λ node. node ≡ Nest left) start result }
+    {
+        let own = self.prices.nest(left, self.set);
+        self.consider(Root::Nest(left.number()), own, start)
     }
-    let side = left_side(prices, table, set, left);
-    let cost = side + prices.index_loop(edge, left, relation, set);
-    consider(
-        prices,
-        table,
-        set,
-        start,
-        cost,
-        Root::IndexLoop(edge, left, relation),
-    )
-}
 
-// The index loop by an edge, where the right side of a set is one relation.
-fn by_look_up(
-    prices: &Prices<'_>,
-    table: &[Entry; 64],
-    set: u8,
-    left: u8,
-    edge: u8,
-    start: Entry,
-) -> Entry
-    requires ready { IsFilledBelow prices.now table.now set }
-    requires split { IsSplit left set }
-    requires crossed { IsCrossed (block_at prices.now).edges edge left (set - left) }
-    requires start { IsOffered (own_at prices.now) (block_at prices.now) table.now set start }
-    ensures { Considers prices.now table.now set (IsLookUpBy edge left) start result }
-{
-    let right = set - left;
-    let relation = right.trailing_zeros() as u8;
-    if right != 1 << relation {
-        return start;
+    // A hash join and a merge join of the two sides by an edge.
+    fn by_pairs(&self, left: Subset, edge: u8, start: Entry) -> Entry
+        requires { JoinsSides self.now edge left }
+        ensures { Considers self.now (IsPairBy edge left) start result }
+    {
+        let candidates = self.prices.candidates(edge, left, self.set);
+        let side = left.number();
+        let own = self.prices.hash(edge, left, self.set, candidates);
+        let found = self.consider(Root::Hash(edge, side), own, start);
+        let own = self.prices.merge(edge, left, self.set, candidates);
+        self.consider(Root::Merge(edge, side), own, found)
     }
-    by_relation(prices, table, set, left, edge, relation, start)
-}
 
-// The joins of the two sides of a set by an edge.
-fn by_edge(
-    prices: &Prices<'_>,
-    table: &[Entry; 64],
-    set: u8,
-    left: u8,
-    edge: u8,
-    start: Entry,
-) -> Entry
-    requires ready { IsFilledBelow prices.now table.now set }
-    requires split { IsSplit left set }
-    requires edge { edge < length prices.now.costing.block.edges }
-    requires start { IsOffered (own_at prices.now) (block_at prices.now) table.now set start }
-    ensures { Considers prices.now table.now set (IsByEdge edge left) start result }
-{
-    if !is_crossed(prices.block(), edge, left, set - left) {
-        return start;
+    // The index loop by an edge whose right side is this one relation.
+    fn by_relation(&self, left: Subset, edge: u8, relation: u8, start: Entry) -> Entry
+        requires sides { JoinsSides self.now edge left }
+        requires relation { self.now.set - left ≡ 2 ^ relation }
+        ensures { Considers self.now (IsLookUpBy edge left) start result }
+    {
+        let block = self.prices.block();
+        let column = column_of_edge(block, edge, relation);
+        if !is_indexed(block, relation, column) {
+            return start;
+        }
+        let own = self.prices.index_loop(edge, left, relation, self.set);
+        self.consider(Root::IndexLoop(edge, left.number(), relation), own, start)
     }
-    let found = by_pairs(prices, table, set, left, edge, start);
-    by_look_up(prices, table, set, left, edge, found)
-}
 
-// The joins of the two sides of a set by all edges.
-fn by_edges(prices: &Prices<'_>, table: &[Entry; 64], set: u8, left: u8, start: Entry) -> Entry
-    requires ready { IsFilledBelow prices.now table.now set }
-    requires split { IsSplit left set }
-    requires start { IsOffered (own_at prices.now) (block_at prices.now) table.now set start }
-    ensures { Considers prices.now table.now set
-        (IsBeforeEdge (length prices.now.costing.block.edges) left) start result }
-{
-    let mut found = start;
-    for edge in 0..prices.block().edges().len() {
-        found = by_edge(prices, table, set, left, edge as u8, found);
+    // The index loop by an edge, where the right side of the set is one relation.
+    fn by_look_up(&self, left: Subset, edge: u8, start: Entry) -> Entry
+        requires { JoinsSides self.now edge left }
+        ensures { Considers self.now (IsLookUpBy edge left) start result }
+    {
+        let right = self.set.without(left).number();
+        let relation = right.trailing_zeros() as u8;
+        if right != 1 << relation {
+            return start;
+        }
+        self.by_relation(left, edge, relation, start)
     }
-    found
-}
 
-// All joins of a set with this left side, where it is one. They aren't looked at where their sides alone cost more than what was
-// found.
-fn by_left(prices: &Prices<'_>, table: &[Entry; 64], set: u8, left: u8, start: Entry) -> Entry
-    requires ready { IsFilledBelow prices.now table.now set }
-    requires some { 1 ≤ left }
-    requires less { left < set }
-    requires start { IsOffered (own_at prices.now) (block_at prices.now) table.now set start }
-    ensures { Considers prices.now table.now set (IsByLeft left) start result }
-{
-    if left & (set - left) != 0 {
-        return start;
+    // The joins of the two sides of the set by an edge.
+    fn by_edge(&self, left: Subset, edge: u8, start: Entry) -> Entry
+        requires split { IsSplit left self.now.set }
+        requires edge { edge < length self.now.at.costing.block.edges }
+        ensures { Considers self.now (IsByEdge edge left) start result }
+    {
+        if !is_crossed(self.prices.block(), edge, left, self.set.without(left)) {
+            return start;
+        }
+        let found = self.by_pairs(left, edge, start);
+        self.by_look_up(left, edge, found)
     }
-    if least_sides(prices, table, set, left) > start.cost {
-        return start;
-    }
-    let found = by_nest(prices, table, set, left, start);
-    by_edges(prices, table, set, left, found)
-}
 
-/// All joins of a set.
-pub(crate) fn joins(prices: &Prices<'_>, table: &[Entry; 64], set: u8, start: Entry) -> Entry
-    requires ready { IsFilledBelow prices.now table.now set }
-    requires start { IsOffered (own_at prices.now) (block_at prices.now) table.now set start }
-    ensures { Considers prices.now table.now set (IsBeforeLeft set) start result }
-{
-    let mut found = start;
-    for left in 1..set {
-        found = by_left(prices, table, set, left, found);
+    // The joins of the two sides of the set by all edges.
+    fn by_edges(&self, left: Subset, start: Entry) -> Entry
+        requires { IsSplit left self.now.set }
+        ensures { let edges = length self.now.at.costing.block.edges in
+            Considers self.now (IsBeforeEdge edges left) start result }
+    {
+        let mut found = start;
+        for edge in 0..self.prices.block().edges().len() {
+            found = self.by_edge(left, edge as u8, found);
+        }
+        found
     }
-    found
+
+    // All joins of the set whose left side has this number, where there is one. They aren't looked at where their sides alone
+    // cost more than what was found.
+    fn by_left(&self, left: u8, start: Entry) -> Entry
+        requires some { 1 ≤ left }
+        requires less { left < self.now.set }
+        ensures { Considers self.now (IsByLeft left) start result }
+    {
+        if left & (self.set.number() - left) != 0 {
+            return start;
+        }
+        let left = Subset::new(left);
+        if self.least_sides(left) > start.cost {
+            return start;
+        }
+        let found = self.by_nest(left, start);
+        self.by_edges(left, found)
+    }
+
+    /// All joins of the set.
+    pub(crate) fn joins(&self, start: Entry) -> Entry
+        ensures { Considers self.now (IsBeforeLeft self.now.set) start result }
+    {
+        let mut found = start;
+        for left in 1..self.set.number() {
+            found = self.by_left(left, found);
+        }
+        found
+    }
 }

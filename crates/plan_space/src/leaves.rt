@@ -1,14 +1,15 @@
 // The ways to read one relation: a scan, and a scan by each index on a column that has a usable conjunct.
-ghost use Rattle.std.specs.Prelude.{◌≡◌, ◌↔◌, ◌^◌, ◌<◌, ◌≤◌, IsTrue, length, take};
-ghost use Rattle.query_block.specs.Blocks.{block_tree, relation_at};
+ghost use Rattle.std.specs.Prelude.{◌≡◌, ◌↔◌, ◌<◌, IsTrue, length, take};
+ghost use Rattle.query_block.specs.Blocks.{relation_at};
 ghost use Rattle.plan_tree.specs.Enumerated.{IsIndexed, IsScannable};
-ghost use Rattle.plan_tree.specs.declared.roots.Root.TheVariants.{IndexScan};
-ghost use Rattle.plan_space.specs.Table.{IsOffered};
-ghost use Rattle.cost_model.specs.Prices.{own_at, block_at};
-ghost use Rattle.plan_space.specs.Steps.{Considers, IsFilledBelow, ReadsRelation, IsScanBy};
+ghost use Rattle.plan_tree.specs.declared.roots.Root.TheVariants.{Scan, IndexScan};
+ghost use Rattle.plan_tree.specs.Roots.{Stands};
+ghost use Rattle.cost_model.specs.Prices.{block_at};
+ghost use Rattle.plan_space.specs.Search.{IsFound};
+ghost use Rattle.plan_space.specs.Steps.{Considers, ReadsRelation, IsScanBy};
 
 use crate::entry::Entry;
-use crate::steps::consider;
+use crate::steps::Search;
 use cost_model::Prices;
 use plan_tree::Root;
 
@@ -22,73 +23,44 @@ fn is_scannable(prices: &Prices<'_>, relation: u8, column: u8) -> bool
     prices.index(relation, column).matches.is_some()
 }
 
-// A scan by the index on a column, where it is one.
-fn by_column(
-    prices: &Prices<'_>,
-    table: &[Entry; 64],
-    set: u8,
-    relation: u8,
-    column: u8,
-    start: Entry,
-) -> Entry
-    requires ready { IsFilledBelow prices.now table.now set }
-    requires relation { relation < length prices.now.costing.block.relations }
-    requires set { set ≡ 2 ^ relation }
-    requires column { IsIndexed (relation_at (block_at prices.now).relations relation) column }
-    requires start { IsOffered (own_at prices.now) (block_at prices.now) table.now set start }
-    ensures { Considers prices.now table.now set (λ node. node ≡ IndexScan relation column)
-        start result }
-{
-    if !is_scannable(prices, relation, column) {
-        return start;
+impl Search<'_> {
+    // A scan of the one relation of the set by the index on a column, where it is one.
+    fn by_column(&self, relation: u8, column: u8, start: Entry) -> Entry
+        requires one { Stands (block_at self.now.at) (Scan relation) self.now.set }
+        requires column { IsIndexed (relation_at (block_at self.now.at).relations relation) column }
+        ensures { Considers self.now (λ node. node ≡ IndexScan relation column) start result }
+    {
+        if !is_scannable(self.prices, relation, column) {
+            return start;
+        }
+        let own = self.prices.index_scan(relation, column, self.set);
+        self.consider(Root::IndexScan(relation, column), own, start)
     }
-    let cost = prices.index_scan(relation, column, set);
-    consider(
-        prices,
-        table,
-        set,
-        start,
-        cost,
-        Root::IndexScan(relation, column),
-    )
-}
 
-// The scans by all indexes of a relation.
-fn by_columns(
-    prices: &Prices<'_>,
-    table: &[Entry; 64],
-    set: u8,
-    relation: u8,
-    start: Entry,
-) -> Entry
-    requires ready { IsFilledBelow prices.now table.now set }
-    requires relation { relation < length prices.now.costing.block.relations }
-    requires set { set ≡ 2 ^ relation }
-    requires start { IsOffered (own_at prices.now) (block_at prices.now) table.now set start }
-    ensures { Considers prices.now table.now set
-        (IsScanBy relation (relation_at (block_at prices.now).relations relation).indexes)
-        start result }
-{
-    let indexes = prices.block().relations()[relation as usize]
-        .indexes
-        .as_slice();
-    let mut found = start;
-    for i in 0..indexes.len() {
-        found = by_column(prices, table, set, relation, indexes[i], found);
+    // The scans of the one relation of the set by all of its indexes.
+    fn by_columns(&self, relation: u8, start: Entry) -> Entry
+        requires { Stands (block_at self.now.at) (Scan relation) self.now.set }
+        ensures { let indexes = (relation_at (block_at self.now.at).relations relation).indexes in
+            Considers self.now (IsScanBy relation indexes) start result }
+    {
+        let indexes = self.prices.block().relations()[relation as usize]
+            .indexes
+            .as_slice();
+        let mut found = start;
+        for i in 0..indexes.len() {
+            found = self.by_column(relation, indexes[i], found);
+        }
+        found
     }
-    found
-}
 
-/// All ways to read the one relation of a set.
-pub(crate) fn readings(prices: &Prices<'_>, table: &[Entry; 64], set: u8, relation: u8) -> Entry
-    requires ready { IsFilledBelow prices.now table.now set }
-    requires relation { relation < length prices.now.costing.block.relations }
-    requires set { set ≡ 2 ^ relation }
-    ensures { Considers prices.now table.now set ReadsRelation result result }
-{
-    let start = Entry {
-        cost: prices.scan(relation, set),
-        root: Root::Scan(relation),
-    };
-    by_columns(prices, table, set, relation, start)
+    /// All ways to read the one relation of the set.
+    pub(crate) fn readings(&self, relation: u8) -> Entry
+        requires { Stands (block_at self.now.at) (Scan relation) self.now.set }
+        ensures found { IsFound self.now result }
+        ensures all { Considers self.now ReadsRelation result result }
+    {
+        let own = self.prices.scan(relation, self.set);
+        let start = self.offered(Root::Scan(relation), own);
+        self.by_columns(relation, start)
+    }
 }

@@ -6,15 +6,15 @@ ghost use Rattle.plan_tree.specs.Plans.{plan_tree, covers_of};
 ghost use Rattle.cost_model.specs.Costing.{costing_tree};
 ghost use Rattle.cost_model.specs.Best.{IsBest};
 ghost use Rattle.cost_model.specs.Optimal.{optimal_cost};
-ghost use Rattle.plan_space.specs.Table.{Follows, AreStanding};
+ghost use Rattle.plan_space.specs.Table.{Follows, AreStanding, HasEntry};
 
-use crate::alike::edges_inside_sets;
+use crate::alike::axes_inside_sets;
 use crate::entry::Entry;
 use crate::sets::set_of_all;
 use crate::table::filled;
 use cost_model::{Costing, PriceRoom, Prices};
 use ess_grid::Point;
-use plan_tree::{Plan, Root};
+use plan_tree::{Plan, Root, Subset};
 use query_block::Block;
 use std::alloc::{AllocError, Global};
 
@@ -24,13 +24,11 @@ fn boxed(
     alloc: Global,
     block: &Block,
     table: &[Entry; 64],
-    set: u8,
+    set: Subset,
 ) -> Result<Box<Plan>, AllocError>
     requires stands { AreStanding (block_tree block.now) table.now
         (2 ^ length (block_tree block.now).relations) }
-    requires some { 1 ≤ set }
-    requires below { set < 2 ^ length (block_tree block.now).relations }
-    requires small { set < 64 }
+    requires set { HasEntry (block_tree block.now) set }
     ensures follows { IfOk result (λ p. Follows table.now (plan_tree p.value) set) }
     ensures covers { IfOk result (λ p. covers_of (plan_tree p.value) ≡ set) }
 {
@@ -44,36 +42,37 @@ pub(crate) fn rebuilt(
     alloc: Global,
     block: &Block,
     table: &[Entry; 64],
-    set: u8,
+    set: Subset,
 ) -> Result<Plan, AllocError>
     requires stands { AreStanding (block_tree block.now) table.now
         (2 ^ length (block_tree block.now).relations) }
-    requires some { 1 ≤ set }
-    requires below { set < 2 ^ length (block_tree block.now).relations }
-    requires small { set < 64 }
+    requires set { HasEntry (block_tree block.now) set }
     ensures follows { IfOk result (λ p. Follows table.now (plan_tree p) set) }
     ensures covers { IfOk result (λ p. covers_of (plan_tree p) ≡ set) }
 {
-    match table[set as usize].root {
+    match table[set.number() as usize].root {
         Root::Scan(relation) => Ok(Plan::Scan(relation)),
         Root::IndexScan(relation, column) => Ok(Plan::IndexScan(relation, column)),
         Root::Nest(left) => {
-            let right = set - left;
+            let left = Subset::new(left);
+            let right = set.without(left);
             let left = boxed(alloc, block, table, left)?;
             Ok(Plan::Nest(left, boxed(alloc, block, table, right)?))
         }
         Root::Hash(edge, left) => {
-            let right = set - left;
+            let left = Subset::new(left);
+            let right = set.without(left);
             let left = boxed(alloc, block, table, left)?;
             Ok(Plan::Hash(edge, left, boxed(alloc, block, table, right)?))
         }
         Root::Merge(edge, left) => {
-            let right = set - left;
+            let left = Subset::new(left);
+            let right = set.without(left);
             let left = boxed(alloc, block, table, left)?;
             Ok(Plan::Merge(edge, left, boxed(alloc, block, table, right)?))
         }
         Root::IndexLoop(edge, left, relation) => {
-            let left = boxed(alloc, block, table, left)?;
+            let left = boxed(alloc, block, table, Subset::new(left))?;
             Ok(Plan::IndexLoop(edge, left, relation))
         }
     }
@@ -87,10 +86,10 @@ fn best_at(alloc: Global, prices: &Prices<'_>) -> Result<(Plan, u128), AllocErro
         found.1 ≡ optimal_cost (costing_tree prices.now.costing) prices.now.point) }
 {
     let block = prices.block();
-    let table = filled(prices, &edges_inside_sets(block), &[]);
+    let table = filled(prices, &axes_inside_sets(block), &[]);
     let all = set_of_all(block);
     let p = rebuilt(alloc, block, &table, all)?;
-    Ok((p, table[all as usize].cost))
+    Ok((p, table[all.number() as usize].cost))
 }
 
 /// The best plan of the block at a point of the costing's grid, and what it costs there: of all plans of the block the

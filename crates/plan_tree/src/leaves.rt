@@ -5,7 +5,7 @@ ghost use Rattle.std.specs.List.{list_any};
 ghost use Rattle.plan_tree.specs.Plans.{plan_tree, leaves_of, has_leaf, covers_of, FitsSet, BitsAreLeaves};
 
 use crate::plan::Plan;
-use crate::set_numbers::set_of_one;
+use crate::subset::Subset;
 
 /// Whether a plan joins a relation.
 #[cycle(has_leaf)]
@@ -49,18 +49,18 @@ pub(crate) fn leaf_count(p: &Plan) -> u8
     }
 }
 
-/// The relations that a plan joins, as a set: bit r for relation r. It takes no memory.
+/// The relations that a plan joins. It takes no memory.
 #[cycle(covers)]
-pub fn covers(p: &Plan) -> u8
+pub fn covers(p: &Plan) -> Subset
     requires { FitsSet (plan_tree p.now) }
     ensures { result ≡ covers_of (plan_tree p.now) }
 {
     match p {
-        Plan::Scan(leaf) | Plan::IndexScan(leaf, _) => set_of_one(*leaf),
+        Plan::Scan(leaf) | Plan::IndexScan(leaf, _) => Subset::one(*leaf),
         Plan::Nest(left, right) | Plan::Hash(_, left, right) | Plan::Merge(_, left, right) => {
-            covers(left) | covers(right)
+            covers(left).union(covers(right))
         }
-        Plan::IndexLoop(_, left, leaf) => covers(left) | set_of_one(*leaf),
+        Plan::IndexLoop(_, left, leaf) => covers(left).union(Subset::one(*leaf)),
     }
 }
 

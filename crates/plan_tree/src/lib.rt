@@ -15,7 +15,7 @@ mod range;
 mod read;
 mod roots;
 mod rules;
-mod set_numbers;
+mod subset;
 mod text;
 mod usable;
 
@@ -28,6 +28,6 @@ pub use range::{WordRange, range_of};
 pub use read::{PlanFault, read_plan};
 pub use roots::Root;
 pub use rules::{is_indexed, is_plan};
-pub use set_numbers::{column_of_edge, is_crossed, is_in_set, set_of_one};
+pub use subset::{Subset, column_of_edge, is_crossed};
 pub use text::plan_text;
 pub use usable::{has_usable, is_usable};

@@ -20,10 +20,10 @@ fn node_numbers(p: &Plan) -> [u8; 5]
     match p {
         Plan::Scan(relation) => [0, 0, *relation, 0, 0],
         Plan::IndexScan(relation, column) => [1, 0, *relation, *column, 0],
-        Plan::Nest(left, _) => [2, 0, 0, 0, covers(left)],
-        Plan::Hash(edge, left, _) => [3, *edge, 0, 0, covers(left)],
-        Plan::Merge(edge, left, _) => [4, *edge, 0, 0, covers(left)],
-        Plan::IndexLoop(edge, left, _) => [5, *edge, 0, 0, covers(left)],
+        Plan::Nest(left, _) => [2, 0, 0, 0, covers(left).number()],
+        Plan::Hash(edge, left, _) => [3, *edge, 0, 0, covers(left).number()],
+        Plan::Merge(edge, left, _) => [4, *edge, 0, 0, covers(left).number()],
+        Plan::IndexLoop(edge, left, _) => [5, *edge, 0, 0, covers(left).number()],
     }
 }
 

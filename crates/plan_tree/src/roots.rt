@@ -6,7 +6,7 @@ ghost use Rattle.plan_tree.specs.Enumerated.{has_usable, is_indexed};
 ghost use Rattle.plan_tree.specs.AllPlans.{column_scans_of, end_of_columns, hashes_by, index_scans_of, is_looked_up, is_split, is_split_by, loops_by, loops_from, merges_by, nests_of, one_where, roots_of, scans_of};
 
 use crate::rules::{has_usable_on, is_indexed};
-use crate::set_numbers::{column_of_edge, is_crossed, set_of_one};
+use crate::subset::{Subset, column_of_edge, is_crossed};
 use query_block::Block;
 use std::alloc::{AllocError, Global};
 
@@ -52,7 +52,7 @@ fn is_split_by(block: &Block, set: u8, edge: u8, left: u8) -> bool
     requires left { left ≤ set }
     ensures { result ≡ is_split_by (block_tree block.now) set edge left }
 {
-    is_split(set, left) && is_crossed(block, edge, left, set - left)
+    is_split(set, left) && is_crossed(block, edge, Subset::new(left), Subset::new(set - left))
 }
 
 // Whether the right side is one relation, with an index on its column of the edge.
@@ -63,7 +63,7 @@ fn is_looked_up(block: &Block, set: u8, edge: u8, left: u8, relation: u8) -> boo
     requires few { relation < 8 }
     ensures { result ≡ is_looked_up (block_tree block.now) set edge left relation }
 {
-    set - left == set_of_one(relation)
+    set - left == Subset::one(relation).number()
         && is_indexed(block, relation, column_of_edge(block, edge, relation))
 }
 
@@ -85,7 +85,11 @@ fn put_scans(block: &Block, set: u8, into: &mut Vec<Root>) -> Result<(), AllocEr
 {
     for relation in 0..block.relations().len() {
         let relation = relation as u8;
-        push_where(into, set == set_of_one(relation), Root::Scan(relation))?;
+        push_where(
+            into,
+            set == Subset::one(relation).number(),
+            Root::Scan(relation),
+        )?;
     }
     Ok(())
 }
@@ -97,7 +101,7 @@ fn is_found(block: &Block, set: u8, relation: u8, column: u8) -> bool
     ensures { let tree = relation_at (block_tree block.now).relations relation in result
         ≡ (nat_eq set (2 ^ relation) && is_indexed tree column && has_usable tree column) }
 {
-    if set != set_of_one(relation) || !is_indexed(block, relation, column) {
+    if set != Subset::one(relation).number() || !is_indexed(block, relation, column) {
         return false;
     }
     has_usable_on(block, relation, column)

@@ -2,12 +2,13 @@
 // leads anywhere.
 ghost use Rattle.std.specs.Prelude.{ℕ, ◌≡◌, ◌↔◌, ◌<◌, ◌≤◌, IsTrue, length};
 ghost use Rattle.query_block.specs.Blocks.{block_tree, relation_at};
-ghost use Rattle.plan_tree.specs.Plans.{plan_tree, has_leaf, Scan};
-ghost use Rattle.plan_tree.specs.Enumerated.{column_on, edge_at, AreApart, Crosses, IsIndexed, HasUsable, IsLookUp, IsScannable, IsSubPlan, IsPlan};
+ghost use Rattle.plan_tree.specs.Plans.{plan_tree, has_leaf};
+ghost use Rattle.plan_tree.specs.Enumerated.{AreApart, Crosses, IsIndexed, HasUsable, IsLookUp, IsScannable, IsSubPlan, IsPlan};
 ghost use Rattle.plan_tree.specs.Sets.{is_between};
 
 use crate::leaves::{has_leaf, share_leaf};
 use crate::plan::Plan;
+use crate::subset::column_of_edge;
 use crate::usable::has_usable;
 use query_block::{Block, Edge};
 
@@ -57,25 +58,6 @@ fn joins(edge: &Edge, left: &Plan, right: &Plan) -> bool
         || has_leaf(left, edge.right) && has_leaf(right, edge.left)
 }
 
-// The same, with one relation on the right.
-fn leads_to(edge: &Edge, left: &Plan, relation: u8) -> bool
-    ensures { result ≡ is_between (has_leaf (plan_tree left.now)) (has_leaf (Scan relation)) edge.now }
-{
-    has_leaf(left, edge.left) && edge.right == relation
-        || has_leaf(left, edge.right) && edge.left == relation
-}
-
-// The column of one of its relations that an edge compares.
-fn column_on(edge: &Edge, relation: u8) -> u8
-    ensures { result ≡ column_on edge.now relation }
-{
-    if relation == edge.left {
-        edge.left_column
-    } else {
-        edge.right_column
-    }
-}
-
 // Whether the edge exists and crosses the two sides.
 fn crosses(block: &Block, edge: u8, left: &Plan, right: &Plan) -> bool
     ensures { IsTrue result
@@ -88,31 +70,16 @@ fn crosses(block: &Block, edge: u8, left: &Plan, right: &Plan) -> bool
     joins(&edges[edge as usize], left, right)
 }
 
-// Whether the edge exists and crosses from the left side to one relation.
-fn crosses_to(block: &Block, edge: u8, left: &Plan, relation: u8) -> bool
-    ensures { IsTrue result
-        ↔ Crosses block.now.edges edge (plan_tree left.now) (Scan relation) }
-{
-    let edges = block.edges();
-    if edge as usize >= edges.len() {
-        return false;
-    }
-    leads_to(&edges[edge as usize], left, relation)
-}
-
 // Whether a relation may be looked up by an edge for each row of the left side.
 fn is_look_up(block: &Block, edge: u8, left: &Plan, relation: u8) -> bool
     ensures { IsTrue result
         ↔ IsLookUp (block_tree block.now) edge (plan_tree left.now) relation }
 {
-    if !is_relation(block, relation)
-        || has_leaf(left, relation)
-        || !crosses_to(block, edge, left, relation)
-    {
+    if !is_relation(block, relation) || has_leaf(left, relation) {
         return false;
     }
-    let column = column_on(&block.edges()[edge as usize], relation);
-    is_indexed(block, relation, column)
+    crosses(block, edge, left, &Plan::Scan(relation))
+        && is_indexed(block, relation, column_of_edge(block, edge, relation))
 }
 
 // Whether a tree is a plan of some of the block's relations.

@@ -28,12 +28,11 @@ use Rattle.sql_bind.specs.declared.fault.BindFault.{BindFault}
 use Rattle.sql_bind.specs.declared.fault.BindFault.TheVariants.{Limit, TypeMismatch}
 use Rattle.sql_bind.specs.declared.reach.Reach.{Reach}
 use Rattle.sql_bind.specs.declared.reach.Reach.TheVariants.{Nothing, One, Several}
-use Rattle.sql_bind.specs.Named.{NamedTable}
+use Rattle.sql_bind.specs.Named.{NamedTable, IsNamed}
 use Rattle.sql_bind.specs.Names.{may_name, places_among, places_from, named_places, named_once, written_column_fault, first_place, place_of, first_fault_from, written_columns_fault}
 use Rattle.sql_bind.specs.Predicates.{predicates, predicates_of_all, kind_in, is_text_term, agree, are_alike, term_fault, terms_fault, kinds_fault, operands_fault, predicate_fault, predicates_fault}
 use Rattle.sql_bind.specs.Conjuncts.{conjuncts, conjuncts_of_all, joined_reach, reach_of_term, reach_of_terms, reach_of, reach_of_all, edge_between, filtered, is_relation, edge_in, edge_of, conjuncts_fault, bound_operand, negated_if, bound_condition, bound_conditions}
 use Rattle.sql_bind.specs.Binding.{named_table, named_tables, past_limit, from_fault, projection_fault, conjuncts_in, condition_fault, edges_of, is_filter_of, filter_of, columns_from, every_column, projection_of, relations_from, block_of, bind_fault}
-use Rattle.sql_bind.specs.Refused.{IsNamed}
 use Rattle.sql_bind.proofs.Faults.{first_fault-append}
 
 -- no check refuses

@@ -9,8 +9,8 @@ use Rattle.sql_parse.specs.Counts.{predicates_in, predicates_in_all}
 use Rattle.sql_bind.specs.declared.fault.BindFault.{BindFault}
 use Rattle.sql_bind.specs.declared.fault.BindFault.TheVariants.{NoMemory}
 use Rattle.sql_bind.specs.Names.{first_fault_from}
-use Rattle.sql_bind.specs.Predicates.{predicates, predicates_of_all}
-use Rattle.sql_bind.specs.Conjuncts.{conjuncts, conjuncts_of_all}
+use Rattle.sql_bind.specs.Predicates.{predicates, predicates_of_all, all_predicates}
+use Rattle.sql_bind.specs.Conjuncts.{conjuncts, all_conjuncts}
 use Rattle.sql_bind.specs.Refused.{RefusesBlock}
 
 or-assoc : {A : Type 0} (a b c : Option A) → option_or (option_or a b) c ≡ option_or a (option_or b c)
@@ -71,17 +71,11 @@ refused_at fault all one flat due n parts i part found below is left some =
     left ∙ from-place fault all one flat n parts i part below is
     ∙ ap (λ first. option_or first (first_fault_from fault (n + length (one part)) (all (drop (i + 1) parts)))) some
 
-abbrev pub all_predicates : List Cond → List ConditionTree
-all_predicates parts = predicates_of_all (operands (map condition_tree parts))
-
 abbrev pub predicates_in_part : Cond → List ConditionTree
 predicates_in_part part = predicates (condition_tree part)
 
 pub predicates-flat : IsFlat all_predicates predicates_in_part
 predicates-flat part parts = refl
-
-abbrev pub all_conjuncts : List Cond → List ConditionTree
-all_conjuncts parts = conjuncts_of_all (operands (map condition_tree parts))
 
 abbrev pub conjuncts_in_part : Cond → List ConditionTree
 conjuncts_in_part part = conjuncts (condition_tree part)

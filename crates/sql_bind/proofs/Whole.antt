@@ -1,5 +1,5 @@
 -- The parts of a query, put together, are its block, which fits the database.
-use Rattle.std.proofs.Common.{◌≡◌, ◌∙◌, ℕ, ◌+◌, ◌<◌, List, [], ◌∷◌, ◌++◌, Option, Some, None, All, length, map, replicate, refl, sym, ap, arith, subst}
+use Rattle.std.proofs.Common.{◌≡◌, ◌∙◌, ℕ, ◌+◌, ◌<◌, List, [], ◌∷◌, ◌++◌, Option, Some, None, All, length, map, replicate, refl, sym, ap, arith}
 use Rattle.std.proofs.lemmas.List.{length-map, length-replicate}
 use Rattle.std.proofs.lemmas.List.Elements.{All-nil, All-cons, All-contains_itself}
 use Rattle.std.proofs.lemmas.List.Quantifiers.{position-Some}
@@ -76,41 +76,23 @@ same_block relations other edges edges' projection projection' same_relations sa
     ∙ ap (λ e. record { relations = other; edges = e; projection = projection }) same_edges
     ∙ ap (λ p. record { relations = other; edges = edges'; projection = p }) same_projection
 
--- the parts, put together
-pub assembled : (database : DatabaseState) (query : QueryTree) (tables : List NamedTable) (parts : Parts) (relations : List RelationTree) (projection : List ColumnAt)
-    → tables ≡ named_tables database query.from → HasParts tables (conjuncts_in query.condition) parts → relations ≡ with_filters tables (filter_trees parts.filters.items)
-    → projection ≡ projection_of tables query.columns
-    → (let block : BlockTree = record { relations = relations; edges = parts.edges.items; projection = projection } in block) ≡ block_of database query
-assembled database query tables parts relations projection is has made asked =
+-- parts that no check refused, put together, are the block, and nothing refuses the query
+pub whole : (database : DatabaseState) (query : QueryTree) (from : List Item) (tables : List NamedTable) (parts : Parts) (relations : List RelationTree) (projection : List ColumnAt) (edges : ℕ)
+    → from ≡ query.from → tables ≡ named_tables database from → HasParts tables (conjuncts_in query.condition) parts → relations ≡ with_filters tables (filter_trees parts.filters.items)
+    → projection ≡ projection_of tables query.columns → past_limit limit.Relations max_relations (length from) ≡ None → from_fault database [] from ≡ None
+    → projection_fault tables query.columns ≡ None → condition_fault tables query.condition ≡ None → edges ≡ length parts.edges.items → past_limit limit.Axes max_axes edges ≡ None
+    → ((let block : BlockTree = record { relations = relations; edges = parts.edges.items; projection = projection } in block) ≡ block_of database query) × (bind_fault database query ≡ None)
+whole database query from tables parts relations projection edges items is has made asked few from_none projection_none condition_none count axes_none =
     let conjuncts = conjuncts_in query.condition in
-    let blocks : List NamedTable → BlockTree = λ some. record { relations = relations_from some conjuncts 0 some; edges = edges_of some conjuncts; projection = projection_of some query.columns } in
-    same_block relations (relations_from tables conjuncts 0 tables) parts.edges.items (edges_of tables conjuncts) projection (projection_of tables query.columns)
-    (made ∙ ap (with_filters tables) has.filters ∙ relations-of_parts tables conjuncts 0 tables) has.edges asked
-    ∙ ap blocks is
-
--- the same of tables that were lent
-pub assembled-lent : (database : DatabaseState) (query : QueryTree) (from : List Item) (tables one two three : List NamedTable) (parts : Parts) (relations : List RelationTree) (projection : List ColumnAt)
-    → from ≡ query.from → tables ≡ named_tables database from → one ≡ tables → two ≡ tables → three ≡ tables → HasParts two (conjuncts_in query.condition) parts
-    → relations ≡ with_filters three (filter_trees parts.filters.items) → projection ≡ projection_of one query.columns
-    → (let block : BlockTree = record { relations = relations; edges = parts.edges.items; projection = projection } in block) ≡ block_of database query
-assembled-lent database query from tables one two three parts relations projection items is first second third has made asked =
-    assembled database query tables parts relations projection (is ∙ ap (named_tables database) items)
-    (subst (λ some. HasParts some (conjuncts_in query.condition) parts) second has)
-    (made ∙ ap (λ some. with_filters some (filter_trees parts.filters.items)) third)
-    (asked ∙ ap (λ some. projection_of some query.columns) first)
-
--- none of the checks refused
-pub unrefused : (database : DatabaseState) (query : QueryTree) (from : List Item) (tables one two : List NamedTable) (parts : Parts) (edges : ℕ)
-    → from ≡ query.from → tables ≡ named_tables database from → one ≡ tables → two ≡ tables → HasParts two (conjuncts_in query.condition) parts → edges ≡ length parts.edges.items
-    → past_limit limit.Relations max_relations (length from) ≡ None → from_fault database [] from ≡ None → projection_fault one query.columns ≡ None → condition_fault two query.condition ≡ None
-    → past_limit limit.Axes max_axes edges ≡ None → bind_fault database query ≡ None
-unrefused database query from tables one two parts edges items is first second has count few from_none projection_none condition_none axes_none =
     let named = is ∙ ap (named_tables database) items in
-    let conjuncts = conjuncts_in query.condition in
-    let edges_are : edges ≡ length (edges_of (named_tables database query.from) conjuncts) =
-    count ∙ ap length has.edges ∙ ap (λ some. length (edges_of some conjuncts)) (second ∙ named) in
-    none_of _ _ (ap (λ some. past_limit limit.Relations max_relations (length some)) (sym items) ∙ few)
-    (none_of _ _ (ap (from_fault database []) (sym items) ∙ from_none)
-    (none_of _ _ (ap (λ some. projection_fault some query.columns) (sym (first ∙ named)) ∙ projection_none)
-    (none_of _ _ (ap (λ some. condition_fault some query.condition) (sym (second ∙ named)) ∙ condition_none)
-    (ap (past_limit limit.Axes max_axes) (sym edges_are) ∙ axes_none))))
+    let blocks : List NamedTable → BlockTree = λ some. record { relations = relations_from some conjuncts 0 some; edges = edges_of some conjuncts; projection = projection_of some query.columns } in
+    let edges_are : edges ≡ length (edges_of (named_tables database query.from) conjuncts) = count ∙ ap length has.edges ∙ ap (λ some. length (edges_of some conjuncts)) named in (
+      same_block relations (relations_from tables conjuncts 0 tables) parts.edges.items (edges_of tables conjuncts) projection (projection_of tables query.columns)
+          (made ∙ ap (with_filters tables) has.filters ∙ relations-of_parts tables conjuncts 0 tables) has.edges asked
+          ∙ ap blocks named,
+      none_of _ _ (ap (λ some. past_limit limit.Relations max_relations (length some)) (sym items) ∙ few)
+          (none_of _ _ (ap (from_fault database []) (sym items) ∙ from_none)
+          (none_of _ _ (ap (λ some. projection_fault some query.columns) (sym named) ∙ projection_none)
+          (none_of _ _ (ap (λ some. condition_fault some query.condition) (sym named) ∙ condition_none)
+          (ap (past_limit limit.Axes max_axes) (sym edges_are) ∙ axes_none)))),
+    )

@@ -7,8 +7,13 @@ use Rattle.std.specs.declared.vec.Vec.{Vec}
 use Rattle.sql_parse.specs.Trees.{ConditionTree}
 use Rattle.sql_bind.specs.declared.conjuncts.Parts.{Parts}
 use Rattle.sql_bind.specs.Named.{NamedTable}
+use Rattle.sql_bind.specs.Conjuncts.{bound_condition}
 use Rattle.query_block.specs.Blocks.{RelationTree}
 use Rattle.sql_bind.specs.Binding.{edges_of, filter_of, relation_with}
+
+-- a condition with its columns by number
+abbrev pub IsBound : List NamedTable → ConditionTree → Condition → Type 0
+IsBound tables written bound = filter_tree bound ≡ bound_condition tables written
 
 -- the trees of a filter for each relation
 abbrev pub filter_trees : List (Vec Condition Global) → List (List FilterTree)

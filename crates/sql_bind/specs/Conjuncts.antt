@@ -8,9 +8,10 @@ use Rattle.query_block.specs.declared.condition.Operand.{Operand}
 use Rattle.query_block.specs.declared.condition.Operand.TheVariants as operand
 use Rattle.query_block.specs.Conditions.{FilterTree, FilterTrees}
 use Rattle.query_block.specs.Conditions as bound
+use Rattle.sql_parse.specs.declared.tree.Cond.{Cond}
 use Rattle.sql_parse.specs.declared.tree.Term.{Term}
 use Rattle.sql_parse.specs.declared.tree.Term.TheVariants.{Column, Literal}
-use Rattle.sql_parse.specs.Trees.{ConditionTree, ConditionTrees, Compare, Between, OneOf, IsNull, Not, And, Or, NoMore, More}
+use Rattle.sql_parse.specs.Trees.{ConditionTree, ConditionTrees, Compare, Between, OneOf, IsNull, Not, And, Or, NoMore, More, condition_tree, operands}
 use Rattle.sql_bind.specs.declared.fault.BindFault.{BindFault}
 use Rattle.sql_bind.specs.declared.fault.BindFault.TheVariants.{PredicateForm}
 use Rattle.sql_bind.specs.declared.reach.Reach.{Reach}
@@ -32,6 +33,10 @@ abbrev mutual
   pub conjuncts_of_all : ConditionTrees → List ConditionTree
   conjuncts_of_all NoMore = []
   conjuncts_of_all (More part parts) = conjuncts part ++ conjuncts_of_all parts
+
+-- those of the operands of a chain of AND
+abbrev pub all_conjuncts : List Cond → List ConditionTree
+all_conjuncts parts = conjuncts_of_all (operands (map condition_tree parts))
 
 -- the relations of two groups of columns together
 abbrev pub joined_reach : Reach → Reach → Reach

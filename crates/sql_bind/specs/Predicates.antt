@@ -5,9 +5,10 @@ use Rattle.std.specs.Option.{option_or}
 use Rattle.sql_values.specs.declared.column.ColumnType.{ColumnType}
 use Rattle.query_block.specs.declared.edge.ColumnAt.{ColumnAt}
 use Rattle.query_block.specs.Blocks.{kind_at, holds_texts, is_text}
+use Rattle.sql_parse.specs.declared.tree.Cond.{Cond}
 use Rattle.sql_parse.specs.declared.tree.Term.{Term}
 use Rattle.sql_parse.specs.declared.tree.Term.TheVariants.{Column, Literal}
-use Rattle.sql_parse.specs.Trees.{ConditionTree, ConditionTrees, Compare, Between, OneOf, IsNull, Not, And, Or, NoMore, More}
+use Rattle.sql_parse.specs.Trees.{ConditionTree, ConditionTrees, Compare, Between, OneOf, IsNull, Not, And, Or, NoMore, More, condition_tree, operands}
 use Rattle.sql_bind.specs.declared.fault.BindFault.{BindFault}
 use Rattle.sql_bind.specs.declared.fault.BindFault.TheVariants.{TypeMismatch}
 use Rattle.sql_bind.specs.Named.{NamedTable}
@@ -27,6 +28,10 @@ abbrev mutual
   pub predicates_of_all : ConditionTrees → List ConditionTree
   predicates_of_all NoMore = []
   predicates_of_all (More part parts) = predicates part ++ predicates_of_all parts
+
+-- those of the operands of a chain
+abbrev pub all_predicates : List Cond → List ConditionTree
+all_predicates parts = predicates_of_all (operands (map condition_tree parts))
 
 -- the operands of a predicate, in written order
 abbrev pub terms_of : ConditionTree → List Term

@@ -1,25 +1,27 @@
--- When a check refuses, and what a look-up has found so far.
-use Rattle.std.specs.Prelude.{◌≡◌, ◌≢◌, ◌<◌, ◌≤◌, nat_eq, All, length, List, fold, Option, Some, None, Result, OnOk, IfErr}
-use Rattle.std.specs.List.{IsDistinct}
-use Rattle.sql_values.specs.Limits.{max_columns}
+-- When a check refuses, what comes of a query, and what a look-up has found so far.
+use Rattle.std.specs.Prelude.{◌≡◌, ◌≢◌, List, fold, Option, Some, None, Result, OnOk, IfOk, IfErr}
+use Rattle.query_block.specs.Shape.{BlockShape}
 use Rattle.query_block.specs.declared.edge.ColumnAt.{ColumnAt}
+use Rattle.query_block.specs.Blocks.{block_tree}
+use Rattle.sql_parse.specs.Trees.{QueryTree}
+use Rattle.db_catalog.specs.Database.{DatabaseState}
+use Rattle.db_catalog.specs.Fits.{Fits}
 use Rattle.sql_bind.specs.declared.fault.BindFault.{BindFault}
 use Rattle.sql_bind.specs.declared.fault.BindFault.TheVariants.{NoMemory}
-use Rattle.sql_bind.specs.Named.{NamedTable}
 use Rattle.sql_bind.specs.declared.names.Found.{Found}
 use Rattle.sql_bind.specs.declared.names.Found.TheVariants.{Nothing, One, Several}
+use Rattle.sql_bind.specs.Binding.{block_of, bind_fault}
 
 -- a call is refused with the fault that is due, and otherwise it isn't; only memory may be wanting besides
 pub record RefusesBlock {T : Type 0} (due : Option BindFault) (result : Result T BindFault) : Type 0 where
   pub answered : OnOk result (due ≡ None)
   pub refused : IfErr result (λ fault. fault ≢ NoMemory → due ≡ Some fault)
 
--- a table of FROM has 1 to 32 columns, and different indexed columns among them
-pub record IsNamed (table : NamedTable) : Type 0 where
-  pub some : 1 ≤ length table.columns
-  pub few : length table.columns ≤ max_columns
-  pub indexed : All (λ column. column < length table.columns) table.indexed
-  pub different : IsDistinct nat_eq table.indexed
+-- a query's answer is its block, which fits the database; it is refused with the fault that is due
+pub record Binds (database : DatabaseState) (query : QueryTree) (result : Result BlockShape BindFault) : Type 0 where
+  pub block : IfOk result (λ block. block_tree block ≡ block_of database query)
+  pub fits : IfOk result (λ block. Fits database (block_tree block))
+  pub refuses : RefusesBlock (bind_fault database query) result
 
 -- a column more is found
 abbrev pub added : Found → ColumnAt → Found

@@ -1,35 +1,34 @@
 // The block of a query: the checks in their order, and then its parts.
-ghost use Rattle.std.specs.Prelude.{◌≡◌, ◌≤◌, ◌<◌, ◌^◌, [], All, IfOk, IfSome, length, map, option_map, replicate};
-ghost use Rattle.sql_values.specs.Limits.{max_relations, max_columns};
+ghost use Rattle.std.specs.Prelude.{◌≡◌, ◌<◌, ◌^◌, [], IfOk, IfSome, length, map, option_map, replicate};
 ghost use Rattle.query_block.specs.Conditions.{filter_tree};
-ghost use Rattle.query_block.specs.Blocks.{block_tree, relation_tree};
+ghost use Rattle.query_block.specs.Blocks.{relation_tree};
 ghost use Rattle.sql_parse.specs.Trees.{condition_tree, query_tree};
 ghost use Rattle.sql_parse.specs.Counts.{predicates_in, of_condition};
 ghost use Rattle.sql_parse.specs.WellFormed.{IsWellFormedQuery, IsWellFormedCondition};
-ghost use Rattle.db_catalog.specs.Fits.{Fits};
-ghost use Rattle.sql_bind.specs.Binding.{block_of, bind_fault, condition_fault, conjuncts_in, relation_with};
+ghost use Rattle.sql_bind.specs.Binding.{condition_fault, conjuncts_in, relation_with};
 ghost use Rattle.sql_bind.specs.Conjuncts.{conjuncts};
 ghost use Rattle.sql_bind.specs.Collected.{HasParts, filter_trees, with_filters};
-ghost use Rattle.sql_bind.specs.Refused.{RefusesBlock};
+ghost use Rattle.sql_bind.specs.Refused.{Binds, RefusesBlock};
 
 use crate::conjuncts::{Parts, add_conjuncts};
 use crate::fault::BindFault;
 use crate::from::{check_limit, named_tables};
-use crate::names::NamedTable;
 use crate::predicates::check_predicates;
 use crate::projection::projection;
+use crate::scope::{NamedTable, Scope};
 use db_catalog::Database;
 use query_block::{Block, Condition, Relation};
 use sql_parse::{Cond, Query};
 use sql_values::{ColumnDef, ColumnType, LimitName, MAX_AXES, MAX_RELATIONS, Sequence};
 use std::alloc::{AllocError, Global};
 
-// No conjunct yet, for so many relations.
-fn no_parts(alloc: Global, relations: usize) -> Result<Parts, AllocError>
+// No conjunct yet.
+fn no_parts(alloc: Global, scope: &Scope<'_>) -> Result<Parts, AllocError>
     ensures edges { IfOk result (λ parts. parts.edges.items ≡ []) }
     ensures filters { IfOk result
-        (λ parts. filter_trees parts.filters.items ≡ replicate relations []) }
+        (λ parts. filter_trees parts.filters.items ≡ replicate (length scope.now) []) }
 {
+    let relations = scope.tables().len();
     let mut filters = Vec::with_capacity(alloc, relations)?;
     for _relation in 0..relations {
         filters.push(Vec::new(alloc))?;
@@ -39,39 +38,37 @@ fn no_parts(alloc: Global, relations: usize) -> Result<Parts, AllocError>
 }
 
 // The parts of a condition: its predicates are checked first.
-fn parts_of(alloc: Global, tables: &[NamedTable<'_>], condition: &Cond) -> Result<Parts, BindFault>
-    requires few { length tables.now ≤ max_relations }
-    requires narrow { All (λ table. length table.columns ≤ max_columns) tables.now }
+fn parts_of(alloc: Global, scope: &Scope<'_>, condition: &Cond) -> Result<Parts, BindFault>
     requires well_formed { IsWellFormedCondition (condition_tree condition.now) }
     requires counted { predicates_in (condition_tree condition.now) < 2 ^ 32 }
-    ensures refuses { RefusesBlock (condition_fault tables.now (Some (condition_tree condition.now))) result }
-    ensures parts { IfOk result (HasParts tables.now (conjuncts (condition_tree condition.now))) }
+    ensures refuses { RefusesBlock
+        (condition_fault scope.now (Some (condition_tree condition.now))) result }
+    ensures parts { IfOk result (HasParts scope.now (conjuncts (condition_tree condition.now))) }
 {
-    let _ = check_predicates(alloc, tables, condition, 1)?;
-    let mut parts = no_parts(alloc, tables.len())?;
-    let _ = add_conjuncts(alloc, tables, condition, 1, &mut parts)?;
+    let _ = check_predicates(alloc, scope, condition, 1)?;
+    let mut parts = no_parts(alloc, scope)?;
+    let _ = add_conjuncts(alloc, scope, condition, 1, &mut parts)?;
     Ok(parts)
 }
 
 // The parts of the condition of WHERE, if there is one.
 fn condition_parts(
     alloc: Global,
-    tables: &[NamedTable<'_>],
+    scope: &Scope<'_>,
     condition: &Option<Cond>,
 ) -> Result<Parts, BindFault>
-    requires few { length tables.now ≤ max_relations }
-    requires narrow { All (λ table. length table.columns ≤ max_columns) tables.now }
     requires well_formed { IfSome (option_map condition_tree condition.now) IsWellFormedCondition }
-    requires counted { of_condition predicates_in (option_map condition_tree condition.now) < 2 ^ 32 }
+    requires counted { of_condition predicates_in
+        (option_map condition_tree condition.now) < 2 ^ 32 }
     ensures refuses { RefusesBlock
-        (condition_fault tables.now (option_map condition_tree condition.now)) result }
+        (condition_fault scope.now (option_map condition_tree condition.now)) result }
     ensures parts { IfOk result
-        (HasParts tables.now (conjuncts_in (option_map condition_tree condition.now))) }
+        (HasParts scope.now (conjuncts_in (option_map condition_tree condition.now))) }
 {
     match condition {
-        Some(condition) => parts_of(alloc, tables, condition),
+        Some(condition) => parts_of(alloc, scope, condition),
         None => {
-            let parts = no_parts(alloc, tables.len())?;
+            let parts = no_parts(alloc, scope)?;
             Ok(parts)
         }
     }
@@ -110,13 +107,14 @@ fn relation_with(
 // The tables of FROM with their filters.
 fn relations_with(
     alloc: Global,
-    tables: &[NamedTable<'_>],
+    scope: &Scope<'_>,
     filters: Vec<Vec<Condition>>,
 ) -> Result<Vec<Relation>, AllocError>
-    requires { length filters.items ≡ length tables.now }
+    requires { length filters.items ≡ length scope.now }
     ensures { IfOk result (λ relations. map relation_tree relations.items
-        ≡ with_filters tables.now (filter_trees filters.items)) }
+        ≡ with_filters scope.now (filter_trees filters.items)) }
 {
+    let tables = scope.tables();
     let mut relations = Vec::with_capacity(alloc, tables.len())?;
     for filter in filters {
         let at = relations.len();
@@ -136,17 +134,15 @@ fn relations_with(
 pub fn bind(alloc: Global, database: &Database, query: &Query) -> Result<Block, BindFault>
     requires well_formed { IsWellFormedQuery (query_tree query.now) }
     requires counted { of_condition predicates_in (query_tree query.now).condition < 2 ^ 32 }
-    ensures block { IfOk result (λ block. block_tree block ≡ block_of database.now (query_tree query.now)) }
-    ensures refuses { RefusesBlock (bind_fault database.now (query_tree query.now)) result }
-    ensures fits { IfOk result (λ block. Fits database.now (block_tree block)) }
+    ensures { Binds database.now (query_tree query.now) result }
 {
     let from = query.from.as_slice();
     check_limit(LimitName::Relations, MAX_RELATIONS, from.len())?;
-    let tables = named_tables(alloc, database, from)?;
-    let projection = projection(alloc, &tables, &query.columns)?;
-    let parts = condition_parts(alloc, &tables, &query.condition)?;
+    let scope = named_tables(alloc, database, from)?;
+    let projection = projection(alloc, &scope, &query.columns)?;
+    let parts = condition_parts(alloc, &scope, &query.condition)?;
     check_limit(LimitName::Axes, MAX_AXES, parts.edges.len())?;
     let Parts { filters, edges } = parts;
-    let relations = relations_with(alloc, &tables, filters)?;
+    let relations = relations_with(alloc, &scope, filters)?;
     Ok(Block::new(relations, edges, projection))
 }

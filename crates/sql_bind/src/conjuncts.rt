@@ -1,17 +1,17 @@
 // The conjuncts of WHERE: each becomes part of a filter, or an edge.
-ghost use Rattle.std.specs.Prelude.{◌≡◌, ◌≤◌, ◌<◌, ◌+◌, ◌^◌, [], ◌∷◌, All, IfOk, OnOk, length, map};
-ghost use Rattle.sql_values.specs.Limits.{max_relations, max_columns};
+ghost use Rattle.std.specs.Prelude.{◌≡◌, ◌≤◌, ◌+◌, ◌^◌, [], ◌∷◌, IfOk, OnOk, length};
 ghost use Rattle.query_block.specs.Conditions.{filter_tree};
-ghost use Rattle.sql_parse.specs.Trees.{condition_tree, operands};
+ghost use Rattle.sql_parse.specs.Trees.{condition_tree};
 ghost use Rattle.sql_bind.specs.Names.{first_fault_from};
-ghost use Rattle.sql_bind.specs.Conjuncts.{conjuncts, conjuncts_of_all, conjunct_fault, conjuncts_fault, edge_between, equality_between, equality_of};
+ghost use Rattle.sql_bind.specs.Conjuncts.{conjuncts, all_conjuncts, conjunct_fault, conjuncts_fault, edge_between, equality_between, equality_of};
 ghost use Rattle.sql_bind.specs.Collected.{AddsConjuncts, filter_trees, with_condition};
 ghost use Rattle.sql_bind.specs.Refused.{RefusesBlock};
 
 use crate::bound::bound_condition;
 use crate::fault::BindFault;
-use crate::names::{NamedTable, place_of};
+use crate::names::place_of;
 use crate::reach::{Reach, reach_of};
+use crate::scope::Scope;
 use query_block::{ColumnAt, Condition, Edge};
 use sql_parse::{Cond, Term};
 use sql_values::Op;
@@ -44,28 +44,24 @@ fn edge_between(a: ColumnAt, b: ColumnAt) -> Edge
 }
 
 // The edge that a conjunct is where it is an equality of two columns of different relations.
-fn equality_of(tables: &[NamedTable<'_>], conjunct: &Cond) -> Option<Edge>
-    requires few { length tables.now ≤ max_relations }
-    requires narrow { All (λ table. length table.columns ≤ max_columns) tables.now }
-    ensures { result ≡ equality_of tables.now (condition_tree conjunct.now) }
+fn equality_of(scope: &Scope<'_>, conjunct: &Cond) -> Option<Edge>
+    ensures { result ≡ equality_of scope.now (condition_tree conjunct.now) }
 {
     match conjunct {
-        Cond::Compare(op, left, right) => equality_between(tables, *op, left, right),
+        Cond::Compare(op, left, right) => equality_between(scope, *op, left, right),
         _ => None,
     }
 }
 
 // The same of a comparison.
-fn equality_between(tables: &[NamedTable<'_>], op: Op, left: &Term, right: &Term) -> Option<Edge>
-    requires few { length tables.now ≤ max_relations }
-    requires narrow { All (λ table. length table.columns ≤ max_columns) tables.now }
-    ensures { result ≡ equality_between tables.now op left.now right.now }
+fn equality_between(scope: &Scope<'_>, op: Op, left: &Term, right: &Term) -> Option<Edge>
+    ensures { result ≡ equality_between scope.now op left.now right.now }
 {
     match op {
         Op::Eq => match left {
             Term::Column(left) => match right {
                 Term::Column(right) => {
-                    Some(edge_between(place_of(tables, left), place_of(tables, right)))
+                    Some(edge_between(place_of(scope, left), place_of(scope, right)))
                 }
                 Term::Literal(_) => None,
             },
@@ -94,25 +90,24 @@ fn push_filter(
 // Adds a conjunct of this number.
 fn add_conjunct(
     alloc: Global,
-    tables: &[NamedTable<'_>],
+    scope: &Scope<'_>,
     conjunct: &Cond,
     number: u32,
     parts: &mut Parts,
 ) -> Result<(), BindFault>
-    requires few { length tables.now ≤ max_relations }
-    requires narrow { All (λ table. length table.columns ≤ max_columns) tables.now }
-    ensures refuses { RefusesBlock (conjunct_fault tables.now number (condition_tree conjunct.now)) result }
+    ensures refuses { RefusesBlock
+        (conjunct_fault scope.now number (condition_tree conjunct.now)) result }
     ensures added { OnOk result
-        (AddsConjuncts tables.now (condition_tree conjunct.now ∷ []) parts.old parts.new) }
+        (AddsConjuncts scope.now (condition_tree conjunct.now ∷ []) parts.old parts.new) }
 {
-    match reach_of(tables, conjunct) {
+    match reach_of(scope, conjunct) {
         Reach::Nothing => Err(BindFault::PredicateForm { conjunct: number }),
         Reach::One(relation) => {
-            let condition = bound_condition(alloc, tables, conjunct)?;
+            let condition = bound_condition(alloc, scope, conjunct)?;
             push_filter(&mut parts.filters, relation, condition)?;
             Ok(())
         }
-        Reach::Several => match equality_of(tables, conjunct) {
+        Reach::Several => match equality_of(scope, conjunct) {
             Some(edge) => {
                 parts.edges.push(edge)?;
                 Ok(())
@@ -126,24 +121,23 @@ fn add_conjunct(
 #[cycle(conjuncts)]
 pub(crate) fn add_conjuncts(
     alloc: Global,
-    tables: &[NamedTable<'_>],
+    scope: &Scope<'_>,
     condition: &Cond,
     number: u64,
     parts: &mut Parts,
 ) -> Result<u64, BindFault>
-    requires few { length tables.now ≤ max_relations }
-    requires narrow { All (λ table. length table.columns ≤ max_columns) tables.now }
-    requires counted { number + length (conjuncts (condition_tree condition.now)) ≤ 2 ^ 32 }
-    ensures refuses { RefusesBlock (conjuncts_fault tables.now number (condition_tree condition.now)) result }
+    requires { number + length (conjuncts (condition_tree condition.now)) ≤ 2 ^ 32 }
+    ensures refuses { RefusesBlock
+        (conjuncts_fault scope.now number (condition_tree condition.now)) result }
     ensures added { OnOk result
-        (AddsConjuncts tables.now (conjuncts (condition_tree condition.now)) parts.old parts.new) }
+        (AddsConjuncts scope.now (conjuncts (condition_tree condition.now)) parts.old parts.new) }
     ensures next { IfOk result
         (λ next. next ≡ number + length (conjuncts (condition_tree condition.now))) }
 {
     match condition {
-        Cond::And(chain) => add_all(alloc, tables, chain.as_slice(), number, parts),
+        Cond::And(chain) => add_all(alloc, scope, chain.as_slice(), number, parts),
         _ => {
-            add_conjunct(alloc, tables, condition, number as u32, parts)?;
+            add_conjunct(alloc, scope, condition, number as u32, parts)?;
             Ok(number + 1)
         }
     }
@@ -153,25 +147,21 @@ pub(crate) fn add_conjuncts(
 #[cycle(conjuncts)]
 fn add_all(
     alloc: Global,
-    tables: &[NamedTable<'_>],
+    scope: &Scope<'_>,
     chain: &[Cond],
     number: u64,
     parts: &mut Parts,
 ) -> Result<u64, BindFault>
-    requires few { length tables.now ≤ max_relations }
-    requires narrow { All (λ table. length table.columns ≤ max_columns) tables.now }
-    requires counted { number
-        + length (conjuncts_of_all (operands (map condition_tree chain.now))) ≤ 2 ^ 32 }
-    ensures refuses { RefusesBlock (first_fault_from (conjunct_fault tables.now) number
-        (conjuncts_of_all (operands (map condition_tree chain.now)))) result }
-    ensures added { OnOk result (AddsConjuncts tables.now
-        (conjuncts_of_all (operands (map condition_tree chain.now))) parts.old parts.new) }
-    ensures next { IfOk result (λ next. next
-        ≡ number + length (conjuncts_of_all (operands (map condition_tree chain.now)))) }
+    requires { number + length (all_conjuncts chain.now) ≤ 2 ^ 32 }
+    ensures refuses { RefusesBlock
+        (first_fault_from (conjunct_fault scope.now) number (all_conjuncts chain.now)) result }
+    ensures added { OnOk result
+        (AddsConjuncts scope.now (all_conjuncts chain.now) parts.old parts.new) }
+    ensures next { IfOk result (λ next. next ≡ number + length (all_conjuncts chain.now)) }
 {
     let mut next = number;
     for i in 0..chain.len() {
-        next = add_conjuncts(alloc, tables, &chain[i], next, parts)?;
+        next = add_conjuncts(alloc, scope, &chain[i], next, parts)?;
     }
     Ok(next)
 }

@@ -1,13 +1,14 @@
 // The tables of FROM.
 ghost use Rattle.std.specs.Prelude.{◌≡◌, ◌≢◌, ◌≤◌, ◌<◌, [], All, IfOk, length, map};
-ghost use Rattle.sql_values.specs.Limits.{max_columns};
+ghost use Rattle.sql_values.specs.Limits.{max_relations};
 ghost use Rattle.sql_values.specs.Dictionary.{has_text};
 ghost use Rattle.db_catalog.specs.Database.{table_number};
 ghost use Rattle.sql_bind.specs.Binding.{named_table, named_tables, past_limit, table_fault, from_fault};
-ghost use Rattle.sql_bind.specs.Refused.{RefusesBlock, IsNamed};
+ghost use Rattle.sql_bind.specs.Named.{IsNamed};
+ghost use Rattle.sql_bind.specs.Refused.{RefusesBlock};
 
 use crate::fault::BindFault;
-use crate::names::NamedTable;
+use crate::scope::{NamedTable, Scope};
 use db_catalog::Database;
 use sql_parse::{Item, Name};
 use sql_values::LimitName;
@@ -85,17 +86,16 @@ fn named_table<'q>(database: &'q Database, item: &'q Item, number: u32) -> Named
     }
 }
 
-// The tables of FROM, of which there are few.
+/// The tables of FROM.
 pub(crate) fn named_tables<'q>(
     alloc: Global,
     database: &'q Database,
     items: &'q [Item],
-) -> Result<Vec<NamedTable<'q>>, BindFault>
+) -> Result<Scope<'q>, BindFault>
+    requires { length items.now ≤ max_relations }
     ensures refuses { RefusesBlock (from_fault database.now [] items.now) result }
-    ensures tables { IfOk result (λ tables. tables.items ≡ named_tables database.now items.now) }
-    ensures named { IfOk result (λ tables. All IsNamed tables.items) }
-    ensures narrow { IfOk result
-        (λ tables. All (λ table. length table.columns ≤ max_columns) tables.items) }
+    ensures tables { IfOk result (λ scope. scope ≡ named_tables database.now items.now) }
+    ensures named { IfOk result (λ scope. All IsNamed scope) }
 {
     let mut tables = Vec::with_capacity(alloc, items.len())?;
     for i in 0..items.len() {
@@ -105,5 +105,5 @@ pub(crate) fn named_tables<'q>(
         }
         tables.push(named_table(database, &items[i], number))?;
     }
-    Ok(tables)
+    Ok(Scope::new(tables))
 }

@@ -13,6 +13,7 @@ mod names;
 mod predicates;
 mod projection;
 mod reach;
+mod scope;
 
 pub use binding::bind;
 pub use fault::BindFault;

@@ -1,40 +1,15 @@
 // Written columns, and the columns of the tables of FROM that they name.
-ghost use Rattle.std.specs.Prelude.{◌≡◌, ◌≢◌, ◌≤◌, ◌<◌, All, IfOk, length};
-ghost use Rattle.sql_values.specs.Limits.{max_relations, max_columns};
+ghost use Rattle.std.specs.Prelude.{◌≡◌, ◌≢◌, ◌≤◌, IfOk, length};
+ghost use Rattle.sql_values.specs.Limits.{max_columns};
 ghost use Rattle.sql_bind.specs.Names.{places_among, named_places, place_of, written_column_fault, may_name, written_name};
 ghost use Rattle.sql_bind.specs.Refused.{RefusesBlock, added, found_with};
 
 use crate::fault::BindFault;
+use crate::scope::{NamedTable, Scope};
 use query_block::ColumnAt;
 use sql_parse::ColRef;
 use sql_values::{ColumnDef, Text};
 use std::alloc::{AllocError, Global};
-use std::marker::Model;
-
-/// A table of FROM.
-#[derive(Drop)]
-pub(crate) struct NamedTable<'q> {
-    /// The name under which columns name it.
-    pub(crate) alias: &'q [u8],
-    /// Its number in the database, from 0.
-    pub(crate) number: u32,
-    pub(crate) columns: &'q [ColumnDef],
-    /// The numbers of its indexed columns, from 0.
-    pub(crate) indexed: &'q [u8],
-}
-
-impl<'q> Model for NamedTable<'q> {
-    ghost use Rattle.sql_bind.specs.Named.{NamedTable as Named};
-
-    ghost Value = { Named };
-
-    ghost view = { λ t. record {
-      alias = t.alias.now;
-      number = t.number;
-      columns = t.columns.now;
-      indexed = t.indexed.now;
-    } };
-}
 
 /// The columns that a written column was found to name.
 #[derive(Clone, Copy)]
@@ -83,11 +58,10 @@ fn may_name(written: &ColRef, table: &NamedTable<'_>) -> bool
 }
 
 // The columns that a written column names.
-fn look_up(tables: &[NamedTable<'_>], written: &ColRef) -> Found
-    requires few { length tables.now ≤ max_relations }
-    requires narrow { All (λ table. length table.columns ≤ max_columns) tables.now }
-    ensures { result ≡ found_with Found.Nothing (named_places tables.now written.now) }
+fn look_up(scope: &Scope<'_>, written: &ColRef) -> Found
+    ensures { result ≡ found_with Found.Nothing (named_places scope.now written.now) }
 {
+    let tables = scope.tables();
     let mut found = Found::Nothing;
     for number in 0..tables.len() {
         let table = &tables[number];
@@ -113,7 +87,8 @@ fn written_name(alloc: Global, written: &ColRef) -> Result<Text, AllocError>
 
 // The refusal of a column that no table has.
 fn unknown_column(alloc: Global, written: &ColRef) -> BindFault
-    ensures { result ≢ BindFault.NoMemory → result ≡ BindFault.UnknownColumn (written_name written.now) }
+    ensures { result ≢ BindFault.NoMemory
+        → result ≡ BindFault.UnknownColumn (written_name written.now) }
 {
     match written_name(alloc, written) {
         Ok(name) => BindFault::UnknownColumn { name },
@@ -134,14 +109,12 @@ fn ambiguous(written: &ColRef) -> BindFault
 /// Refuses a written column that doesn't name exactly one.
 pub(crate) fn check_column(
     alloc: Global,
-    tables: &[NamedTable<'_>],
+    scope: &Scope<'_>,
     written: &ColRef,
 ) -> Result<(), BindFault>
-    requires few { length tables.now ≤ max_relations }
-    requires narrow { All (λ table. length table.columns ≤ max_columns) tables.now }
-    ensures { RefusesBlock (written_column_fault tables.now written.now) result }
+    ensures { RefusesBlock (written_column_fault scope.now written.now) result }
 {
-    match look_up(tables, written) {
+    match look_up(scope, written) {
         Found::Nothing => Err(unknown_column(alloc, written)),
         Found::One(_) => Ok(()),
         Found::Several(_) => Err(ambiguous(written)),
@@ -149,12 +122,10 @@ pub(crate) fn check_column(
 }
 
 /// The column that a written column names; where it names none, the first of all.
-pub(crate) fn place_of(tables: &[NamedTable<'_>], written: &ColRef) -> ColumnAt
-    requires few { length tables.now ≤ max_relations }
-    requires narrow { All (λ table. length table.columns ≤ max_columns) tables.now }
-    ensures { result ≡ place_of tables.now written.now }
+pub(crate) fn place_of(scope: &Scope<'_>, written: &ColRef) -> ColumnAt
+    ensures { result ≡ place_of scope.now written.now }
 {
-    match look_up(tables, written) {
+    match look_up(scope, written) {
         Found::One(place) => place,
         Found::Several(place) => place,
         Found::Nothing => ColumnAt {

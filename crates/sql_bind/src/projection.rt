@@ -1,30 +1,25 @@
 // The columns that SELECT asks for.
-ghost use Rattle.std.specs.Prelude.{◌≡◌, ◌≤◌, ◌++◌, All, IfOk, OnOk, length, map};
-ghost use Rattle.sql_values.specs.Limits.{max_relations, max_columns};
+ghost use Rattle.std.specs.Prelude.{◌≡◌, ◌≤◌, ◌++◌, IfOk, OnOk, length, map};
+ghost use Rattle.sql_values.specs.Limits.{max_columns};
 ghost use Rattle.sql_bind.specs.Names.{written_columns_fault, place_of};
 ghost use Rattle.sql_bind.specs.Binding.{projection_fault, projection_of, columns_from, every_column};
 ghost use Rattle.sql_bind.specs.Refused.{RefusesBlock};
 
 use crate::fault::BindFault;
 use crate::from::check_limit;
-use crate::names::{NamedTable, check_column, place_of};
+use crate::names::{check_column, place_of};
+use crate::scope::Scope;
 use query_block::ColumnAt;
 use sql_parse::ColRef;
 use sql_values::{ColumnDef, LimitName, MAX_PROJECTION, Sequence};
 use std::alloc::{AllocError, Global};
 
 // Refuses written columns at the first that doesn't name exactly one.
-fn check_columns(
-    alloc: Global,
-    tables: &[NamedTable<'_>],
-    columns: &[ColRef],
-) -> Result<(), BindFault>
-    requires few { length tables.now ≤ max_relations }
-    requires narrow { All (λ table. length table.columns ≤ max_columns) tables.now }
-    ensures { RefusesBlock (written_columns_fault tables.now columns.now) result }
+fn check_columns(alloc: Global, scope: &Scope<'_>, columns: &[ColRef]) -> Result<(), BindFault>
+    ensures { RefusesBlock (written_columns_fault scope.now columns.now) result }
 {
     for i in 0..columns.len() {
-        check_column(alloc, tables, &columns[i])?;
+        check_column(alloc, scope, &columns[i])?;
     }
     Ok(())
 }
@@ -32,16 +27,14 @@ fn check_columns(
 // The columns that written columns name.
 fn places_of(
     alloc: Global,
-    tables: &[NamedTable<'_>],
+    scope: &Scope<'_>,
     columns: &[ColRef],
 ) -> Result<Vec<ColumnAt>, AllocError>
-    requires few { length tables.now ≤ max_relations }
-    requires narrow { All (λ table. length table.columns ≤ max_columns) tables.now }
-    ensures { IfOk result (λ places. places.items ≡ map (place_of tables.now) columns.now) }
+    ensures { IfOk result (λ places. places.items ≡ map (place_of scope.now) columns.now) }
 {
     let mut places = Vec::with_capacity(alloc, columns.len())?;
     for i in 0..columns.len() {
-        places.push(place_of(tables, &columns[i]))?;
+        places.push(place_of(scope, &columns[i]))?;
     }
     Ok(places)
 }
@@ -64,11 +57,10 @@ fn push_columns(
 }
 
 // Every column of all tables.
-fn every_column(alloc: Global, tables: &[NamedTable<'_>]) -> Result<Vec<ColumnAt>, AllocError>
-    requires few { length tables.now ≤ max_relations }
-    requires narrow { All (λ table. length table.columns ≤ max_columns) tables.now }
-    ensures { IfOk result (λ places. places.items ≡ every_column 0 tables.now) }
+fn every_column(alloc: Global, scope: &Scope<'_>) -> Result<Vec<ColumnAt>, AllocError>
+    ensures { IfOk result (λ places. places.items ≡ every_column 0 scope.now) }
 {
+    let tables = scope.tables();
     let mut places = Vec::new(alloc);
     for i in 0..tables.len() {
         let table = &tables[i];
@@ -80,24 +72,22 @@ fn every_column(alloc: Global, tables: &[NamedTable<'_>]) -> Result<Vec<ColumnAt
 /// The columns that SELECT asks for: those that it names, or every column.
 pub(crate) fn projection(
     alloc: Global,
-    tables: &[NamedTable<'_>],
+    scope: &Scope<'_>,
     columns: &Option<Sequence<ColRef>>,
 ) -> Result<Vec<ColumnAt>, BindFault>
-    requires few { length tables.now ≤ max_relations }
-    requires narrow { All (λ table. length table.columns ≤ max_columns) tables.now }
-    ensures refuses { RefusesBlock (projection_fault tables.now columns.now) result }
-    ensures places { IfOk result (λ places. places.items ≡ projection_of tables.now columns.now) }
+    ensures refuses { RefusesBlock (projection_fault scope.now columns.now) result }
+    ensures places { IfOk result (λ places. places.items ≡ projection_of scope.now columns.now) }
 {
     match columns {
         None => {
-            let places = every_column(alloc, tables)?;
+            let places = every_column(alloc, scope)?;
             Ok(places)
         }
         Some(columns) => {
             let columns = columns.as_slice();
             check_limit(LimitName::Projection, MAX_PROJECTION, columns.len())?;
-            check_columns(alloc, tables, columns)?;
-            let places = places_of(alloc, tables, columns)?;
+            check_columns(alloc, scope, columns)?;
+            let places = places_of(alloc, scope, columns)?;
             Ok(places)
         }
     }

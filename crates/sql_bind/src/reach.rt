@@ -1,10 +1,10 @@
 // Of which relations the columns of a condition are.
-ghost use Rattle.std.specs.Prelude.{◌≡◌, ◌≤◌, All, length, map};
-ghost use Rattle.sql_values.specs.Limits.{max_relations, max_columns};
+ghost use Rattle.std.specs.Prelude.{◌≡◌, map};
 ghost use Rattle.sql_parse.specs.Trees.{condition_tree, operands};
 ghost use Rattle.sql_bind.specs.Conjuncts.{joined_reach, reach_of_term, reach_of_terms, reach_of, reach_of_all};
 
-use crate::names::{NamedTable, place_of};
+use crate::names::place_of;
+use crate::scope::Scope;
 use sql_parse::{Cond, Term};
 
 /// Of which relations some columns are.
@@ -42,64 +42,56 @@ impl Reach {
 }
 
 // Of which relation an operand is.
-fn reach_of_term(tables: &[NamedTable<'_>], term: &Term) -> Reach
-    requires few { length tables.now ≤ max_relations }
-    requires narrow { All (λ table. length table.columns ≤ max_columns) tables.now }
-    ensures { result ≡ reach_of_term tables.now term.now }
+fn reach_of_term(scope: &Scope<'_>, term: &Term) -> Reach
+    ensures { result ≡ reach_of_term scope.now term.now }
 {
     match term {
-        Term::Column(written) => Reach::One(place_of(tables, written).relation),
+        Term::Column(written) => Reach::One(place_of(scope, written).relation),
         Term::Literal(_) => Reach::Nothing,
     }
 }
 
 // Of which relations operands are.
-fn reach_of_terms(tables: &[NamedTable<'_>], terms: &[Term]) -> Reach
-    requires few { length tables.now ≤ max_relations }
-    requires narrow { All (λ table. length table.columns ≤ max_columns) tables.now }
-    ensures { result ≡ reach_of_terms tables.now terms.now }
+fn reach_of_terms(scope: &Scope<'_>, terms: &[Term]) -> Reach
+    ensures { result ≡ reach_of_terms scope.now terms.now }
 {
     let mut reach = Reach::Nothing;
     for i in 0..terms.len() {
-        reach = reach.joined(reach_of_term(tables, &terms[i]));
+        reach = reach.joined(reach_of_term(scope, &terms[i]));
     }
     reach
 }
 
 /// Of which relations the columns of a condition are.
 #[cycle(reach)]
-pub(crate) fn reach_of(tables: &[NamedTable<'_>], condition: &Cond) -> Reach
-    requires few { length tables.now ≤ max_relations }
-    requires narrow { All (λ table. length table.columns ≤ max_columns) tables.now }
-    ensures { result ≡ reach_of tables.now (condition_tree condition.now) }
+pub(crate) fn reach_of(scope: &Scope<'_>, condition: &Cond) -> Reach
+    ensures { result ≡ reach_of scope.now (condition_tree condition.now) }
 {
     match condition {
         Cond::Compare(_, left, right) => {
-            reach_of_term(tables, left).joined(reach_of_term(tables, right))
+            reach_of_term(scope, left).joined(reach_of_term(scope, right))
         }
-        Cond::Between(_, of, low, high) => reach_of_term(tables, of).joined(reach_of_term(
-            tables, low,
-        ).joined(reach_of_term(tables, high))),
+        Cond::Between(_, of, low, high) => reach_of_term(scope, of).joined(reach_of_term(
+            scope, low,
+        ).joined(reach_of_term(scope, high))),
         Cond::OneOf(_, of, terms) => {
-            reach_of_term(tables, of).joined(reach_of_terms(tables, terms.as_slice()))
+            reach_of_term(scope, of).joined(reach_of_terms(scope, terms.as_slice()))
         }
-        Cond::IsNull(_, column) => Reach::One(place_of(tables, column).relation),
-        Cond::Not(inner) => reach_of(tables, inner),
-        Cond::And(parts) => reach_of_all(tables, parts.as_slice()),
-        Cond::Or(parts) => reach_of_all(tables, parts.as_slice()),
+        Cond::IsNull(_, column) => Reach::One(place_of(scope, column).relation),
+        Cond::Not(inner) => reach_of(scope, inner),
+        Cond::And(parts) => reach_of_all(scope, parts.as_slice()),
+        Cond::Or(parts) => reach_of_all(scope, parts.as_slice()),
     }
 }
 
 // The same of the operands of a chain.
 #[cycle(reach)]
-fn reach_of_all(tables: &[NamedTable<'_>], parts: &[Cond]) -> Reach
-    requires few { length tables.now ≤ max_relations }
-    requires narrow { All (λ table. length table.columns ≤ max_columns) tables.now }
-    ensures { result ≡ reach_of_all tables.now (operands (map condition_tree parts.now)) }
+fn reach_of_all(scope: &Scope<'_>, parts: &[Cond]) -> Reach
+    ensures { result ≡ reach_of_all scope.now (operands (map condition_tree parts.now)) }
 {
     let mut reach = Reach::Nothing;
     for i in 0..parts.len() {
-        reach = reach.joined(reach_of(tables, &parts[i]));
+        reach = reach.joined(reach_of(scope, &parts[i]));
     }
     reach
 }

@@ -1,5 +1,6 @@
--- The limits of the whole product: each figure stands here and nowhere else. How many levels a list of coordinates has,
--- and how large each is, depends on a grid, so these two limits have no figure.
+-- The limits of the whole product: each figure stands here and nowhere else, but for those of one crate, which stand in
+-- that crate's Limits, and the most work that is counted, in work_ledger. How many levels a list of coordinates has, and how
+-- large each is, depends on a grid, so these two limits have no figure.
 use Rattle.std.specs.Prelude.{ℕ, ◌^◌}
 
 -- the most bytes of a script
@@ -78,3 +79,15 @@ default_threshold = 20
 -- the most plans that an audit tries
 abbrev pub max_plans : ℕ
 max_plans = 20000
+
+-- the most contours of a bouquet
+abbrev pub max_contours : ℕ
+max_contours = 128
+
+-- the most that a contour costs
+abbrev pub max_contour_cost : ℕ
+max_contour_cost = 2 ^ 114
+
+-- every plan of a block costs less
+abbrev pub cost_bound : ℕ
+cost_bound = 2 ^ 113

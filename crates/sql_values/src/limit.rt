@@ -135,6 +135,12 @@ pub const DEFAULT_THRESHOLD: u64 = 20;
 /// The most plans that an audit tries.
 pub const MAX_PLANS: u64 = 20000;
 
+/// The most contours of a bouquet.
+pub const MAX_CONTOURS: usize = 128;
+
+/// The most that a contour costs: 2^114.
+pub const MAX_CONTOUR_COST: u128 = 20769187434139310514121985316880384;
+
 /// The law of the limits: each constant is the figure of the definitions.
 pub fn limits_are_as_stated()
     ensures script_bytes { MAX_SCRIPT_BYTES ≡ spec.max_script_bytes }
@@ -157,4 +163,6 @@ pub fn limits_are_as_stated()
     ensures threshold { MAX_THRESHOLD ≡ spec.max_threshold }
     ensures no_threshold { DEFAULT_THRESHOLD ≡ spec.default_threshold }
     ensures plans { MAX_PLANS ≡ spec.max_plans }
+    ensures contours { MAX_CONTOURS ≡ spec.max_contours }
+    ensures contour_cost { MAX_CONTOUR_COST ≡ spec.max_contour_cost }
 {}

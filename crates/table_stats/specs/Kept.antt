@@ -3,17 +3,21 @@ use Rattle.std.specs.Prelude.{◌≡◌, ℕ, ◌≤◌, List, drop, length, tak
 use Rattle.sql_values.specs.Limits.{max_rows}
 use Rattle.sql_values.specs.Stored.{ValueRow}
 use Rattle.heap_pages.specs.Rows.{row_number}
-use Rattle.query_block.specs.Blocks.{IsRelation}
+use Rattle.query_block.specs.Blocks.{IsRelation, RelationTree}
 use Rattle.db_catalog.specs.Database.{DatabaseState, table_at}
 use Rattle.db_catalog.specs.Fits.{FitsTable}
 use Rattle.db_catalog.specs.Meter.{page_rows}
 use Rattle.table_stats.specs.declared.filter.ReadyFilter.{ReadyFilter}
 use Rattle.table_stats.specs.Ready.{IsReadyFilter, own}
 
+-- what a block asks of a relation holds of it, and it stands over its table
+pub record StandsIn (database : DatabaseState) (relation : RelationTree) : Type 0 where
+  pub well_formed : IsRelation relation
+  pub fits : FitsTable database relation
+
 -- the filter is ready, its relation stands over its table, its texts are the database's, and the table is within its limit
 pub record IsOver (database : DatabaseState) (filter : ReadyFilter) : Type 0 where
   pub ready : IsReadyFilter filter
-  pub relation : IsRelation (own filter)
   pub fits : FitsTable database (own filter)
   pub texts : filter.texts.now ≡ database.texts
   pub few : length (table_at database (own filter).table).rows ≤ max_rows

@@ -3,10 +3,10 @@
 use Rattle.std.specs.Prelude.{◌≡◌, ℕ, ℤ, ◌<◌, IsTrue, List, length, map, Option, Some, None, slice_index_or}
 use Rattle.sql_values.specs.declared.column.ColumnType.{ColumnType}
 use Rattle.sql_values.specs.Words.{word_of}
-use Rattle.sql_values.specs.Stored.{AreWordsOf, values_of}
+use Rattle.sql_values.specs.Stored.{AreWordsOf, ValueRow, values_of}
 use Rattle.query_block.specs.declared.condition.Condition.{Condition}
 use Rattle.query_block.specs.Conditions.{FilterTree, filter_tree}
-use Rattle.query_block.specs.Blocks.{RelationTree, relation_tree}
+use Rattle.query_block.specs.Blocks.{IsRelation, RelationTree, relation_tree}
 use Rattle.query_block.specs.Meaning.{is_true}
 use Rattle.query_block.specs.Picked.{Picks}
 use Rattle.query_block.specs.Truth.{truth_of}
@@ -40,10 +40,18 @@ pub record AreKnown (texts : List (List ℕ)) (kinds : List ColumnType) (filter 
 abbrev pub own : ReadyFilter → RelationTree
 own filter = relation_tree filter.relation.now
 
--- what it keeps is known of the relation's filter
-abbrev pub IsReadyFilter : ReadyFilter → Type 0
-IsReadyFilter filter =
-    AreKnown filter.texts.now filter.relation.now.columns filter.relation.now.filter (length filter.relation.now.filter) filter.ranges.items
+-- the values for which the words of a row of that relation stand
+abbrev pub own_values : ReadyFilter → List ℤ → ValueRow
+own_values filter words = values_of filter.texts.now filter.relation.now.columns words
+
+-- the words may stand in such a row
+abbrev pub IsRowFor : ReadyFilter → List ℤ → Type 0
+IsRowFor filter words = IsOwnRow filter.texts.now filter.relation.now.columns words
+
+-- it is of a relation of a block, and what it keeps is known of each of the relation's conjuncts
+pub record IsReadyFilter (filter : ReadyFilter) : Type 0 where
+  pub relation : IsRelation (own filter)
+  pub known : AreKnown filter.texts.now filter.relation.now.columns filter.relation.now.filter (length filter.relation.now.filter) filter.ranges.items
 
 -- what is known of one of the filter's conjuncts, if anything is
 abbrev pub IsOfConjunct : ReadyFilter → Option ColumnRange → Type 0

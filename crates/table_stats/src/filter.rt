@@ -12,7 +12,7 @@ ghost use Rattle.query_block.specs.Meaning.{is_true, meets_filter};
 ghost use Rattle.query_block.specs.Truth.{truth_of};
 ghost use Rattle.plan_tree.specs.Usable.{is_usable};
 ghost use Rattle.plan_tree.specs.Ranges.{is_in};
-ghost use Rattle.table_stats.specs.Ready.{IsKnown, IsOfConjunct, IsOwnRow, IsReadyFilter, own};
+ghost use Rattle.table_stats.specs.Ready.{IsKnown, IsOfConjunct, IsOwnRow, IsReadyFilter, IsRowFor, own, own_values};
 
 use plan_tree::{WordRange, is_usable, range_of};
 use query_block::{Condition, Relation, truth};
@@ -145,9 +145,8 @@ impl<'b> ReadyFilter<'b> {
     // Whether a row may be kept: it has one of these words.
     fn may_keep(&self, known: Option<ColumnRange>, row: &[i64]) -> bool
         requires known { IsOfConjunct self.now known }
-        requires row { IsOwnRow self.now.texts.now self.now.relation.now.columns row.now }
-        ensures { meets_filter (own self.now).filter
-            (values_of self.now.texts.now self.now.relation.now.columns row.now) ≡ true
+        requires row { IsRowFor self.now row.now }
+        ensures { meets_filter (own self.now).filter (own_values self.now row.now) ≡ true
             → result ≡ true }
     {
         match known {
@@ -160,11 +159,9 @@ impl<'b> ReadyFilter<'b> {
     /// words of one conjunct.
     pub(crate) fn keeps(&self, known: Option<ColumnRange>, row: &[i64]) -> bool
         requires ready { IsReadyFilter self.now }
-        requires relation { IsRelation (own self.now) }
         requires known { IsOfConjunct self.now known }
-        requires row { IsOwnRow self.now.texts.now self.now.relation.now.columns row.now }
-        ensures { result ≡ meets_filter (own self.now).filter
-            (values_of self.now.texts.now self.now.relation.now.columns row.now) }
+        requires row { IsRowFor self.now row.now }
+        ensures { result ≡ meets_filter (own self.now).filter (own_values self.now row.now) }
     {
         self.may_keep(known, row) && self.meets_all(row)
     }
@@ -172,10 +169,8 @@ impl<'b> ReadyFilter<'b> {
     // Whether each conjunct is true on a row, tried in written order, up to the first that isn't.
     fn meets_all(&self, row: &[i64]) -> bool
         requires ready { IsReadyFilter self.now }
-        requires relation { IsRelation (own self.now) }
-        requires row { IsOwnRow self.now.texts.now self.now.relation.now.columns row.now }
-        ensures { result ≡ meets_filter (own self.now).filter
-            (values_of self.now.texts.now self.now.relation.now.columns row.now) }
+        requires row { IsRowFor self.now row.now }
+        ensures { result ≡ meets_filter (own self.now).filter (own_values self.now row.now) }
     {
         let columns = self.relation.columns.as_slice();
         let filter = self.relation.filter.as_slice();

@@ -1,9 +1,8 @@
 // The counts of a relation's indexed columns. They lie in the indexes: no row is looked at.
-ghost use Rattle.std.specs.Prelude.{◌≡◌, ◌<◌, All, Contains, IfOk, IfSome, length, map};
-ghost use Rattle.query_block.specs.Blocks.{IsRelation, relation_tree};
-ghost use Rattle.plan_tree.specs.Work.{matches_in};
-ghost use Rattle.db_catalog.specs.Fits.{FitsTable};
-ghost use Rattle.cost_model.specs.Counts.{index_stats_of};
+ghost use Rattle.std.specs.Prelude.{◌≡◌, ◌<◌, All, Contains, IfOk, IfSome, length};
+ghost use Rattle.query_block.specs.Blocks.{relation_tree};
+ghost use Rattle.cost_model.specs.Counts.{index_stats_of, relation_stats_of};
+ghost use Rattle.table_stats.specs.Kept.{StandsIn};
 ghost use Rattle.table_stats.specs.Narrow.{HasMatches, TellsAll, uses_all};
 
 use cost_model::IndexStats;
@@ -12,38 +11,31 @@ use plan_tree::{has_usable, is_usable, range_of};
 use query_block::Relation;
 use std::alloc::{AllocError, Global};
 
-// In how many rows an indexed column meets each conjunct that the index can use.
-fn matches(db: &Database, relation: &Relation, column: u8) -> u64
-    requires relation { IsRelation (relation_tree relation.now) }
-    requires fits { FitsTable db.now (relation_tree relation.now) }
+// In how many rows an indexed column meets each conjunct that the index can use, where it can use some.
+fn matches(db: &Database, relation: &Relation, column: u8) -> Option<u64>
+    requires stands { StandsIn db.now (relation_tree relation.now) }
     requires indexed { Contains relation.now.indexes column }
-    ensures { result ≡ matches_in db.now.tables (relation_tree relation.now) column }
+    ensures { result ≡ (index_stats_of db.now.tables (relation_tree relation.now) column).matches }
 {
-    let range = range_of(column, relation.filter.as_slice(), db.texts());
+    let filter = relation.filter.as_slice();
+    if !has_usable(relation.columns.as_slice(), column, filter) {
+        return None;
+    }
+    let range = range_of(column, filter, db.texts());
     let entries = db.entries_within(relation.table, column, range.from, range.to);
-    entries.len() as u64
+    Some(entries.len() as u64)
 }
 
 // The counts of an indexed column.
 fn counts(db: &Database, relation: &Relation, column: u8) -> IndexStats
-    requires relation { IsRelation (relation_tree relation.now) }
-    requires fits { FitsTable db.now (relation_tree relation.now) }
+    requires stands { StandsIn db.now (relation_tree relation.now) }
     requires indexed { Contains relation.now.indexes column }
     ensures { result ≡ index_stats_of db.now.tables (relation_tree relation.now) column }
 {
-    let columns = relation.columns.as_slice();
-    let height = db.height(relation.table, column);
-    if !has_usable(columns, column, relation.filter.as_slice()) {
-        return IndexStats {
-            column,
-            height,
-            matches: None,
-        };
-    }
     IndexStats {
         column,
-        height,
-        matches: Some(matches(db, relation, column)),
+        height: db.height(relation.table, column),
+        matches: matches(db, relation, column),
     }
 }
 
@@ -53,10 +45,9 @@ pub(crate) fn index_stats(
     db: &Database,
     relation: &Relation,
 ) -> Result<Vec<IndexStats>, AllocError>
-    requires relation { IsRelation (relation_tree relation.now) }
-    requires fits { FitsTable db.now (relation_tree relation.now) }
-    ensures { IfOk result (λ stats. stats.items
-        ≡ map (index_stats_of db.now.tables (relation_tree relation.now)) relation.now.indexes) }
+    requires { StandsIn db.now (relation_tree relation.now) }
+    ensures { IfOk result (λ stats.
+        stats.items ≡ (relation_stats_of db.now.tables (relation_tree relation.now)).columns) }
 {
     let indexes = relation.indexes.as_slice();
     let mut stats = Vec::with_capacity(alloc, indexes.len())?;

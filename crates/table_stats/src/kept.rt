@@ -3,7 +3,7 @@
 ghost use Rattle.std.specs.Prelude.{◌≡◌, ◌+◌, ◌*◌, ◌<◌, ◌≤◌, Contains, count_by, drop, length, take};
 ghost use Rattle.query_block.specs.Meaning.{meets_filter};
 ghost use Rattle.plan_tree.specs.Enumerated.{HasUsable};
-ghost use Rattle.plan_tree.specs.Work.{table_rows};
+ghost use Rattle.cost_model.specs.Counts.{relation_stats_of};
 ghost use Rattle.db_catalog.specs.Meter.{table_pages};
 ghost use Rattle.table_stats.specs.Kept.{IsOver, rows_on};
 ghost use Rattle.table_stats.specs.Ready.{own};
@@ -41,8 +41,7 @@ fn kept_on_page(db: &Database, filter: &ReadyFilter<'_>, no: u64) -> u64
 /// Among all rows, page by page.
 pub(crate) fn kept_in_pages(db: &Database, filter: &ReadyFilter<'_>) -> u64
     requires { IsOver db.now filter.now }
-    ensures { result ≡ count_by (meets_filter (own filter.now).filter)
-        (table_rows db.now.tables (own filter.now)) }
+    ensures { result ≡ (relation_stats_of db.now.tables (own filter.now)).kept }
 {
     let mut kept = 0;
     for no in 0..db.pages(filter.relation.table) {
@@ -56,8 +55,7 @@ pub(crate) fn kept_within(db: &Database, filter: &ReadyFilter<'_>, column: u8) -
     requires over { IsOver db.now filter.now }
     requires indexed { Contains filter.now.relation.now.indexes column }
     requires usable { HasUsable (own filter.now) column }
-    ensures { result ≡ count_by (meets_filter (own filter.now).filter)
-        (table_rows db.now.tables (own filter.now)) }
+    ensures { result ≡ (relation_stats_of db.now.tables (own filter.now)).kept }
 {
     let table = filter.relation.table;
     let range = range_of(column, filter.relation.filter.as_slice(), filter.texts);

@@ -1,11 +1,10 @@
 // The counts of a block's tables.
-ghost use Rattle.std.specs.Prelude.{◌≡◌, ◌↔◌, ℕ, count_by, map, Err, IfOk, Some};
-ghost use Rattle.query_block.specs.Blocks.{block_tree, relation_tree, IsRelation};
-ghost use Rattle.query_block.specs.Meaning.{meets_filter};
-ghost use Rattle.plan_tree.specs.Work.{table_rows};
-ghost use Rattle.db_catalog.specs.Fits.{Fits, FitsTable};
-ghost use Rattle.cost_model.specs.Counts.{index_stats_of, relation_stats_of, stats_of};
+ghost use Rattle.std.specs.Prelude.{◌≡◌, ◌↔◌, ℕ, map, Err, IfOk, Some};
+ghost use Rattle.query_block.specs.Blocks.{block_tree, relation_tree};
+ghost use Rattle.db_catalog.specs.Fits.{Fits};
+ghost use Rattle.cost_model.specs.Counts.{relation_stats_of, stats_of};
 ghost use Rattle.cost_model.specs.Fits.{FitsBlock};
+ghost use Rattle.table_stats.specs.Kept.{StandsIn};
 ghost use Rattle.table_stats.specs.Product.{first_past, row_counts};
 
 use crate::fault::StatsFault;
@@ -30,12 +29,10 @@ fn kept_rows(
     relation: &Relation,
     columns: &[IndexStats],
 ) -> Result<u64, AllocError>
-    requires relation { IsRelation (relation_tree relation.now) }
-    requires fits { FitsTable db.now (relation_tree relation.now) }
-    requires columns { columns.now
-        ≡ map (index_stats_of db.now.tables (relation_tree relation.now)) relation.now.indexes }
-    ensures { IfOk result (λ kept. kept ≡ count_by (meets_filter (relation_tree relation.now).filter)
-        (table_rows db.now.tables (relation_tree relation.now))) }
+    requires stands { StandsIn db.now (relation_tree relation.now) }
+    requires columns { columns.now ≡ (relation_stats_of db.now.tables (relation_tree relation.now)).columns }
+    ensures { IfOk result
+        (λ kept. kept ≡ (relation_stats_of db.now.tables (relation_tree relation.now)).kept) }
 {
     let rows = db.rows(relation.table);
     if relation.filter.as_slice().is_empty() {
@@ -57,8 +54,7 @@ fn relation_stats(
     db: &Database,
     relation: &Relation,
 ) -> Result<RelationStats, AllocError>
-    requires relation { IsRelation (relation_tree relation.now) }
-    requires fits { FitsTable db.now (relation_tree relation.now) }
+    requires { StandsIn db.now (relation_tree relation.now) }
     ensures { IfOk result (λ stats. stats
         ≡ relation_stats_of db.now.tables (relation_tree relation.now)) }
 {

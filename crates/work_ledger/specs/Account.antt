@@ -6,10 +6,14 @@ pub record Account : Type 0 where
   pub spent : ℕ
   pub limit : ℕ
 
--- what is spent was granted, and both stay below 2^126, so that no sum leaves 128 bits
+-- the most work that an account counts: a sum of two such works, or of one and a payment, doesn't leave 128 bits
+abbrev pub max_account : ℕ
+max_account = 2 ^ 126
+
+-- what is spent was granted, and what is granted can be counted
 pub record IsInBounds (account : Account) : Type 0 where
   pub granted : account.spent ≤ account.limit
-  pub bounded : account.limit ≤ 2 ^ 126
+  pub bounded : account.limit ≤ max_account
 
 -- a payment of n: it is made exactly where it fits, and else spends what is left, and none is taken back; the limit stays
 pub record Pays {T E : Type 0} (n : ℕ) (old new : Account) (result : Result T E) : Type 0 where

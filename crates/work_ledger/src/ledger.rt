@@ -1,6 +1,6 @@
 // The ledger: two numbers, and the one place where they are compared. It relies on nothing, and never takes memory.
 ghost use Rattle.std.specs.Prelude.{◌≡◌, ◌+◌, ◌^◌, ◌≤◌};
-ghost use Rattle.work_ledger.specs.Account.{Pays, IsInBounds};
+ghost use Rattle.work_ledger.specs.Account.{Pays, IsInBounds, max_account};
 
 use std::marker::Model;
 
@@ -51,7 +51,7 @@ impl Ledger {
 
     /// Allows as much work more as the budget says, counted from what is spent. What was left before is gone.
     pub fn grant(&mut self, budget: u128)
-        requires { self.old.spent + budget ≤ 2 ^ 126 }
+        requires { self.old.spent + budget ≤ max_account }
         ensures spent { self.new.spent ≡ self.old.spent }
         ensures limit { self.new.limit ≡ self.old.spent + budget }
     {
@@ -60,7 +60,7 @@ impl Ledger {
 
     /// Pays `n` units. A payment that doesn't fit spends what is left and is refused.
     pub fn pay(&mut self, n: u128) -> Result<(), Exhausted>
-        requires { n ≤ 2 ^ 126 }
+        requires { n ≤ max_account }
         ensures pays { Pays n self.old self.new result }
         ensures never_falls { self.old.spent ≤ self.new.spent }
         ensures bounds { IsInBounds self.new }

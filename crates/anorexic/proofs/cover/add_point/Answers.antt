@@ -9,7 +9,7 @@ use Rattle.anorexic.proofs.Gathering.{candidate-few, row-is}
 use Rattle.anorexic.proofs.cover.add_point.Goals as goal
 
 pub limit_of-limit-requires-clause-cost : goal.limit_of-limit-requires-clause-cost
-limit_of-limit-requires-clause-cost c = cost-few (costing_tree c.args.costing.now) c.args.at.now c.requires.costing c.requires.point
+limit_of-limit-requires-clause-cost c = cost-few (costing_tree c.args.costing.now) c.args.at.now c.requires.given.costing c.requires.point
 
 pub add_row-requires : goal.add_row-requires
 add_row-requires c =
@@ -20,7 +20,7 @@ add_row-requires c =
     let are : AreNodeCosts at found.nodes.nodes.items costs (length found.nodes.nodes.items) =
     subst (λ nodes. AreNodeCosts at nodes costs (length nodes)) c.as_slice.ensures.value
     (subst (λ one. AreNodeCosts one c.as_slice.result.now costs (length c.as_slice.result.now)) there c.cost_nodes.ensures) in
-    let few = candidate-few at c.args.frontier.now found.nodes.nodes.items found.numbers.items found.places.items costs c.requires.costing c.requires.frontier c.requires.candidates
+    let few = candidate-few at c.args.frontier.now found.nodes.nodes.items found.numbers.items found.places.items costs c.requires.given.costing c.requires.given.frontier c.requires.given.candidates
     (omega (arith, c.requires.long)) are in
     subst (All (IsFew costs)) (sym c.as_slice-2.ensures.value) few
 
@@ -34,7 +34,7 @@ returns c =
     let are : AreNodeCosts at found.nodes.nodes.items costs (length found.nodes.nodes.items) =
     subst (λ nodes. AreNodeCosts at nodes costs (length nodes)) c.as_slice.ensures.value
     (subst (λ one. AreNodeCosts one c.as_slice.result.now costs (length c.as_slice.result.now)) there c.cost_nodes.ensures) in
-    let row = row-is at c.args.frontier.now found.nodes.nodes.items found.numbers.items found.places.items costs c.args.threshold limit c.requires.frontier c.requires.candidates are
+    let row = row-is at c.args.frontier.now found.nodes.nodes.items found.numbers.items found.places.items costs c.args.threshold limit c.requires.given.frontier c.requires.given.candidates are
     (c.limit_of-limit.ensures ∙ ap (λ n. (100 + c.args.threshold) * n) c.requires.point.cost) in
     let same = ap (map (λ number. nat_le (100 * slice_index costs number) limit)) c.as_slice-2.ensures.value ∙ row in
     IfOk-weaker c.add_row.result _ _ (λ _ is. is ∙ ap (λ xs. c.args.table.now.items ++ xs) same) c.add_row.ensures

@@ -13,10 +13,10 @@ use Rattle.anorexic.specs.Gathered.{AreAmong}
 use Rattle.anorexic.proofs.reduction.reduce.Goals as goal
 
 pub gather-requires : goal.gather-requires
-gather-requires c = record { plans = plans-fit (costing_tree c.args.costing.now) c.args.frontier.now c.block-block.ensures.costing c.requires.each }
+gather-requires c = record { plans = plans-fit (costing_tree c.args.costing.now) c.args.frontier.now c.block-block.ensures.costing c.requires.frontier.each }
 
 pub turns-requires-clause-plans : goal.turns-requires-clause-plans
-turns-requires-clause-plans c = plans-fit (costing_tree c.args.costing.now) c.args.frontier.now c.block-block.ensures.costing c.requires.each
+turns-requires-clause-plans c = plans-fit (costing_tree c.args.costing.now) c.args.frontier.now c.block-block.ensures.costing c.requires.frontier.each
 
 pub turns-requires-clause-each : goal.turns-requires-clause-each
 turns-requires-clause-each c =
@@ -44,8 +44,8 @@ returns c =
     let family : List ℕ → Type 0 = λ places. AreAmong frontier places (length frontier) in
     let among = subst family (sym c.as_slice.ensures.value) c.in_ok-candidates.ensures.among in
     let taken = ap (map (plan_at frontier)) c.as_slice-3.ensures.value
-    ∙ c.in_ok-taken.ensures.taken costing c.args.threshold table
-    ∙ all-turns costing c.args.threshold frontier places c.requires.each within among in
+    ∙ c.in_ok-taken.ensures.greedy costing c.args.threshold table
+    ∙ all-turns costing c.args.threshold frontier places c.requires.frontier.each within among in
     IfOk-weaker c.copies.result (λ plans. map plan_tree plans.items ≡ map (plan_at frontier) c.as_slice-3.result.now)
     (λ plans. map plan_tree plans.items ≡ greedy costing c.args.threshold (frontier_points frontier))
     (λ plans is. is ∙ taken) c.copies.ensures

@@ -25,19 +25,22 @@ loop-turn-init c =
           ++ greedy_turns costing threshold (map (plan_at frontier) candidates) (whole i) (((ap (map (point_at_place frontier)) all) ∙ all-points frontier) i),
     )
 
-pub returns-then-is_empty-clause-taken : goal.returns-then-is_empty-clause-taken
-returns-then-is_empty-clause-taken c =
+pub returns-then-is_empty : goal.returns-then-is_empty
+returns-then-is_empty c =
     let frontier = c.args.frontier.now in
     let plans = map (plan_at frontier) c.args.candidates.now in
     let taken = map (plan_at frontier) c.loop-turn.taken.items in
     let uncovered = c.loop-turn.uncovered in
     let turns = length frontier - c.loop-turn._turn in
     let none = nil_from_length uncovered.items (omega (arith, eqb-true _ _ (sym c.is_empty.ensures ∙ c.if-is_empty.true))) in
-    λ costing threshold is.
-    sym (append-nil taken)
-    ∙ ap (λ rest. taken ++ rest) (sym (none-left costing threshold plans turns))
-    ∙ ap (λ places. taken ++ greedy_turns costing threshold plans turns (map (point_at_place frontier) places)) (sym none)
-    ∙ c.loop-turn.invariant.2 costing threshold is
+    record {
+      within = c.loop-turn.invariant.0;
+      greedy = λ costing threshold is.
+          sym (append-nil taken)
+          ∙ ap (λ rest. taken ++ rest) (sym (none-left costing threshold plans turns))
+          ∙ ap (λ places. taken ++ greedy_turns costing threshold plans turns (map (point_at_place frontier) places)) (sym none)
+          ∙ c.loop-turn.invariant.2 costing threshold is;
+    }
 
 pub first_candidate-candidate-requires-clause-some : goal.first_candidate-candidate-requires-clause-some
 first_candidate-candidate-requires-clause-some c =
@@ -72,15 +75,18 @@ loop-turn-preserved c =
           ∙ next costing threshold is,
     )
 
-pub returns-clause-taken : goal.returns-clause-taken
-returns-clause-taken c =
+pub returns : goal.returns
+returns c =
     let frontier = c.args.frontier.now in
     let plans = map (plan_at frontier) c.args.candidates.now in
     let taken = map (plan_at frontier) c.loop-turn.taken.items in
     let points = map (point_at_place frontier) c.loop-turn.uncovered.items in
     let none : length frontier - c.loop-turn._turn ≡ 0 = omega arith in
-    λ costing threshold is.
-    sym (append-nil taken)
-    ∙ ap (λ rest. taken ++ rest) (sym (no-turns costing threshold plans points))
-    ∙ ap (λ n. taken ++ greedy_turns costing threshold plans n points) (sym none)
-    ∙ c.loop-turn.invariant.2 costing threshold is
+    record {
+      within = c.loop-turn.invariant.0;
+      greedy = λ costing threshold is.
+          sym (append-nil taken)
+          ∙ ap (λ rest. taken ++ rest) (sym (no-turns costing threshold plans points))
+          ∙ ap (λ n. taken ++ greedy_turns costing threshold plans n points) (sym none)
+          ∙ c.loop-turn.invariant.2 costing threshold is;
+    }

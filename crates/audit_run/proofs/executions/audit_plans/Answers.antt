@@ -1,7 +1,5 @@
-use Rattle.std.proofs.Common.{rules, ◌≡◌, ◌∙◌, ◌+◌, ◌<◌, ◌^◌, sym, ap, subst, arith}
+use Rattle.std.proofs.Common.{rules, ◌≡◌, ◌∙◌, ◌<◌, ◌^◌, ap, arith}
 use Rattle.query_block.specs.Blocks.{block_tree, width_of}
-use Rattle.db_catalog.specs.Database.{DatabaseState}
-use Rattle.db_catalog.specs.Fits.{Fits}
 use Rattle.plan_tree.specs.Plans.{plan_tree}
 use Rattle.bouquet_type.specs.Trees.{bouquet_tree}
 use Rattle.audit_run.specs.Measures.{measure_of}
@@ -22,14 +20,8 @@ loop-plan-init c = record {
       c.new-figures.ensures c.new-meter.ensures.spent;
   unchanged = search rules;
   within = search rules;
-  rows = search rules;
-  width = search rules;
-  result_width = search rules;
+  context = search rules;
 }
-
-pub measured-requires-clause-fits : goal.measured-requires-clause-fits
-measured-requires-clause-fits c =
-    subst (λ (d : DatabaseState). Fits d (block_tree c.args.b.now.block)) (sym c.loop-plan.invariant.unchanged) c.requires.fits
 
 pub loop-plan-preserved : goal.loop-plan-preserved
 loop-plan-preserved c =
@@ -38,21 +30,15 @@ loop-plan-preserved c =
     let spent = c.loop-plan.meter.account.spent in
     let m = c.in-Ok.measured in
     let is : measure m ≡ measure_of b c.args.db.now c.args.point.now (plan_tree plan) =
-    c.in-Ok.ensures.measured ∙ ap (λ d. measure_of b d c.args.point.now (plan_tree plan)) c.loop-plan.invariant.unchanged in
-    let paid : c.measured.new.meter.account.spent ≡ spent + m.work = c.in-Ok.ensures.paid in
-    let few : m.work < 2 ^ 64 = search rules in
+    c.in-Ok.ensures.measures.measures ∙ ap (λ d. measure_of b d c.args.point.now (plan_tree plan)) c.loop-plan.invariant.unchanged in
     let next =
     next-figures b c.args.db.now c.args.point.now c.args.plans.now c.loop-plan.plan-index plan m c.loop-plan.figures c.with-figures.result spent
-    c.loop-plan-test.true c.plan-item.is is few
-    (record { below = c.with-figures.ensures.below; worst = c.with-figures.ensures.worst; cheapest = c.with-figures.ensures.cheapest })
-    c.loop-plan.invariant.so_far in
+    c.loop-plan-test.true c.plan-item.is is c.in-Ok.ensures.measures.work c.with-figures.ensures c.loop-plan.invariant.so_far in
     record {
-      so_far = rw paid next;
-      unchanged = search rules;
-      within = search rules;
-      rows = search rules;
-      width = search rules;
-      result_width = search rules;
+      so_far = rw c.in-Ok.ensures.measures.paid next;
+      unchanged = c.in-Ok.ensures.measures.database ∙ c.loop-plan.invariant.unchanged;
+      within = c.in-Ok.ensures.measures.within;
+      context = c.in-Ok.ensures.measures.context;
     }
 
 pub returns-clause-audit : goal.returns-clause-audit

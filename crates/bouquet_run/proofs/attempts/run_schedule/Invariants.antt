@@ -5,7 +5,7 @@ use Rattle.bouquet_run.proofs.attempts.run_schedule.Given as goal
 
 abbrev pub invariant-members : goal.invariant-members
 invariant-members l =
-    IsBetween l.b l.initial.meter l.meter l.max_work l.runs l.schedule l.initial.space.work l.space.work l.initial.space.result l.space.result
+    IsBetween l.b l.initial.meter l.meter l.max_work l.runs l.schedule l.initial.space l.space
 
 abbrev pub decreases-members : goal.decreases-members
 decreases-members l = length (members_left l.schedule)

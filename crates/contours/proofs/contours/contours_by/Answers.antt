@@ -13,27 +13,27 @@ use Rattle.contours.proofs.contours.contours_by.Goals as goal
 
 pub loop-cost-init : goal.loop-cost-init
 loop-cost-init c =
-    let costing = costing_tree c.args.costing.now in
+    let costing = costing_tree c.args.outlook.now in
     let none = c.new-contours.ensures.items in
     let number : ℕ = length c.new-contours.result.items + 1 in
     let one : number ≡ 1 = ap (λ (contours : List Contour). length contours + 1) none in
     let first : contour_cost costing 1 ≡ optimal_cost costing (bottom_of costing.grid) = omega arith in
     record {
       first = subst (AreFirst costing c.args.threshold) (sym none) (first-none costing c.args.threshold);
-      cost = c.bottom_cost-bottom.ensures ∙ sym first ∙ ap (contour_cost costing) (sym one);
+      cost = c.bottom_cost-bottom.ensures.cost ∙ sym first ∙ ap (contour_cost costing) (sym one);
       below = λ other below some. absurd (omega (arith, below, some, one));
-      some = omega (arith, c.bottom_cost-bottom.ensures);
-      few = omega (arith, c.bottom_cost-bottom.ensures, optimal-below costing (bottom_of costing.grid) c.block-block.ensures.costing);
+      some = omega (arith, c.bottom_cost-bottom.ensures.cost);
+      few = omega (arith, c.bottom_cost-bottom.ensures.cost, optimal-below costing (bottom_of costing.grid) c.bottom_cost-bottom.ensures.costing);
     }
 
 pub loop-cost-smaller : goal.loop-cost-smaller
 loop-cost-smaller c =
-    let costing = costing_tree c.args.costing.now in
-    omega (arith, c.loop-cost-test.true, c.loop-cost.invariant.some, optimal-some costing (bottom_of costing.grid) c.block-block.ensures.costing)
+    let costing = costing_tree c.args.outlook.now in
+    omega (arith, c.loop-cost-test.true, c.loop-cost.invariant.some, optimal-some costing (bottom_of costing.grid) c.bottom_cost-bottom.ensures.costing)
 
 pub loop-cost-preserved : goal.loop-cost-preserved
 loop-cost-preserved c =
-    let costing = costing_tree c.args.costing.now in
+    let costing = costing_tree c.args.outlook.now in
     let before = c.loop-cost.contours.items in
     let more = c.in_ok-push.ensures.items in
     let made = c.in_ok-contour.field-0 in
@@ -54,23 +54,13 @@ loop-cost-preserved c =
                 subst (λ n. contour_cost costing n < top) (sym same) here
           ];
       some = omega (arith, c.loop-cost.invariant.some);
-      few = omega (arith, c.loop-cost-test.true, c.top_cost-top.ensures, optimal-below costing (top_of costing.grid) c.block-block.ensures.costing);
+      few = omega (arith, c.loop-cost-test.true, c.top_cost-top.ensures, optimal-below costing (top_of costing.grid) c.bottom_cost-bottom.ensures.costing);
     }
 
-pub returns-clause-compiled : goal.returns-clause-compiled
-returns-clause-compiled c =
-    let costing = costing_tree c.args.costing.now in
+pub returns : goal.returns
+returns c =
+    let costing = costing_tree c.args.outlook.now in
     let cost = c.in_ok-last.ensures.cost in
-    let whole = last-more costing c.args.threshold c.top_cost-top.result c.loop-cost.contours.items c.push-2.new.self.items c.in_ok-last.last
-    c.block-block.ensures.costing c.loop-cost.invariant.first c.in_ok-push-2.ensures.items c.in_ok-last.ensures.reduced (cost ∙ c.loop-cost.invariant.cost)
-    c.loop-cost.invariant.below c.top_cost-top.ensures (omega (arith, cost, c.loop-cost-test.false)) in
-    whole.compiled
-
-pub returns-clause-few : goal.returns-clause-few
-returns-clause-few c =
-    let costing = costing_tree c.args.costing.now in
-    let cost = c.in_ok-last.ensures.cost in
-    let whole = last-more costing c.args.threshold c.top_cost-top.result c.loop-cost.contours.items c.push-2.new.self.items c.in_ok-last.last
-    c.block-block.ensures.costing c.loop-cost.invariant.first c.in_ok-push-2.ensures.items c.in_ok-last.ensures.reduced (cost ∙ c.loop-cost.invariant.cost)
-    c.loop-cost.invariant.below c.top_cost-top.ensures (omega (arith, cost, c.loop-cost-test.false)) in
-    whole.few
+    last-more costing c.args.threshold c.top_cost-top.result c.loop-cost.contours.items c.push-2.new.self.items c.in_ok-last.last
+    c.bottom_cost-bottom.ensures.costing c.loop-cost.invariant.first c.in_ok-push-2.ensures.items c.in_ok-last.ensures.reduced (cost ∙ c.loop-cost.invariant.cost)
+    c.loop-cost.invariant.below c.top_cost-top.ensures (omega (arith, cost, c.loop-cost-test.false))

@@ -8,10 +8,10 @@ use Rattle.contours.proofs.contours.contours_by.Given as goal
 
 abbrev pub invariant-loop-cost : goal.invariant-loop-cost
 invariant-loop-cost l = record {
-  first : AreFirst (costing_tree l.costing) l.threshold l.contours.items;
-  cost : l.cost ≡ contour_cost (costing_tree l.costing) (length l.contours.items + 1);
-  below : (number : ℕ) → number < length l.contours.items + 1 → 1 ≤ number → contour_cost (costing_tree l.costing) number < l.top;
-  some : optimal_cost (costing_tree l.costing) (bottom_of l.costing.grid) ≤ l.cost;
+  first : AreFirst (costing_tree l.outlook) l.threshold l.contours.items;
+  cost : l.cost ≡ contour_cost (costing_tree l.outlook) (length l.contours.items + 1);
+  below : (number : ℕ) → number < length l.contours.items + 1 → 1 ≤ number → contour_cost (costing_tree l.outlook) number < l.top;
+  some : optimal_cost (costing_tree l.outlook) (bottom_of l.outlook.grid) ≤ l.cost;
   few : l.cost ≤ 2 ^ 114;
 }
 

@@ -8,6 +8,6 @@ use Rattle.contours.proofs.frontier.frontier.Given as goal
 
 abbrev pub invariant-loop-place : goal.invariant-loop-place
 invariant-loop-place l = record {
-  points : frontier_points l.found.items ≡ filter (is_on_frontier (costing_tree l.costing) l.cost) (take l.place (points_of l.costing.grid));
-  best : All (IsFrontierPoint (costing_tree l.costing)) l.found.items;
+  points : frontier_points l.found.items ≡ filter (is_on_frontier (costing_tree l.outlook) l.cost) (take l.place (points_of l.outlook.grid));
+  best : All (IsFrontierPoint (costing_tree l.outlook)) l.found.items;
 }

@@ -10,7 +10,7 @@ returns-clause-some c =
     let many = length-map c.args.block.now.relations relation_tree in
     let block = c.relations-count.ensures.block in
     let two : 2 ^ 1 ≤ 2 ^ count = power-to 1 count (omega (arith, many, block.some, ap length c.relations-count.ensures.relations)) in
-    omega (arith, two, c.set_of_one.ensures)
+    omega (arith, two, c.number.ensures, c.one.ensures)
 
 pub returns-clause-few : goal.returns-clause-few
 returns-clause-few c =
@@ -18,4 +18,4 @@ returns-clause-few c =
     let many = length-map c.args.block.now.relations relation_tree in
     let block = c.relations-count.ensures.block in
     let few : 2 ^ count ≤ 2 ^ 6 = power-to count 6 (omega (arith, many, block.few, ap length c.relations-count.ensures.relations)) in
-    omega (arith, few, c.set_of_one.ensures)
+    omega (arith, few, c.number.ensures, c.one.ensures)

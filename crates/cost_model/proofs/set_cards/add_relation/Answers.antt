@@ -7,12 +7,12 @@ use Rattle.cost_model.proofs.set_cards.add_relation.Goals as goal
 
 pub bounds-products-rest : goal.bounds-products-rest
 bounds-products-rest c =
-    let less : c.loop-rest.rest < 2 ^ c.args.relation = omega (arith, c.loop-rest-test.true, c.set_of_one-alone.ensures) in
+    let less : c.loop-rest.rest < 2 ^ c.args.relation = omega (arith, c.loop-rest-test.true, (c.number-alone.ensures ∙ c.one.ensures)) in
     omega (arith, highest-small c.args.costing.now c.args.relation c.loop-rest.rest c.block-block.ensures.costing c.requires.relation less)
 
 pub overflow_mul-products : goal.overflow_mul-products
 overflow_mul-products c =
-    let less : c.loop-rest.rest < 2 ^ c.args.relation = omega (arith, c.loop-rest-test.true, c.set_of_one-alone.ensures) in
+    let less : c.loop-rest.rest < 2 ^ c.args.relation = omega (arith, c.loop-rest-test.true, (c.number-alone.ensures ∙ c.one.ensures)) in
     let next = more-product c.args.costing.now c.args.relation c.loop-rest.rest _ _ c.block-block.ensures.costing c.requires.relation less
     (c.from-kept.ensures ∙ ap (λ stats. stats.kept) c.relation.ensures.stats)
     (c.loop-rest.invariant.0 c.loop-rest.rest (omega (arith, c.loop-rest-test.true))) in
@@ -20,23 +20,23 @@ overflow_mul-products c =
 
 pub overflow_add-products : goal.overflow_add-products
 overflow_add-products c =
-    let less : c.loop-rest.rest < 2 ^ c.args.relation = omega (arith, c.loop-rest-test.true, c.set_of_one-alone.ensures) in
-    omega (arith, highest-small c.args.costing.now c.args.relation c.loop-rest.rest c.block-block.ensures.costing c.requires.relation less, c.set_of_one-alone.ensures)
+    let less : c.loop-rest.rest < 2 ^ c.args.relation = omega (arith, c.loop-rest-test.true, (c.number-alone.ensures ∙ c.one.ensures)) in
+    omega (arith, highest-small c.args.costing.now c.args.relation c.loop-rest.rest c.block-block.ensures.costing c.requires.relation less, (c.number-alone.ensures ∙ c.one.ensures))
 
 pub bounds-products-alone : goal.bounds-products-alone
 bounds-products-alone c =
-    let less : c.loop-rest.rest < 2 ^ c.args.relation = omega (arith, c.loop-rest-test.true, c.set_of_one-alone.ensures) in
-    omega (arith, highest-small c.args.costing.now c.args.relation c.loop-rest.rest c.block-block.ensures.costing c.requires.relation less, c.set_of_one-alone.ensures)
+    let less : c.loop-rest.rest < 2 ^ c.args.relation = omega (arith, c.loop-rest-test.true, (c.number-alone.ensures ∙ c.one.ensures)) in
+    omega (arith, highest-small c.args.costing.now c.args.relation c.loop-rest.rest c.block-block.ensures.costing c.requires.relation less, (c.number-alone.ensures ∙ c.one.ensures))
 
 pub loop-rest-preserved : goal.loop-rest-preserved
 loop-rest-preserved c =
     let costing = c.args.costing.now in
     let rest = c.loop-rest.rest in
-    let alone = c.set_of_one-alone.result in
-    let less : rest < 2 ^ c.args.relation = omega (arith, c.loop-rest-test.true, c.set_of_one-alone.ensures) in
+    let alone = c.number-alone.result in
+    let less : rest < 2 ^ c.args.relation = omega (arith, c.loop-rest-test.true, (c.number-alone.ensures ∙ c.one.ensures)) in
     let small = highest-small costing c.args.relation rest c.block-block.ensures.costing c.requires.relation less in
     let next = more-product costing c.args.relation rest _ _ c.block-block.ensures.costing c.requires.relation less
     (c.from-kept.ensures ∙ ap (λ stats. stats.kept) c.relation.ensures.stats)
     (c.loop-rest.invariant.0 rest (omega (arith, c.loop-rest-test.true))) in
-    add-product (costing_tree costing) c.loop-rest.products (alone + rest) _ _ c.loop-rest.invariant.1 (omega (arith, small, c.set_of_one-alone.ensures)) (omega arith) c.loop-rest.invariant.0
-    (next.0 ∙ ap (λ highest. kept_product (set_of (highest + rest)) 0 costing.stats.relations) (sym c.set_of_one-alone.ensures))
+    add-product (costing_tree costing) c.loop-rest.products (alone + rest) _ _ c.loop-rest.invariant.1 (omega (arith, small, (c.number-alone.ensures ∙ c.one.ensures))) (omega arith) c.loop-rest.invariant.0
+    (next.0 ∙ ap (λ highest. kept_product (set_of (highest + rest)) 0 costing.stats.relations) (sym (c.number-alone.ensures ∙ c.one.ensures)))

@@ -17,8 +17,8 @@ loop-set-preserved c =
     let set = c.loop-set.set in
     let card = get_or c.loop-set.cards set 0 in
     let edges : c.edges.result.now ≡ costing.block.edges = c.edges.ensures.edges ∙ ap (λ block. block.edges) c.block-block.ensures.block in
-    let inside : c.is_inside-inside.result ≡ is_inside (set_of set) (edge_at costing.block.edges edge) =
-    c.is_inside-inside.ensures ∙ ap (λ all. is_inside (set_of set) (edge_at all edge)) edges in
+    let inside : c.has_both-inside.result ≡ is_inside (set_of set) (edge_at costing.block.edges edge) =
+    c.has_both-inside.ensures ∙ (λ i. is_inside (set_of (c.new.ensures i)) (edge_at (edges i) edge)) in
     let count = c.set_count-set-end.ensures.count ∙ ap (λ block. 2 ^ length (block_tree block).relations) c.block-block.ensures.block in
     let below : IsSetOf (block_at at) set = omega (arith, c.loop-set-test.true, count) in
     let next = scaled-next at set edge card c.scaled_inside.result c.requires.edge (c.loop-set.invariant.1 set (omega arith) below)

@@ -1,9 +1,9 @@
-use Rattle.std.proofs.Common.{◌≡◌, ◌≢◌, ◌+◌, ◌≤◌, ◌∷◌, [], ◌++◌, drop, length, length-append, Some, sym, ap, ◌∙◌, append_assoc, append-nil, arith, rules}
+use Rattle.std.proofs.Common.{◌≡◌, ◌≢◌, ◌+◌, ◌≤◌, ◌∷◌, [], ◌++◌, drop, length, length-append, Some, sym, ap, ap₂, ◌∙◌, append_assoc, append-nil, arith, rules}
 use Rattle.csv.specs.Records.{fields_of}
 use Rattle.csv_load.specs.declared.fault.LoadFault.TheVariants.{NoMemory}
 use Rattle.csv_load.specs.Field.{field_value}
 use Rattle.csv_load.specs.Load.{entry_fault, entry_row}
-use Rattle.csv_load.proofs.Rows.{fields_fault_from-more, fields_fault_from-bad, entry_row-more, entry_row-all, row_ended}
+use Rattle.csv_load.proofs.Rows.{fields_fault_from-more, fields_fault_from-bad, entry_row-more, entry_row-all}
 use Rattle.csv_load.proofs.loading.put_entry.Goals as goal
 
 pub returns-in_err-put_field-clause-fault : goal.returns-in_err-put_field-clause-fault
@@ -34,4 +34,8 @@ returns-clause-row c =
     let none = entry_row-all c.loop-i.i c.args.columns.now (drop c.loop-i.i (fields_of c.args.entry.now)) last in
     let whole : c.loop-i.batch.row ≡ entry_row c.args.columns.now (fields_of c.args.entry.now) =
     sym (append-nil c.loop-i.batch.row) ∙ ap (λ rest. c.loop-i.batch.row ++ rest) (sym none) ∙ c.loop-i.invariant.row in
-    row_ended c.args.batch.now c.loop-i.batch c.end_row.new.self _ c.in_ok-end_row.ensures.ended (c.loop-i.invariant.columns ∙ sym c.requires.columns) c.loop-i.invariant.rows whole c.requires.whole
+    record {
+      columns = ap (λ b. b.columns) c.in_ok-end_row.ensures.made ∙ c.loop-i.invariant.columns;
+      rows = ap (λ b. b.rows) c.in_ok-end_row.ensures.made ∙ ap₂ (λ all one. all ++ one ∷ []) c.loop-i.invariant.rows whole;
+      row = ap (λ b. b.row) c.in_ok-end_row.ensures.made;
+    }

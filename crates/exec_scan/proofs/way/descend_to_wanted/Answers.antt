@@ -12,10 +12,10 @@ returns-clause-entries c =
     let none : IsSome c.args.reader.now.cursor → ⊥ = λ some. true≢false (sym (c.has_descended.ensures.1 some) ∙ c.if-has_descended.false) in
     let from : SFits w64 range.from = search rules in
     let to : SFits w64 range.to = search rules in
-    let led = simp to_z-of_z at c.in_ok-descend.ensures.entries in
+    let led = simp to_z-of_z at c.in_ok-descend.ensures.descends.entries in
     let finds = rw (c.as_slice.ensures, c.texts.ensures, c.column.ensures) at (c.range_of-range.ensures own.columns) in
-    descended c.args.meter.now.database own c.requires.fits c.args.reader.now c.descend.new.self range c.requires.table none c.in_ok-descend.ensures.descended (finds c.requires.relation.filter)
-    c.descend.ensures.words c.descend.ensures.rows led
+    descended c.args.meter.now.database own c.requires.way.relation.fits c.args.reader.now c.descend.new.self range c.requires.way.table none c.in_ok-descend.ensures.descends.descended (finds c.requires.way.relation.allowed.filter)
+    c.descend.ensures.words.entries c.descend.ensures.words.rows led
 
 pub returns-clause-pays : goal.returns-clause-pays
 returns-clause-pays c =
@@ -25,14 +25,17 @@ returns-clause-pays c =
     let none : IsSome old.cursor → ⊥ = λ some. true≢false (sym (c.has_descended.ensures.1 some) ∙ c.if-has_descended.false) in
     let pays = c.in_ok-descend.ensures.reads.pays in
     record {
-      paid = omega (
-        arith,
-        pays.paid,
-        descent-ahead (index_height database old.table old.column) old.cursor none,
-        descent-done (index_height database new.table new.column) new.cursor c.in_ok-descend.ensures.descended,
-        ap length (returns-clause-entries c),
-      );
-      refused = tt;
-      limit = pays.limit;
-      never_falls = pays.never_falls;
+      due = record {
+        paid = omega (
+          arith,
+          pays.paid,
+          descent-ahead (index_height database old.table old.column) old.cursor none,
+          descent-done (index_height database new.table new.column) new.cursor c.in_ok-descend.ensures.descends.descended,
+          ap length (returns-clause-entries c),
+        );
+        refused = tt;
+        limit = pays.limit;
+        never_falls = pays.never_falls;
+      };
+      database = c.descend.ensures.reads.database;
     }

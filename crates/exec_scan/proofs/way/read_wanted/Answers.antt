@@ -11,9 +11,9 @@ returns-clause-row c =
     let mid = c.descend_to_wanted.new.reader in
     let new = c.read.new.self in
     let done = c.in_ok-descend_to_wanted.ensures in
-    let still = c.read.ensures.descended done.descended in
-    let read = rw c.descend_to_wanted.ensures.database at c.read.ensures.row in
+    let still = c.read.ensures.goes_on.descended done.descended in
+    let read = rw c.descend_to_wanted.ensures.pays.database at c.read.ensures.row in
     found-weaker c.read.result
-    (λ none. none-read database own c.requires.fits old mid new c.requires.table done.entries c.descend_to_wanted.ensures.moves c.read.ensures.moves done.descended still none)
-    (λ words reads. first-read database own c.requires.fits old mid new c.requires.table done.entries c.descend_to_wanted.ensures.moves c.read.ensures.moves done.descended still words.now reads)
+    (λ none. none-read database own c.requires.way.relation.fits old mid new c.requires.way.table done.entries c.descend_to_wanted.ensures.goes_on.moves c.read.ensures.goes_on.moves done.descended still none)
+    (λ words reads. first-read database own c.requires.way.relation.fits old mid new c.requires.way.table done.entries c.descend_to_wanted.ensures.goes_on.moves c.read.ensures.goes_on.moves done.descended still words.now reads)
     read

@@ -13,4 +13,8 @@ loop-number-preserved c =
       words = rw c.in_ok-push.ensures.items (words-added c.loop-number.pages.items page c.in_ok-with_capacity.ensures.items ∙ c.loop-number.invariant.words);
       packed = λ are. rw c.in_ok-push.ensures.items (ArePackedPages-added c.args.size c.loop-number.pages.items page c.in_ok-with_capacity.ensures.items c.in_ok-with_capacity.ensures.capacity (c.loop-number.invariant.packed are));
       number = omega (arith, c.in_ok-push.ensures.len, c.loop-number.invariant.number);
+      few = omega (arith, c.in_ok-push.ensures.len, c.loop-number.invariant.number, c.loop-number-test.true);
     }
+
+pub returns-clause-count : goal.returns-clause-count
+returns-clause-count c = omega (arith, c.loop-number.invariant.number, c.loop-number.invariant.few, c.loop-number.auto._number, c.loop-number-test.false, c.len-number.ensures)

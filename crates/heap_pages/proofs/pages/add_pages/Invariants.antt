@@ -1,5 +1,5 @@
 -- The pages that were there stay, and no words come.
-use Rattle.std.proofs.Common.{◌≡◌, take}
+use Rattle.std.proofs.Common.{◌≡◌, ◌≤◌, max, take}
 use Rattle.heap_pages.specs.Layout.{words_of_pages, ArePackedPages}
 use Rattle.heap_pages.proofs.pages.add_pages.Given as goal
 
@@ -9,4 +9,5 @@ invariant-loop-number l = record {
   words : words_of_pages l.pages.items ≡ words_of_pages l.initial.pages.items;
   packed : ArePackedPages l.size l.initial.pages.items → ArePackedPages l.size l.pages.items;
   number : l.pages.len ≡ l._number;
+  few : l.pages.len ≤ max l.initial.pages.len l.count;
 }

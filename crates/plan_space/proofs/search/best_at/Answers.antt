@@ -1,6 +1,7 @@
 use Rattle.std.proofs.Common.{◌-◌, ◌^◌, length, ap, ◌∙◌}
 use Rattle.query_block.specs.Blocks.{block_tree}
 use Rattle.plan_tree.specs.Plans.{plan_tree}
+use Rattle.plan_space.specs.Table.{entry_at}
 use Rattle.plan_space.proofs.Filled.{is-best}
 use Rattle.plan_space.proofs.search.best_at.Goals as goal
 
@@ -12,4 +13,5 @@ returns-clause-best c =
 pub returns-clause-cost : goal.returns-clause-cost
 returns-clause-cost c =
     let all = c.set_of_all-all.ensures.all ∙ ap (λ block. 2 ^ length (block_tree block).relations - 1) c.block-block.ensures.block in
-    (is-best c.args.prices.now c.filled-table.result (plan_tree c.in_ok-p.p) c.set_of_all-all.result c.block-block.ensures.costing c.filled-table.ensures all c.in_ok-p.ensures.follows).1
+    ap (λ set. (entry_at c.filled-table.result set).cost) c.number.ensures
+    ∙ (is-best c.args.prices.now c.filled-table.result (plan_tree c.in_ok-p.p) c.set_of_all-all.result c.block-block.ensures.costing c.filled-table.ensures all c.in_ok-p.ensures.follows).1

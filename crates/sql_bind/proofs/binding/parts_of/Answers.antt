@@ -3,6 +3,6 @@ use Rattle.sql_parse.specs.Trees.{condition_tree}
 use Rattle.sql_bind.proofs.Counts.{conjuncts-few}
 use Rattle.sql_bind.proofs.binding.parts_of.Goals as goal
 
-pub add_conjuncts-requires-clause-counted : goal.add_conjuncts-requires-clause-counted
-add_conjuncts-requires-clause-counted c =
+pub add_conjuncts-requires : goal.add_conjuncts-requires
+add_conjuncts-requires c =
     omega (arith, conjuncts-few (condition_tree c.args.condition.now) c.requires.well_formed, c.requires.counted)

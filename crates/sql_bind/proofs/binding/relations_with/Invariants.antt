@@ -5,4 +5,4 @@ use Rattle.sql_bind.proofs.binding.relations_with.Given as goal
 
 abbrev pub invariant-loop-filter : goal.invariant-loop-filter
 invariant-loop-filter l =
-    (length l.relations.items ≡ length l.yielded) × (map relation_tree l.relations.items ≡ with_filters l.tables (filter_trees l.yielded))
+    (length l.relations.items ≡ length l.yielded) × (map relation_tree l.relations.items ≡ with_filters l.scope (filter_trees l.yielded))

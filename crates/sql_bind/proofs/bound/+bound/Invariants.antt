@@ -6,4 +6,4 @@ use Rattle.sql_bind.proofs.bound.+bound.Given as goal
 
 abbrev pub invariant-bound_conditions-loop-i : goal.invariant-bound_conditions-loop-i
 invariant-bound_conditions-loop-i l =
-    map filter_tree l.bound.items ≡ map (λ part. bound_condition l.tables (condition_tree part)) (take l.i l.parts)
+    map filter_tree l.bound.items ≡ map (λ part. bound_condition l.scope (condition_tree part)) (take l.i l.parts)

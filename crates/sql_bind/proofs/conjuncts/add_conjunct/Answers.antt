@@ -8,7 +8,7 @@ use Rattle.sql_bind.proofs.conjuncts.add_conjunct.Goals as goal
 
 pub returns-in_ok-push_filter-in-One-clause-added : goal.returns-in_ok-push_filter-in-One-clause-added
 returns-in_ok-push_filter-in-One-clause-added c =
-    let tables = c.args.tables.now in
+    let tables = c.args.scope.now in
     let conjunct = condition_tree c.args.conjunct.now in
     let is : reach_of tables conjunct ≡ One c.in-One.relation = sym c.in-One.ensures in
     record {
@@ -20,7 +20,7 @@ returns-in_ok-push_filter-in-One-clause-added c =
 
 pub returns-in_ok-push-in-Some-clause-added : goal.returns-in_ok-push-in-Some-clause-added
 returns-in_ok-push-in-Some-clause-added c =
-    let tables = c.args.tables.now in
+    let tables = c.args.scope.now in
     let conjunct = condition_tree c.args.conjunct.now in
     let is : reach_of tables conjunct ≡ Several = sym c.in-Several.ensures in
     let items : c.push.new.self.items ≡ c.args.parts.now.edges.items ++ c.in-Some.edge ∷ [] = c.in_ok-push-in-Some.ensures.items in

@@ -1,6 +1,6 @@
 use Rattle.std.proofs.Common.{◌≡◌, [], All, drop, map, take}
 use Rattle.sql_bind.specs.Binding.{named_table, from_fault}
-use Rattle.sql_bind.specs.Refused.{IsNamed}
+use Rattle.sql_bind.specs.Named.{IsNamed}
 use Rattle.sql_bind.proofs.from.named_tables.Given as goal
 
 abbrev pub invariant-loop-i : goal.invariant-loop-i

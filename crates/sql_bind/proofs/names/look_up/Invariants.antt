@@ -6,4 +6,4 @@ use Rattle.sql_bind.proofs.names.look_up.Given as goal
 
 abbrev pub invariant-loop-number : goal.invariant-loop-number
 invariant-loop-number l =
-    found_with Nothing (named_places l.tables l.written) ≡ found_with l.found (places_from l.number (drop l.number l.tables) l.written)
+    found_with Nothing (named_places l.scope l.written) ≡ found_with l.found (places_from l.number (drop l.number l.scope) l.written)

@@ -5,5 +5,5 @@ use Rattle.sql_bind.proofs.predicates.all_agree.Given as goal
 
 abbrev pub invariant-loop-i : goal.invariant-loop-i
 invariant-loop-i l =
-    list_all (λ term. agree (is_text_term l.tables l.first) (is_text_term l.tables term)) l.others
-    ≡ list_all (λ term. agree (is_text_term l.tables l.first) (is_text_term l.tables term)) (drop l.i l.others)
+    list_all (λ term. agree (is_text_term l.scope l.first) (is_text_term l.scope term)) l.others
+    ≡ list_all (λ term. agree (is_text_term l.scope l.first) (is_text_term l.scope term)) (drop l.i l.others)

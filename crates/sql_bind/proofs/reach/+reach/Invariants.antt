@@ -5,4 +5,4 @@ use Rattle.sql_bind.proofs.reach.+reach.Given as goal
 
 abbrev pub invariant-reach_of_all-loop-i : goal.invariant-reach_of_all-loop-i
 invariant-reach_of_all-loop-i l =
-    reach_of_all l.tables (operands (map condition_tree l.parts)) ≡ joined_reach l.reach (reach_of_all l.tables (operands (map condition_tree (drop l.i l.parts))))
+    reach_of_all l.scope (operands (map condition_tree l.parts)) ≡ joined_reach l.reach (reach_of_all l.scope (operands (map condition_tree (drop l.i l.parts))))

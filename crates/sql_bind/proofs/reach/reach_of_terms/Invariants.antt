@@ -3,4 +3,4 @@ use Rattle.sql_bind.specs.Conjuncts.{joined_reach, reach_of_terms}
 use Rattle.sql_bind.proofs.reach.reach_of_terms.Given as goal
 
 abbrev pub invariant-loop-i : goal.invariant-loop-i
-invariant-loop-i l = reach_of_terms l.tables l.terms ≡ joined_reach l.reach (reach_of_terms l.tables (drop l.i l.terms))
+invariant-loop-i l = reach_of_terms l.scope l.terms ≡ joined_reach l.reach (reach_of_terms l.scope (drop l.i l.terms))

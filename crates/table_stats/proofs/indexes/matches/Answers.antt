@@ -1,15 +1,22 @@
-use Rattle.std.proofs.Common.{length, ap, ◌∙◌, SFits, w64, rules}
-use Rattle.std.specs.Prelude.{Contains}
+use Rattle.std.proofs.Common.{cond, length, Option, Some, None, sym, ap, ◌∙◌, SFits, w64, rules}
+use Rattle.std.specs.Prelude.{Bool, Contains, ℕ}
 use Rattle.std.proofs.lemmas.Int.{to_z-of_z}
 use Rattle.std.proofs.lemmas.List.Elements.{All-contains}
 use Rattle.query_block.specs.Blocks.{relation_tree}
+use Rattle.plan_tree.specs.Work.{matches_in}
 use Rattle.db_catalog.specs.Database.{table_at}
 use Rattle.table_stats.proofs.Matches.{matches-are}
 use Rattle.table_stats.proofs.indexes.matches.Goals as goal
 
-pub entries_within-entries-requires-clause-indexed : goal.entries_within-entries-requires-clause-indexed
-entries_within-entries-requires-clause-indexed c =
-    All-contains (Contains (table_at c.args.db.now c.args.relation.now.table).indexed) c.args.relation.now.indexes c.args.column c.requires.fits.indexes c.requires.indexed
+pub entries_within-entries-requires : goal.entries_within-entries-requires
+entries_within-entries-requires c =
+    All-contains (Contains (table_at c.args.db.now c.args.relation.now.table).indexed) c.args.relation.now.indexes c.args.column c.requires.stands.fits.indexes c.requires.indexed
+
+pub returns-then-not-has_usable : goal.returns-then-not-has_usable
+returns-then-not-has_usable c =
+    let usable = rw (c.as_slice-filter.ensures, c.as_slice.ensures) at c.has_usable.ensures in
+    let some : Option ℕ = Some (matches_in c.args.db.now.tables (relation_tree c.args.relation.now) c.args.column) in
+    sym (ap (λ (b : Bool). cond b some None) (sym usable ∙ c.if-not-has_usable.true))
 
 pub returns : goal.returns
 returns c =
@@ -19,6 +26,9 @@ returns c =
     let from : SFits w64 range.from = search rules in
     let to : SFits w64 range.to = search rules in
     let entries = simp to_z-of_z at c.entries_within-entries.ensures.entries in
-    let finds = rw (c.as_slice.ensures, c.texts.ensures.texts) at (c.range_of-range.ensures own.columns) in
-    ap length entries
-    ∙ matches-are database own c.requires.fits c.args.column range (finds c.requires.relation.filter) c.entries_within-entries.ensures.words c.entries_within-entries.ensures.rows
+    let finds = rw (c.as_slice-filter.ensures, c.texts.ensures.texts) at (c.range_of-range.ensures own.columns) in
+    let usable = rw (c.as_slice-filter.ensures, c.as_slice.ensures) at c.has_usable.ensures in
+    let some : Option ℕ = Some (matches_in database.tables own c.args.column) in
+    ap Some (ap length entries
+    ∙ matches-are database own c.requires.stands.fits c.args.column range (finds c.requires.stands.well_formed.filter) c.entries_within-entries.ensures.words c.entries_within-entries.ensures.rows)
+    ∙ sym (ap (λ (b : Bool). cond b some None) (sym usable ∙ c.if-not-has_usable.false))

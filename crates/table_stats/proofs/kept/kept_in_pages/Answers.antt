@@ -28,7 +28,7 @@ returns c =
     let relation = own c.args.filter.now in
     let table = table_at c.args.db.now relation.table in
     let width : length relation.columns ≡ length table.columns = ap length c.requires.fits.columns ∙ length-map table.columns (λ column. column.kind) in
-    let some : 1 ≤ rows_per_page (length table.columns) = subst (λ n. 1 ≤ rows_per_page n) width (some-rows (length relation.columns) c.requires.relation.some c.requires.relation.few) in
+    let some : 1 ≤ rows_per_page (length table.columns) = subst (λ n. 1 ≤ rows_per_page n) width (some-rows (length relation.columns) c.requires.ready.relation.some c.requires.ready.relation.few) in
     c.loop-no.invariant
     ∙ ap (count_by (meets_filter relation.filter))
     (pages-all (meets_filter relation.filter) (length table.columns) table.rows c.pages-no-end.result c.loop-no.no some c.pages-no-end.ensures c.loop-no-test.false)

@@ -14,13 +14,13 @@ use Rattle.table_stats.specs.Ready.{own}
 use Rattle.table_stats.proofs.Counted.{found-all, one-more, own-row}
 use Rattle.table_stats.proofs.kept.kept_within.Goals as goal
 
-pub entries_within-entry-items-requires-clause-indexed : goal.entries_within-entry-items-requires-clause-indexed
-entries_within-entry-items-requires-clause-indexed c =
+pub entries_within-entry-items-requires : goal.entries_within-entry-items-requires
+entries_within-entry-items-requires c =
     let relation = own c.args.filter.now in
     All-contains (Contains (table_at c.args.db.now relation.table).indexed) relation.indexes c.args.column c.requires.over.fits.indexes c.requires.indexed
 
-pub plain_row-row-requires-clause-row : goal.plain_row-row-requires-clause-row
-plain_row-row-requires-clause-row c =
+pub plain_row-row-requires : goal.plain_row-row-requires
+plain_row-row-requires c =
     let relation = own c.args.filter.now in
     let table = table_at c.args.db.now relation.table in
     let range = c.range_of-range.result in
@@ -66,5 +66,5 @@ returns c =
     let all : take c.loop-entry.entry-index (map row entries) ≡ map row entries = take_all c.loop-entry.entry-index (map row entries) (simp length-map c.loop-entry-test.false) in
     c.loop-entry.invariant
     ∙ ap (count_by test) (all ∙ ap (map row) are)
-    ∙ found-all database relation c.requires.over.fits c.args.column range c.requires.usable (finds c.requires.over.relation.filter)
+    ∙ found-all database relation c.requires.over.fits c.args.column range c.requires.usable (finds c.requires.over.ready.relation.filter)
     c.entries_within-entry-items.ensures.words c.entries_within-entry-items.ensures.rows

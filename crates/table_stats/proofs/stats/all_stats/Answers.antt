@@ -8,18 +8,14 @@ use Rattle.cost_model.specs.Counts.{relation_stats_of}
 use Rattle.query_block.proofs.Relations.{of_each}
 use Rattle.table_stats.proofs.stats.all_stats.Goals as goal
 
-pub relation_stats-requires-clause-relation : goal.relation_stats-requires-clause-relation
-relation_stats-requires-clause-relation c =
-    let lent = c.relations-relation-items.result.now in
-    let all = subst (λ relations. All IsRelation (map relation_tree relations)) (sym c.relations-relation-items.ensures.relations) c.relations-relation-items.ensures.block.relations in
-    of_each IsRelation lent c.loop-relation.relation-index c.relation-item.result c.loop-relation-test.true c.relation-item.is all
-
-pub relation_stats-requires-clause-fits : goal.relation_stats-requires-clause-fits
-relation_stats-requires-clause-fits c =
+pub relation_stats-requires : goal.relation_stats-requires
+relation_stats-requires c =
     let fits : RelationTree → Type 0 = FitsTable c.args.db.now in
     let lent = c.relations-relation-items.result.now in
-    let all = subst (λ relations. All fits (map relation_tree relations)) (sym c.relations-relation-items.ensures.relations) c.requires in
-    of_each fits lent c.loop-relation.relation-index c.relation-item.result c.loop-relation-test.true c.relation-item.is all
+    let of : (P : RelationTree → Type 0) → All P (map relation_tree c.args.block.now.relations) → P (relation_tree c.relation-item.result) = λ P all.
+    of_each P lent c.loop-relation.relation-index c.relation-item.result c.loop-relation-test.true c.relation-item.is
+    (subst (λ relations. All P (map relation_tree relations)) (sym c.relations-relation-items.ensures.relations) all) in
+    record { well_formed = of IsRelation c.relations-relation-items.ensures.block.relations; fits = of fits c.requires }
 
 twice : (f : RelationTree → RelationStats) (relations : List Relation) → map (λ relation. f (relation_tree relation)) relations ≡ map f (map relation_tree relations)
 twice f [] = refl

@@ -19,7 +19,7 @@ returns-then-is_empty c =
     ∙ ap (λ (filter : List Condition). count_by (meets_filter (map filter_tree filter)) rows) (sym none ∙ c.as_slice.ensures)
 
 pub matches_of_all-requires : goal.matches_of_all-requires
-matches_of_all-requires c = columns-there c.args.db.now.tables (relation_tree c.args.relation.now) c.args.columns.now c.requires.columns c.requires.relation.indexes
+matches_of_all-requires c = columns-there c.args.db.now.tables (relation_tree c.args.relation.now) c.args.columns.now c.requires.columns c.requires.stands.well_formed.indexes
 
 pub returns-in-Some : goal.returns-in-Some
 returns-in-Some c = told c.args.db.now.tables (relation_tree c.args.relation.now) c.args.columns.now c.requires.columns c.in-Some.matches c.in-Some.ensures

@@ -6,14 +6,14 @@ use Rattle.std.proofs.Math.Nat.{mul_assoc}
 use Rattle.sql_values.specs.Limits.{max_product}
 use Rattle.cost_model.proofs.Bounds.{HasFewKept, few-stats, fits-kept, next-kept, next-product, one-times}
 use Rattle.cost_model.proofs.costing.Costing.kept_product.Goals as goal
-use Rattle.cost_model.proofs.costing.Costing.kept_product.Goals.{then-is_in_set, else-is_in_set}
+use Rattle.cost_model.proofs.costing.Costing.kept_product.Goals.{then-has, else-has}
 
 pub overflow_cast-number : goal.overflow_cast-number
 overflow_cast-number c =
     omega (arith, c.loop-number-test.true, ap length c.as_slice-stats-items.ensures, few-stats _ c.self.invariant)
 
-pub is_in_set-requires : goal.is_in_set-requires
-is_in_set-requires c =
+pub has-requires : goal.has-requires
+has-requires c =
     omega (arith, c.loop-number-test.true, ap length c.as_slice-stats-items.ensures, few-stats _ c.self.invariant)
 
 pub overflow_mul-product : goal.overflow_mul-product
@@ -33,18 +33,18 @@ loop-number-preserved c =
     let next = next-product number stats item product c.loop-number-test.true c.stats-item.is few c.loop-number.invariant.1 in
     let rest = kept_product (set_of c.args.set) (number + 1) (drop (number + 1) stats) in
     let after = row_product (drop (number + 1) stats) in
-    let kept : kept_product (set_of c.args.set) number (drop number stats) ≡ cond c.is_in_set.result item.kept 1 * rest =
+    let kept : kept_product (set_of c.args.set) number (drop number stats) ≡ cond c.has.result item.kept 1 * rest =
     next-kept (set_of c.args.set) number stats item c.loop-number-test.true c.stats-item.is
-    ∙ ap (λ b. cond b item.kept 1 * rest) (sym c.is_in_set.ensures) in
+    ∙ ap (λ b. cond b item.kept 1 * rest) (sym c.has.ensures) in
     let whole = c.loop-number.invariant.0 ∙ ap (λ n. product * n) kept in
-    elim c.if-is_in_set.branch [
-      | then-is_in_set w ↦
-          let grown : c.if-is_in_set.product ≡ product * item.kept = w.product-is ∙ ap (λ n. product * n) w.from-product.ensures in (
-            whole ∙ ap (λ b. product * (cond b item.kept 1 * rest)) w.if-is_in_set.true ∙ sym (mul_assoc product item.kept rest) ∙ ap (λ n. n * rest) (sym grown),
+    elim c.if-has.branch [
+      | then-has w ↦
+          let grown : c.if-has.product ≡ product * item.kept = w.product-is ∙ ap (λ n. product * n) w.from-product.ensures in (
+            whole ∙ ap (λ b. product * (cond b item.kept 1 * rest)) w.if-has.true ∙ sym (mul_assoc product item.kept rest) ∙ ap (λ n. n * rest) (sym grown),
             subst (λ n. n * after ≤ max_product) (sym grown) next.with,
           )
-      | else-is_in_set w ↦ (
-        whole ∙ ap (λ b. product * (cond b item.kept 1 * rest)) w.if-is_in_set.false ∙ ap (λ n. product * n) (one-times rest) ∙ ap (λ n. n * rest) (sym w.product-is),
+      | else-has w ↦ (
+        whole ∙ ap (λ b. product * (cond b item.kept 1 * rest)) w.if-has.false ∙ ap (λ n. product * n) (one-times rest) ∙ ap (λ n. n * rest) (sym w.product-is),
         subst (λ n. n * after ≤ max_product) (sym w.product-is) next.without,
       )
     ]

@@ -1,12 +1,14 @@
-use Rattle.std.proofs.Common.{arith}
+use Rattle.std.proofs.Common.{◌≡◌, bit_and, sym, subst, arith}
 use Rattle.cost_model.proofs.Pairs.{set-pairs-few}
 use Rattle.cost_model.proofs.prices.Prices.pairs.Goals as goal
 
 pub overflow_mul-result : goal.overflow_mul-result
 overflow_mul-result c =
-    let few = set-pairs-few c.args.self.now.costing c.args.self.now.point c.args.left c.args.right _ _ c.block-block.ensures.costing c.requires.apart c.card.ensures.card c.card-2.ensures.card in
+    let apart = subst (λ right. bit_and c.args.left right ≡ 0) (sym c.without.ensures) c.requires.split.apart in
+    let few = set-pairs-few c.args.self.now.costing c.args.self.now.point c.args.left c.without.result _ _ c.block-block.ensures.costing apart c.card.ensures.card c.card-2.ensures.card in
     omega (arith, few)
 
 pub returns-clause-few : goal.returns-clause-few
 returns-clause-few c =
-    set-pairs-few c.args.self.now.costing c.args.self.now.point c.args.left c.args.right _ _ c.block-block.ensures.costing c.requires.apart c.card.ensures.card c.card-2.ensures.card
+    let apart = subst (λ right. bit_and c.args.left right ≡ 0) (sym c.without.ensures) c.requires.split.apart in
+    set-pairs-few c.args.self.now.costing c.args.self.now.point c.args.left c.without.result _ _ c.block-block.ensures.costing apart c.card.ensures.card c.card-2.ensures.card

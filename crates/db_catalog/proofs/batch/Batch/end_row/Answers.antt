@@ -15,5 +15,5 @@ both c =
 pub invariant_of-self-2 : goal.invariant_of-self-2
 invariant_of-self-2 c = rw c.clear.ensures.capacity (both c).0
 
-pub returns-clause-ended : goal.returns-clause-ended
-returns-clause-ended c = (both c).1 ∙ ap with_row_ended c.self.view_is
+pub returns : goal.returns
+returns c = record { made = (both c).1 ∙ ap with_row_ended c.self.view_is; unchanged = tt }

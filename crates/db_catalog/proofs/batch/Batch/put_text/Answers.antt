@@ -22,5 +22,5 @@ one c =
 pub invariant_of-self-2 : goal.invariant_of-self-2
 invariant_of-self-2 c = more_room _ _ _ _ _ _ _ (one c).batch c.push_within.ensures.room
 
-pub returns-clause-put : goal.returns-clause-put
-returns-clause-put c = batch_of-put _ _ _ _ _ _ (value.Text c.args.text.now) c.self.invariant (subst (λ b. FitsNext b (value.Text c.args.text.now)) (sym c.self.view_is) c.requires) _ _ (one c) ∙ ap (λ b. with_value b (value.Text c.args.text.now)) c.self.view_is
+pub returns : goal.returns
+returns c = record { unchanged = tt; made = batch_of-put _ _ _ _ _ _ (value.Text c.args.text.now) c.self.invariant (subst (λ b. FitsNext b (value.Text c.args.text.now)) (sym c.self.view_is) c.requires) _ _ (one c) ∙ ap (λ b. with_value b (value.Text c.args.text.now)) c.self.view_is }

@@ -1,4 +1,4 @@
-use Rattle.std.proofs.Common.{◌≡◌, ◌∙◌, ◌++◌, ◌<◌, [], sym, ap, subst, length, take, drop, slice_get, None, Err, arith}
+use Rattle.std.proofs.Common.{rules, ◌≡◌, ◌^◌, ◌≤◌, ◌∙◌, ◌++◌, ◌<◌, [], sym, ap, subst, length, take, drop, slice_get, None, Err, arith}
 use Rattle.std.specs.Prelude.{IsSomeAnd}
 use Rattle.std.proofs.lemmas.List.{length-map, take_at}
 use Rattle.sql_values.specs.Dictionary.{with_texts, Begins}
@@ -50,8 +50,9 @@ append_words-requires-clause-filled c =
     take_at c.settle.new.words _ c.batch.inside.words.len (c.settle.auto.words ∙ c.deref_mut.ensures.len) in
     let columns : c.batch.inside.columns.items ≡ (table_at (database_of c.self.inside.texts c.self.inside.tables.items) c.args.table).columns =
     ap (λ b. b.columns) c.batch.view_is ∙ c.requires.columns ∙ ap (λ db. (table_at db c.args.table).columns) (sym c.self.view_is) in
+    let few : c.batch.inside.rows ≤ 2 ^ 62 = search rules in
     subst (λ ts. IsSomeAnd (slice_get ts c.args.table) (HasWords (length (take c.batch.inside.words.len (c.settle.new.words ++ drop (length c.settle.new.words) c.batch.inside.words.items))) c.batch.inside.rows)) (sym c.deref_mut-2.ensures.value)
-    (has_words c.self.inside.names c.self.inside.texts c.self.inside.tables.items c.args.table _ c.batch.inside.rows c.batch.inside.columns.items c.self.invariant (is_kept _ _ _ _ c.self.view_is c.requires.there) columns
+    (has_words c.self.inside.names c.self.inside.texts c.self.inside.tables.items c.args.table _ c.batch.inside.rows c.batch.inside.columns.items c.self.invariant (is_kept _ _ _ _ c.self.view_is c.requires.there) columns few
     (ap length words_now ∙ c.settle.auto.words ∙ ap length c.deref_mut.ensures.value ∙ c.batch.invariant.words_fill_rows))
 
 pub invariant_of-self-then-is_err : goal.invariant_of-self-then-is_err
@@ -63,14 +64,14 @@ invariant_of-self-then-is_err c =
     let same_texts : c.cut.new.self ≡ c.self.inside.texts = c.cut.ensures ∙ ap (λ n. take n c.settle.new.texts) c.len-before.ensures.count ∙ take-Begins c.self.inside.texts c.settle.new.texts begins in
     subst (AreKept c.self.inside.names c.cut.new.self) (sym (tables_now ∙ same_tables)) (subst (λ t. AreKept c.self.inside.names t c.self.inside.tables.items) (sym same_texts) c.self.invariant)
 
-pub returns-then-is_err-clause-unchanged : goal.returns-then-is_err-clause-unchanged
-returns-then-is_err-clause-unchanged c =
+pub returns-then-is_err-clause-appended : goal.returns-then-is_err-clause-appended
+returns-then-is_err-clause-appended c =
     let begins : Begins c.self.inside.texts c.settle.new.texts = subst (Begins c.self.inside.texts) (sym c.in_ok-settle.ensures.texts) (Begins-with_texts _ _ c.batch.inside.texts (Begins_itself _)) in
     let tables_now : take c.self.inside.tables.len (c.append_words.new.tables ++ drop (length c.append_words.new.tables) c.self.inside.tables.items) ≡ c.append_words.new.tables =
     take_at c.append_words.new.tables _ c.self.inside.tables.len (c.append_words.auto.tables ∙ c.deref_mut-2.ensures.len) in
     let same_tables : c.append_words.new.tables ≡ c.self.inside.tables.items = on_err c.append_words.result (sym c.is_err.ensures.value ∙ c.if-is_err.true) c.append_words.ensures.unchanged ∙ c.deref_mut-2.ensures.value in
     let same_texts : c.cut.new.self ≡ c.self.inside.texts = c.cut.ensures ∙ ap (λ n. take n c.settle.new.texts) c.len-before.ensures.count ∙ take-Begins c.self.inside.texts c.settle.new.texts begins in
-    (λ i. named c.self.inside.index_names (database_of (same_texts i) ((tables_now ∙ same_tables) i))) ∙ c.self.view_is
+    record { made = tt; unchanged = (λ i. named c.self.inside.index_names (database_of (same_texts i) ((tables_now ∙ same_tables) i))) ∙ c.self.view_is }
 
 done : (c : goal.Else-is_err) → AreKept c.self.inside.names c.settle.new.texts c.append_words.new.tables
     × (database_of c.settle.new.texts c.append_words.new.tables ≡ with_rows (database_of c.self.inside.texts c.self.inside.tables.items) c.args.table (rows_of c.batch.inside.texts c.batch.inside.columns.items c.batch.inside.rows c.batch.inside.words.items))
@@ -101,7 +102,10 @@ pub returns-clause-appended : goal.returns-clause-appended
 returns-clause-appended c =
     let tables_now : take c.self.inside.tables.len (c.append_words.new.tables ++ drop (length c.append_words.new.tables) c.self.inside.tables.items) ≡ c.append_words.new.tables =
     take_at c.append_words.new.tables _ c.self.inside.tables.len (c.append_words.auto.tables ∙ c.deref_mut-2.ensures.len) in
-    ap (named c.self.inside.index_names) (ap (database_of c.settle.new.texts) tables_now ∙ (done c.before.before).1) ∙ (λ i. with_rows (c.self.view_is i) c.args.table (c.batch.view_is i).rows)
+    record {
+      unchanged = tt;
+      made = ap (named c.self.inside.index_names) (ap (database_of c.settle.new.texts) tables_now ∙ (done c.before.before).1) ∙ (λ i. with_rows (c.self.view_is i) c.args.table (c.batch.view_is i).rows);
+    }
 
 pub returns-clause-refuses : goal.returns-clause-refuses
 returns-clause-refuses c =

@@ -7,15 +7,15 @@ use Rattle.db_catalog.specs.Database.{table_at, more_indexed, with_index}
 use Rattle.db_catalog.specs.Refused.{taken, indexed_fault}
 use Rattle.db_catalog.specs.Kept.{AreKept, HasColumn, IndexesColumn, stored_table}
 use Rattle.db_catalog.proofs.Refusals.{neither, not_taken, not_indexed, on_ok}
-use Rattle.db_catalog.proofs.Tables.{database_of, is_kept, has_column}
+use Rattle.db_catalog.proofs.Tables.{database_of, is_kept, column_there, has_column}
 use Rattle.db_catalog.proofs.Appended.{column_indexed}
 use Rattle.db_catalog.proofs.database.Database.create_index.Goals as goal
 
 pub index_column-requires-clause-column : goal.index_column-requires-clause-column
 index_column-requires-clause-column c =
-    let there : c.args.table < length c.self.inside.tables.items = is_kept _ _ _ _ c.self.view_is c.requires.there in
+    let there : c.args.table < length c.self.inside.tables.items = is_kept _ _ _ _ c.self.view_is (column_there c.args.self.now _ c.args.column c.requires) in
     let exists : c.args.column < length (table_at (database_of c.self.inside.texts c.self.inside.tables.items) c.args.table).columns =
-    omega (arith, c.requires.column, ap (λ db. length (table_at db c.args.table).columns) c.self.view_is) in
+    omega (arith, c.requires, ap (λ db. length (table_at db c.args.table).columns) c.self.view_is) in
     subst (λ ts. IsSomeAnd (slice_get ts c.args.table) (HasColumn c.args.column)) (sym c.deref_mut.ensures.value)
     (has_column c.self.inside.names c.self.inside.texts c.self.inside.tables.items c.args.table c.args.column c.self.invariant there exists)
 
@@ -24,9 +24,9 @@ done : (c : goal.Else-is_err) → AreKept c.self.inside.names c.self.inside.text
     × (map (stored_table c.self.inside.texts) c.index_column.new.tables
     ≡ set (map (stored_table c.self.inside.texts) c.self.inside.tables.items) c.args.table (more_indexed (table_at (database_of c.self.inside.texts c.self.inside.tables.items) c.args.table) c.args.column))
 done c =
-    let there : c.args.table < length c.self.inside.tables.items = is_kept _ _ _ _ c.self.view_is c.requires.there in
+    let there : c.args.table < length c.self.inside.tables.items = is_kept _ _ _ _ c.self.view_is (column_there c.args.self.now _ c.args.column c.requires) in
     let exists : c.args.column < length (table_at (database_of c.self.inside.texts c.self.inside.tables.items) c.args.table).columns =
-    omega (arith, c.requires.column, ap (λ db. length (table_at db c.args.table).columns) c.self.view_is) in
+    omega (arith, c.requires, ap (λ db. length (table_at db c.args.table).columns) c.self.view_is) in
     let table = table_at c.args.self.now c.args.table in
     let due = neither (taken c.args.self.now.index_names c.args.name.now) (indexed_fault table.columns table.indexed c.args.column) c.in_ok-check_index.ensures.answered in
     let free : list_any (nat_eq c.args.column) (table_at (database_of c.self.inside.texts c.self.inside.tables.items) c.args.table).indexed ≡ false =

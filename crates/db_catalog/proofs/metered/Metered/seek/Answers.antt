@@ -3,4 +3,4 @@ use Rattle.db_catalog.specs.Database.{StandAsWords}
 use Rattle.db_catalog.proofs.metered.Metered.seek.Goals as goal
 
 pub returns-clause-rows : goal.returns-clause-rows
-returns-clause-rows c = subst (λ meter. StandAsWords meter.database c.args.table) c.self.view_is c.seek.ensures.rows
+returns-clause-rows c = subst (λ meter. StandAsWords meter.database c.args.table) c.self.view_is c.index.ensures.rows

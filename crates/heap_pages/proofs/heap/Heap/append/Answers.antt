@@ -1,9 +1,20 @@
 -- The next row has room on its page.
-use Rattle.heap_pages.proofs.PageStarts.{words_begun, words_fit}
+use Rattle.std.proofs.Common.{◌+◌, ◌<◌, arith}
+use Rattle.heap_pages.proofs.PageStarts.{page_before, words_begun, words_fit, words_held}
 use Rattle.heap_pages.proofs.heap.Heap.append.Goals as goal
 
-pub append-requires-clause-begun : goal.append-requires-clause-begun
-append-requires-clause-begun c = words_begun _ _ _ _ _ _ c.self.invariant c.page_of-number.result (rw (← c.self.view_is) at c.page_of-number.ensures)
+pub append-requires-clause-last : goal.append-requires-clause-last
+append-requires-clause-last c =
+    let heap = c.self.inside in
+    let at = rw (← c.self.view_is) at c.page_of-number.ensures in
+    let room : 0 < heap.spare = rw (← c.self.view_is) at c.requires.room in
+    let begun = words_begun _ _ _ _ _ _ c.self.invariant c.page_of-number.result at in
+    let held = words_held _ _ _ _ _ _ c.self.invariant (heap.rows + 1) heap.pages.count (omega (arith, room, c.self.invariant.room)) in
+    record {
+      there = page_before _ _ heap.pages.size (omega (arith, begun, held, c.self.invariant.words_fill_rows, c.self.invariant.some_columns));
+      begun = begun;
+      last = omega (arith, words_fit _ _ _ _ _ _ c.self.invariant c.page_of-number.result at);
+    }
 
 pub append-requires-clause-fits : goal.append-requires-clause-fits
 append-requires-clause-fits c =

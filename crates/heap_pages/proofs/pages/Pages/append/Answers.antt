@@ -1,12 +1,12 @@
 -- The page has room, and words at its end are words at the end of all pages.
-use Rattle.std.proofs.Common.{◌<◌, length, arith}
+use Rattle.std.proofs.Common.{ℤ, ◌<◌, List, length, ap, arith}
 use Rattle.heap_pages.proofs.Packed.{words_on_page, memory_of_page, words-appended, ArePackedPages-appended}
 use Rattle.heap_pages.proofs.pages.Pages.append.Goals as goal
 
 pub unreachable-requires : goal.unreachable-requires
 unreachable-requires c =
-    let below = rw (← c.self.view_is) at c.requires.there in
-    let begun = rw (← c.self.view_is) at c.requires.begun in
+    let below = rw (← c.self.view_is) at c.requires.last.there in
+    let begun = rw (← c.self.view_is) at c.requires.last.begun in
     let fits = rw (← c.self.view_is) at c.requires.fits in
     let there : c.args.number < length c.self.inside.pages.items = omega (arith, below, c.self.inside.pages.ok.0) in
     let here = words_on_page _ _ c.self.invariant c.args.number c.index_mut.result.now c.index_mut.ensures.value there in
@@ -16,18 +16,19 @@ unreachable-requires c =
 
 pub invariant_of-self : goal.invariant_of-self
 invariant_of-self c =
-    let below = rw (← c.self.view_is) at c.requires.there in
-    let begun = rw (← c.self.view_is) at c.requires.begun in
+    let below = rw (← c.self.view_is) at c.requires.last.there in
+    let begun = rw (← c.self.view_is) at c.requires.last.begun in
     let fits = rw (← c.self.view_is) at c.requires.fits in
     let there : c.args.number < length c.self.inside.pages.items = omega (arith, below, c.self.inside.pages.ok.0) in
     ArePackedPages-appended _ _ c.self.invariant c.args.number c.index_mut.result.now c.index_mut.ensures.value there
     c.extend_from_slice.new.self c.args.more.now c.in-Ok.ensures.items begun fits c.in-Ok.ensures.capacity
 
-pub returns-clause-words : goal.returns-clause-words
-returns-clause-words c =
-    let below = rw (← c.self.view_is) at c.requires.there in
-    let begun = rw (← c.self.view_is) at c.requires.begun in
+pub returns : goal.returns
+returns c =
+    let below = rw (← c.self.view_is) at c.requires.last.there in
+    let begun = rw (← c.self.view_is) at c.requires.last.begun in
     let fits = rw (← c.self.view_is) at c.requires.fits in
     let there : c.args.number < length c.self.inside.pages.items = omega (arith, below, c.self.inside.pages.ok.0) in
-    rw (← c.self.view_is) (words-appended _ _ c.self.invariant c.args.number c.index_mut.result.now c.index_mut.ensures.value there
-    c.extend_from_slice.new.self c.args.more.now c.in-Ok.ensures.items begun fits)
+    let words = words-appended _ _ c.self.invariant c.args.number c.index_mut.result.now c.index_mut.ensures.value there
+    c.extend_from_slice.new.self c.args.more.now c.in-Ok.ensures.items begun fits in
+    rw (← c.self.view_is) (ap (λ (all : List ℤ). record { size = c.self.inside.size; words = all; count = c.self.inside.pages.len }) words)

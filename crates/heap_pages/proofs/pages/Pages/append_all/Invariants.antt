@@ -5,8 +5,7 @@ use Rattle.heap_pages.proofs.pages.Pages.append_all.Given as goal
 abbrev pub invariant-loop-rest : goal.invariant-loop-rest
 invariant-loop-rest l = record {
   all : l.self.words ++ l.rest ≡ l.initial.self.words ++ l.initial.rest;
-  size : l.self.size ≡ l.initial.self.size;
-  count : l.self.count ≡ l.initial.self.count;
+  same : l.self ≡ record l.initial.self { words = l.self.words };
   begun : 0 < length l.rest → l.number * l.initial.self.size ≤ length l.self.words;
   free : length l.self.words < l.number * l.initial.self.size + l.initial.self.size;
 }

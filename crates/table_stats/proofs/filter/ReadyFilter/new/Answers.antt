@@ -21,5 +21,6 @@ loop-place-preserved c =
 pub returns-clause-ready : goal.returns-clause-ready
 returns-clause-ready c =
     let all : c.loop-place.place ≡ length c.as_slice-filter.result.now = omega arith in
-    subst (λ (filter : List Condition). AreKnown c.args.texts.now c.args.relation.now.columns filter (length filter) c.loop-place.ranges.items) c.as_slice-filter.ensures
-    (subst (λ (count : ℕ). AreKnown c.args.texts.now c.args.relation.now.columns c.as_slice-filter.result.now count c.loop-place.ranges.items) all c.loop-place.invariant)
+    let known = subst (λ (filter : List Condition). AreKnown c.args.texts.now c.args.relation.now.columns filter (length filter) c.loop-place.ranges.items) c.as_slice-filter.ensures
+    (subst (λ (count : ℕ). AreKnown c.args.texts.now c.args.relation.now.columns c.as_slice-filter.result.now count c.loop-place.ranges.items) all c.loop-place.invariant) in
+    record { relation = c.requires; known = known }

@@ -6,5 +6,5 @@ pub returns-then-is_some : goal.returns-then-is_some
 returns-then-is_some c =
     let filter = c.args.self.now in
     let place = c.loop-known.known-index in
-    let below : place < length filter.relation.now.filter = omega (arith, c.loop-known-test.true, ap length c.deref-known-items.ensures.value, c.requires.many) in
-    rw c.deref-known-items.ensures.value (of-conjunct filter place _ below (c.requires.each place below))
+    let below : place < length filter.relation.now.filter = omega (arith, c.loop-known-test.true, ap length c.deref-known-items.ensures.value, c.requires.known.many) in
+    rw c.deref-known-items.ensures.value (of-conjunct filter place _ below (c.requires.known.each place below))

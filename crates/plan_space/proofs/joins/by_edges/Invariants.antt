@@ -1,5 +1,0 @@
-use Rattle.plan_space.specs.Steps.{Considers, IsBeforeEdge}
-use Rattle.plan_space.proofs.joins.by_edges.Given as goal
-
-abbrev pub invariant-loop-edge : goal.invariant-loop-edge
-invariant-loop-edge l = Considers l.prices l.table l.set (IsBeforeEdge l.edge l.left) l.fn.start l.found

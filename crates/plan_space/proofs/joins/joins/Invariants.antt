@@ -1,5 +1,0 @@
-use Rattle.plan_space.specs.Steps.{Considers, IsBeforeLeft}
-use Rattle.plan_space.proofs.joins.joins.Given as goal
-
-abbrev pub invariant-loop-left : goal.invariant-loop-left
-invariant-loop-left l = Considers l.prices l.table l.set (IsBeforeLeft l.left) l.fn.start l.found

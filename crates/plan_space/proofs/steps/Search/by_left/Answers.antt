@@ -1,0 +1,14 @@
+use Rattle.std.proofs.Common.{◌≡◌, length, subst}
+use Rattle.plan_tree.specs.declared.roots.Root.TheVariants as root
+use Rattle.plan_space.specs.Steps.{Considers, IsByLeft, IsBeforeEdge}
+use Rattle.plan_space.proofs.Considered.{and-then, of-left}
+use Rattle.plan_space.proofs.steps.Search.by_left.Goals as goal
+
+pub returns : goal.returns
+returns c =
+    let sought = c.args.self.now in
+    let left = c.new-left.result in
+    subst (λ side. Considers sought (IsByLeft side) c.args.start c.by_edges.result) c.new-left.ensures
+    (and-then sought (λ node. node ≡ root.Nest left) (IsBeforeEdge (length sought.at.costing.block.edges) left) (IsByLeft left)
+    c.args.start c.by_nest-found.result c.by_edges.result c.by_nest-found.ensures c.by_edges.ensures
+    (of-left sought left))
