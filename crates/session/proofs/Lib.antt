@@ -11,7 +11,6 @@ pub mod NamedLists
 pub mod Opening
 pub mod PointLevels
 pub mod PointTexts
-pub mod Presence
 pub mod Queries
 pub mod RowsPrinted
 pub mod Sizes

@@ -18,7 +18,6 @@ pub mod Audit
 pub mod Explain
 pub mod Save
 pub mod Open
-pub mod Pending
 pub mod Statements
 pub mod Returns
 pub mod Begins

@@ -2,7 +2,7 @@
 ghost use Rattle.std.specs.Prelude.{◌≡◌, ℕ, List, Option, OnErr};
 ghost use Rattle.std.specs.Str.{IsUtf8};
 ghost use Rattle.session.specs.Given.{IsFileGiven, at_file};
-ghost use Rattle.session.specs.Pending.{BelongsTo, pending_outcome};
+ghost use Rattle.session.specs.Begins.{BelongsTo, pending_outcome};
 ghost use Rattle.session.specs.Returns.{ReturnsFree};
 ghost use Rattle.session.specs.States.{world_of};
 

@@ -7,9 +7,8 @@ ghost use Rattle.sql_parse.specs.Canonical.{canonical_query};
 ghost use Rattle.sql_parse.specs.Trees.{OpenFile, query_tree};
 ghost use Rattle.sql_parse.specs.WellFormed.{IsWellFormedQuery};
 ghost use Rattle.sql_parse.specs.Counts.{of_condition, predicates_in};
-ghost use Rattle.session.specs.Begins.{BeginsAsDue};
+ghost use Rattle.session.specs.Begins.{BeginsAsDue, CanOpen};
 ghost use Rattle.session.specs.Open.{open_with};
-ghost use Rattle.session.specs.Pending.{CanOpen};
 ghost use Rattle.session.specs.Returns.{ReturnsFree};
 ghost use Rattle.session.specs.States.{world_of};
 

@@ -10,7 +10,7 @@ use Rattle.outside_io.specs.Count.{Rose}
 use Rattle.outside_io.specs.Files.{FolderState}
 use Rattle.sql_parse.specs.Trees.{StatementTree}
 use Rattle.session.specs.Bounds.{IsAnsweredWithin}
-use Rattle.shell.specs.Given.{IsGivenFor}
+use Rattle.shell.specs.Script.{IsGivenFor, Answer, AreAnsweredWithin, AreGiven, ScriptState, Step, and_then, at_start, files_after, left_by, printed_by, script_answer, state_after}
 use Rattle.session.specs.Outcome.{Outcome, Refuses, refused_work}
 use Rattle.session.specs.Refusal.{line_of}
 use Rattle.session.specs.Statements.{statement_outcome}
@@ -18,15 +18,12 @@ use Rattle.session.specs.World.{World, nothing_made}
 use Rattle.session.specs.declared.refusal.Refusal.{Refusal}
 use Rattle.shell.specs.declared.status.Status.{Status}
 use Rattle.shell.specs.declared.status.Status.TheVariants as status
-use Rattle.shell.specs.Due.{CarriesAll, EndsAt, LeadsOn}
-use Rattle.shell.specs.Carried.{state_of}
+use Rattle.shell.specs.Due.{CarriesAll, EndsAt, LeadsOn, state_of}
 use Rattle.shell.specs.Due.EndsAt.{refuses, breaks}
-use Rattle.shell.specs.Script.{Answer, AreAnsweredWithin, AreGiven, ScriptState, Step, and_then, at_start, files_after, left_by, printed_by, script_answer, state_after}
 use Rattle.shell.specs.Serve.{BreaksBefore, EndsAsDue, NeverFalls, next_text, statements_of_steps}
 use Rattle.shell.specs.Serve.BreaksBefore.{no_read, no_write, no_put, no_memory}
 use Rattle.shell.proofs.Beginning.{whole_begins}
-use Rattle.shell.proofs.Counts.{falls_none, falls_on, rose_in}
-use Rattle.shell.proofs.Given.{given_for_wider}
+use Rattle.shell.proofs.Folders.{falls_none, falls_on, rose_in, given_for_wider}
 use Rattle.shell.proofs.Steps.{StepsFrom, steps_behind}
 
 -- an answer after a text and its work
@@ -50,39 +47,19 @@ nothing_after text work =
     let none : work + 0 ≡ work = omega arith in
     λ i. record { text = same i; work = none i; refused = false }
 
--- what went out when a run broke off is a beginning of the next text, and the run didn't end as its text does
-breaks_part : {max_work : ℕ} {sink_failed : Type 0} {old new : FolderState} {state : ScriptState} {later : List Step} {ended : Status} {part : List ℕ} {spent : ℕ}
-    → BreaksBefore max_work sink_failed old new state later ended part spent → (n : ℕ) × (part ≡ take n (next_text max_work state later))
-breaks_part (no_read rose asks kept) = (0, refl)
-breaks_part (no_write rose fails) = (0, refl)
-breaks_part (no_put failed some kept n) = (n, refl)
-breaks_part (no_memory spent within kept) = (0, refl)
+-- what went out when a run broke off is a beginning of the next text; the run didn't end as its text does, nor without a cause
+pub record IsBroken (max_work : ℕ) (sink_failed : Type 0) (old new : FolderState) (state : ScriptState) (later : List Step) (ended : Status) (part : List ℕ) : Type 0 where
+  pub begins : (n : ℕ) × (part ≡ take n (next_text max_work state later))
+  pub kinds : (ended ≡ status.Done → ⊥) × (ended ≡ status.Refused → ⊥) × (ended ≡ status.BadWords → ⊥)
+  pub read_fault : ended ≡ status.ReadFault → Rose old.read_faults new.read_faults
+  pub write_fault : ended ≡ status.WriteFault → sink_failed ⊎ Rose old.write_faults new.write_faults
 
-breaks_not_due : {max_work : ℕ} {sink_failed : Type 0} {old new : FolderState} {state : ScriptState} {later : List Step} {ended : Status} {part : List ℕ} {spent : ℕ}
-    → BreaksBefore max_work sink_failed old new state later ended part spent → ¬ EndsAsDue ended
-breaks_not_due (no_read rose asks kept) due = elim due [ inl is ↦ cc is | inr is ↦ cc is ]
-breaks_not_due (no_write rose fails) due = elim due [ inl is ↦ cc is | inr is ↦ cc is ]
-breaks_not_due (no_put failed some kept n) due = elim due [ inl is ↦ cc is | inr is ↦ cc is ]
-breaks_not_due (no_memory spent within kept) due = elim due [ inl is ↦ cc is | inr is ↦ cc is ]
-
-breaks_no_words : {max_work : ℕ} {sink_failed : Type 0} {old new : FolderState} {state : ScriptState} {later : List Step} {ended : Status} {part : List ℕ} {spent : ℕ}
-    → BreaksBefore max_work sink_failed old new state later ended part spent → ended ≡ status.BadWords → ⊥
-breaks_no_words (no_read rose asks kept) is = cc is
-breaks_no_words (no_write rose fails) is = cc is
-breaks_no_words (no_put failed some kept n) is = cc is
-breaks_no_words (no_memory spent within kept) is = cc is
-
-pub carried_no_words : {max_work : ℕ} {sink_failed : Type 0} {statements : List StatementTree} {before after : FolderState} {ended : Status} {had got : Option (List ℕ)} {paid : ℕ}
-    → CarriesAll max_work sink_failed statements before after ended had got paid → ended ≡ status.BadWords → ⊥
-carried_no_words carried is = breaks_no_words (carried.broken (λ due. elim due [ inl done ↦ cc (is, done) | inr refused ↦ cc (is, refused) ])).cause is
-
--- nor did it break off without a cause
-pub breaks_cause : {max_work : ℕ} {sink_failed : Type 0} {old new : FolderState} {state : ScriptState} {later : List Step} {ended : Status} {part : List ℕ} {spent : ℕ} → BreaksBefore max_work sink_failed old new state later ended part spent
-    → (ended ≡ status.ReadFault → Rose old.read_faults new.read_faults) × (ended ≡ status.WriteFault → sink_failed ⊎ Rose old.write_faults new.write_faults)
-breaks_cause (no_read rose asks kept) = (λ is. rose, λ is. cc is)
-breaks_cause (no_write rose fails) = (λ is. cc is, λ is. inr rose)
-breaks_cause (no_put failed some kept n) = (λ is. cc is, λ is. inl failed)
-breaks_cause (no_memory spent within kept) = (λ is. cc is, λ is. cc is)
+pub broken_by : {max_work : ℕ} {sink_failed : Type 0} {old new : FolderState} {state : ScriptState} {later : List Step} {ended : Status} {part : List ℕ} {spent : ℕ}
+    → BreaksBefore max_work sink_failed old new state later ended part spent → IsBroken max_work sink_failed old new state later ended part
+broken_by (no_read rose asks kept) = record { begins = (0, refl); kinds = (λ is. cc is, λ is. cc is, λ is. cc is); read_fault = λ is. rose; write_fault = λ is. cc is }
+broken_by (no_write rose fails) = record { begins = (0, refl); kinds = (λ is. cc is, λ is. cc is, λ is. cc is); read_fault = λ is. cc is; write_fault = λ is. inr rose }
+broken_by (no_put failed some kept n) = record { begins = (n, refl); kinds = (λ is. cc is, λ is. cc is, λ is. cc is); read_fault = λ is. cc is; write_fault = λ is. inl failed }
+broken_by (no_memory spent within kept) = record { begins = (0, refl); kinds = (λ is. cc is, λ is. cc is, λ is. cc is); read_fault = λ is. cc is; write_fault = λ is. cc is }
 
 -- a cause in a part of a run is one in the run
 pub breaks_in : {max_work : ℕ} {failed sink_failed : Type 0} {before mid now : FolderState} {state : ScriptState} {later : List Step} {ended : Status} {part : List ℕ} {spent : ℕ} → (failed → sink_failed) → NeverFalls before mid
@@ -288,7 +265,8 @@ module _ (max_work : ℕ) (all : List StatementTree) (i : ℕ) (before mid now :
       let more = begins there (left_by what state) (λ s. script_answer max_work s others.0) in
       let text : (script_answer max_work start all_steps).text ≡ carried.printed ++ (there.text ++ more.0) = ap (λ (a : Answer). a.text) answer_here ∙ ap (λ (l : List ℕ). carried.printed ++ l) more.1 in
       let here_is = cause others.0 in
-      let of_next = breaks_part here_is in
+      let here_broken = broken_by here_is in
+      let of_next = here_broken.begins in
       let out : Appends had new (carried.printed ++ part) = Appends-trans had got new carried.printed part carried.put put in
       let so_far = answer_so_far max_work all i before mid world had got paid carried in
       let work : (script_answer max_work start carried.steps).work ≡ paid = ap (λ (a : Answer). a.work) so_far in
@@ -298,14 +276,14 @@ module _ (max_work : ℕ) (all : List StatementTree) (i : ℕ) (before mid now :
         given = given_here now.misses (omega arith) others.0 others.2;
         falls = falls_on before mid now carried.falls last;
         carries = record {
-          done = λ e. absurd (breaks_not_due here_is (inl e));
-          refused = λ e. absurd (breaks_not_due here_is (inr e));
+          done = λ e. absurd (here_broken.kinds.0 e);
+          refused = λ e. absurd (here_broken.kinds.1 e);
           beginning = (
             length carried.printed + min of_next.0 (length there.text),
             rw (text, cut of_next.0 carried.printed there.text more.0, ← of_next.1) out,
           );
         };
-        whole = λ e. absurd (breaks_not_due here_is e);
+        whole = λ e. elim e [ inl done ↦ absurd (here_broken.kinds.0 done) | inr refused ↦ absurd (here_broken.kinds.1 refused) ];
         broken = λ _. record {
           earlier = carried.steps;
           later = here ∷ others.0;

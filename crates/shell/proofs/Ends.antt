@@ -17,42 +17,13 @@ use Rattle.session.specs.Statements.{statement_outcome}
 use Rattle.session.specs.World.{World}
 use Rattle.shell.specs.declared.status.Status.{Status}
 use Rattle.shell.specs.declared.status.Status.TheVariants as status
-use Rattle.shell.specs.Carried.{DoesDue, IsCarriedOut, state_of}
-use Rattle.shell.specs.Due.{CarriesAll, CarriesOne, EndsAt, LeadsOn}
+use Rattle.shell.specs.Due.{DoesDue, IsCarriedOut, state_of, CarriesAll, CarriesOne, EndsAt, LeadsOn}
 use Rattle.shell.specs.Due.EndsAt.{refuses, breaks}
 use Rattle.shell.specs.Script.{printed_by}
 use Rattle.shell.specs.Serve.BreaksBefore.{no_put, no_memory}
 use Rattle.shell.proofs.Beginning.{IsUnput, IsRefused, unput_not_read}
 use Rattle.shell.proofs.Carrying.{IsCarried, carried_on, carried_to}
-use Rattle.shell.proofs.Counts.{FailedToRead, counts_on}
-
--- a statement that did what is due to it, and whose text was put
-goes_on : (due : Outcome) (text : List ℕ) (world next : World) (before after : FolderState) (old new : ℕ) (had got : Option (List ℕ)) → DoesDue due text world next before.files after.files old new → Appends had got text
-    → LeadsOn due (state_of world before) (state_of next after) had got old new
-goes_on (Prints printed work made) text world next before after old new had got does put = record {
-  text = text;
-  work = work;
-  prints = λ i. record { text = sym does.0 i; work = work; refused = false };
-  leaves = λ i. Some (record { world = sym does.1 i; files = sym does.3 i });
-  put = put;
-  spent = does.2;
-}
-goes_on (Saves name bytes) text world next before after old new had got does put = record {
-  text = text;
-  work = 0;
-  prints = λ i. record { text = sym does.0 i; work = 0; refused = false };
-  leaves = λ i. Some (record { world = sym does.1 i; files = sym does.3 i });
-  put = put;
-  spent = omega (arith, does.2);
-}
-goes_on (Refuses why) text world next before after old new had got does put = absurd does
-
--- one that has a text to put paid the work that it prints, and left the files as they were
-printed_kept : (due : Outcome) (text : List ℕ) (world next : World) (before after : Option Files) (old new : ℕ) → DoesDue due text world next before after old new → text ≢ []
-    → ((printed_by due).text ≡ text) × (new ≡ old + (printed_by due).work) × (after ≡ before)
-printed_kept (Prints printed work made) text world next before after old new does some = (sym does.0, does.2, does.3)
-printed_kept (Saves name bytes) text world next before after old new does some = absurd (some does.0)
-printed_kept (Refuses why) text world next before after old new does some = absurd does
+use Rattle.shell.proofs.Folders.{FailedToRead, counts_on}
 
 -- what was paid between the two, and it is at most the most
 pub paid_more : (old new most : ℕ) → old ≤ new → new ≤ old + most → (spent : ℕ) × (spent ≤ most) × (new ≡ old + spent)
@@ -97,18 +68,17 @@ module _ {T : Type 0} (max_work : ℕ) (sink_failed : Type 0) (statement : State
     given = out.given;
     counts = counts_on world _ before after _ (Ok done) (λ is. cc is) (λ is. cc is) out.counts;
     bounded = within;
-    goes = goes_on (statement_outcome max_work world statement out.file) text.items world next before after old new had got out.does whole;
+    goes = record { text = text.items; work = out.does.work; prints = out.does.prints; leaves = out.does.leaves; put = whole; spent = out.does.spent };
     ends = tt;
   }
   returned_text text (Err ended) out most within whole part nothing some kinds sink =
-      let shown = printed_kept (statement_outcome max_work world statement out.file) text.items world next before.files after.files old new out.does some in
       record {
         file = out.file;
         given = out.given;
         counts = counts_on world _ before after _ (Err ended) (λ is. cc is) (λ is. let same : ended ≡ status.ReadFault = cc is in absurd (unput_not_read ended kinds same)) out.counts;
         bounded = tt;
         goes = tt;
-        ends = ends_in_part max_work sink_failed statement out.file before after world had got old new text.items ended kinds shown.0 shown.1 most shown.2 part (λ is. nothing (ap Err is)) (λ is. sink (ap Err is)) (λ _. some);
+        ends = ends_in_part max_work sink_failed statement out.file before after world had got old new text.items ended kinds (ap (λ (a : Answer). a.text) out.does.prints) (out.does.spent ∙ ap (λ (a : Answer). old + a.work) (sym out.does.prints)) most (out.does.kept some) part (λ is. nothing (ap Err is)) (λ is. sink (ap Err is)) (λ _. some);
       }
 
   -- one that stopped, at which the run ends

@@ -4,11 +4,10 @@ pub mod Carried
 pub mod Carrying
 pub mod ClapLine
 pub mod ClapWords
-pub mod Counts
 pub mod CutAtEquals
 pub mod Demonstrations
 pub mod Ends
-pub mod Given
+pub mod Folders
 pub mod Reading
 pub mod Runs
 pub mod Scripts

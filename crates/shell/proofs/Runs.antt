@@ -17,8 +17,8 @@ use Rattle.shell.specs.Serve.{BreaksOffLine, EndsAsDue, IsScript, IsAnswer, Serv
 use Rattle.shell.specs.Due.{CarriesAll, RunsScript}
 use Rattle.shell.specs.Source.{TakesAtMost}
 use Rattle.shell.proofs.Beginning.{IsRefused, refused_not_done, refused_no_fault}
-use Rattle.shell.proofs.Carrying.{breaks_cause, carried_no_words}
-use Rattle.shell.proofs.Counts.{falls_none}
+use Rattle.shell.proofs.Carrying.{broken_by}
+use Rattle.shell.proofs.Folders.{falls_none}
 use Rattle.shell.proofs.Steps.{any_steps, one_script_answer}
 use Rattle.shell.proofs.Scripts.{enough, some_reading, one_reading, reads_whole, reads_cut}
 
@@ -67,17 +67,6 @@ serves_statements max_work sink_failed script statements before after ended had 
   broken = λ other. inr (carried.broken other, tt);
 }
 
--- a fault has its cause
-cause_read : (max_work : ℕ) (sink_failed : Type 0) (statements : List StatementTree) (before after : FolderState) (ended : Status) (had got : Option (List ℕ)) (paid : ℕ) → CarriesAll max_work sink_failed statements before after ended had got paid
-    → ended ≡ status.ReadFault → Rose before.read_faults after.read_faults
-cause_read max_work sink_failed statements before after ended had got paid carried is =
-    (breaks_cause (carried.broken (λ due. elim due [ inl done ↦ cc (is, done) | inr refused ↦ cc (is, refused) ])).cause).0 is
-
-cause_write : (max_work : ℕ) (sink_failed : Type 0) (statements : List StatementTree) (before after : FolderState) (ended : Status) (had got : Option (List ℕ)) (paid : ℕ) → CarriesAll max_work sink_failed statements before after ended had got paid
-    → ended ≡ status.WriteFault → sink_failed ⊎ Rose before.write_faults after.write_faults
-cause_write max_work sink_failed statements before after ended had got paid carried is =
-    (breaks_cause (carried.broken (λ due. elim due [ inl done ↦ cc (is, done) | inr refused ↦ cc (is, refused) ])).cause).1 is
-
 -- the line of a script that is refused whole was put, whole or in part
 line_broke : (sink_failed : Type 0) (line : List ℕ) (folder : FolderState) (ended : Status) (had got : Option (List ℕ)) (paid : ℕ) → paid ≡ 0 → IsRefused ended → ((n : ℕ) × Appends had got (take n line)) → (ended ≡ status.NoMemory → Keeps had got)
     → (ended ≡ status.WriteFault → sink_failed) → ¬ EndsAsDue ended → BreaksOffLine sink_failed ended folder folder had got paid line
@@ -91,11 +80,7 @@ serves_refusal : (max_work : ℕ) (sink_failed : Type 0) (script : List ℕ) (wh
 serves_refusal max_work sink_failed script why folder ended had got paid unpaid reads whole part nothing kinds sink = record {
   answer = answer_of max_work folder.files (Err why);
   due = record { steps = Err why; reads = reads; given = tt; is = refl };
-  carries = record {
-    done = λ is. absurd (refused_not_done ended kinds is);
-    refused = λ is. (refl, whole is);
-    beginning = part;
-  };
+  carries = record { done = λ is. absurd (refused_not_done ended kinds is); refused = λ is. (refl, whole is); beginning = part };
   whole = λ _. record { files = tt; pays = unpaid; bounds = tt };
   broken = λ other. inr (tt, line_broke sink_failed (line_of why) folder ended had got paid unpaid kinds part nothing sink other);
 }
@@ -203,15 +188,18 @@ module _ (max_work : ℕ) (source_failed sink_failed : Type 0) (ended : Status) 
   module _ (script : List ℕ) where
     pub runs_statements : (statements : List StatementTree) (before after : FolderState) → IsScript script (Ok statements) → CarriesAll max_work sink_failed statements before after ended had got paid
         → RunsScript max_work ⊥ sink_failed (Some script) before after ended had got paid
-    runs_statements statements before after reads carried = record {
-      serves = serves_statements max_work sink_failed script statements before after ended had got paid reads carried;
-      kinds = carried_no_words carried;
-      folder = carried.falls;
-      unread = λ why refused. let same = one_reading script (Ok statements) (Err why) reads refused in absurd (cc same);
-      unpaid = λ why refused. let same = one_reading script (Ok statements) (Err why) reads refused in absurd (cc same);
-      read_fault = λ is. inr (cause_read max_work sink_failed statements before after ended had got paid carried is);
-      write_fault = cause_write max_work sink_failed statements before after ended had got paid carried;
-    }
+    runs_statements statements before after reads carried =
+        let unlike = λ (why : Refusal) (refused : IsScript script (Err why)). one_reading script (Ok statements) (Err why) reads refused in
+        let broken = λ (other : ¬ EndsAsDue ended). broken_by (carried.broken other).cause in
+        record {
+          serves = serves_statements max_work sink_failed script statements before after ended had got paid reads carried;
+          kinds = λ is. (broken (λ due. elim due [ inl done ↦ cc (is, done) | inr refused ↦ cc (is, refused) ])).kinds.2 is;
+          folder = carried.falls;
+          unread = λ why refused. absurd (cc (unlike why refused));
+          unpaid = λ why refused. absurd (cc (unlike why refused));
+          read_fault = λ is. inr ((broken (λ due. elim due [ inl done ↦ cc (is, done) | inr refused ↦ cc (is, refused) ])).read_fault is);
+          write_fault = λ is. (broken (λ due. elim due [ inl done ↦ cc (is, done) | inr refused ↦ cc (is, refused) ])).write_fault is;
+        }
 
     pub runs_refusal : (why : Refusal) (folder : FolderState) → paid ≡ 0 → IsScript script (Err why) → (ended ≡ status.Refused → Appends had got (line_of why)) → ((n : ℕ) × Appends had got (take n (line_of why)))
         → (ended ≡ status.NoMemory → Keeps had got) → IsRefused ended → (ended ≡ status.WriteFault → sink_failed) → RunsScript max_work ⊥ sink_failed (Some script) folder folder ended had got paid

@@ -4,10 +4,9 @@ use Rattle.std.specs.Prelude.{IfSome, IsSome}
 use Rattle.outside_io.specs.Files.{Files}
 use Rattle.sql_parse.specs.Trees.{StatementTree}
 use Rattle.session.specs.Outcome.{Outcome, Prints, Saves, Refuses}
-use Rattle.shell.specs.Given.{IsGivenFor}
-use Rattle.shell.specs.Script.{Answer, AreGiven, ScriptState, Step, and_then, left_by, printed_by, script_answer, step_outcome, with_saved}
+use Rattle.shell.specs.Script.{IsGivenFor, Answer, AreGiven, ScriptState, Step, and_then, left_by, printed_by, script_answer, step_outcome, with_saved}
 use Rattle.shell.specs.Serve.{statements_of_steps}
-use Rattle.shell.proofs.Given.{any_given_for, one_file_for}
+use Rattle.shell.proofs.Folders.{any_given_for, one_file_for}
 
 -- steps of these statements from a state, where there is one
 abbrev pub StepsFrom : (missed : Type 0) (max_work : ℕ) → List StatementTree → Option ScriptState → Type 0

@@ -1,6 +1,4 @@
-pub mod Carried
 pub mod Due
-pub mod Given
 pub mod Limits
 pub mod Script
 pub mod Serve

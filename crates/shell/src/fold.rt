@@ -11,8 +11,7 @@ ghost use Rattle.sql_parse.specs.Counts.{predicates_of};
 ghost use Rattle.session.specs.Bounds.{IsAnsweredWithin};
 ghost use Rattle.session.specs.Returns.{PaysAtMost};
 ghost use Rattle.session.specs.States.{world_of};
-ghost use Rattle.shell.specs.Carried.{GivesFile, IsCarriedOut};
-ghost use Rattle.shell.specs.Due.{CarriesAll, CarriesOne};
+ghost use Rattle.shell.specs.Due.{GivesFile, IsCarriedOut, CarriesAll, CarriesOne};
 
 use crate::Status;
 use crate::sink::{put_refusal, put_text};

@@ -5,13 +5,13 @@ use Rattle.std.proofs.KnownBytes.{Appends-nil}
 use Rattle.sql_parse.specs.Trees.{statement_tree}
 use Rattle.session.specs.States.{world_of}
 use Rattle.session.specs.declared.stop.Stop.TheVariants as stop
-use Rattle.shell.specs.Carried.{IsCarriedOut}
+use Rattle.shell.specs.Due.{IsCarriedOut}
 use Rattle.shell.specs.declared.status.Status.TheVariants as status
 use Rattle.shell.specs.Due.EndsAt.{breaks}
 use Rattle.shell.specs.Serve.BreaksBefore.{no_memory}
 use Rattle.shell.proofs.Beginning.{refused_no_fault}
 use Rattle.shell.proofs.Carrying.{breaks_in}
-use Rattle.shell.proofs.Counts.{falls_none}
+use Rattle.shell.proofs.Folders.{falls_none}
 use Rattle.shell.proofs.Ends.{ends_refused, paid_more, returned_text, stopped_at}
 use Rattle.shell.proofs.fold.carry_out_one.Goals as goal
 

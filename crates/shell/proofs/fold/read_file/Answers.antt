@@ -1,7 +1,7 @@
 -- What the read gave is the file, or the run ends.
 use Rattle.std.specs.Prelude.{Ok, Err}
 use Rattle.outside_io.specs.declared.fault.FileFault.TheVariants as fault
-use Rattle.shell.proofs.Given.{gives_file}
+use Rattle.shell.proofs.Folders.{gives_file}
 use Rattle.shell.proofs.fold.read_file.Goals as goal
 
 pub returns-in-Ok : goal.returns-in-Ok

@@ -1,4 +1,4 @@
--- The file that a folder gives.
+-- The file that a folder gives, and how its counts moved.
 use Rattle.std.proofs.Common.{◌≡◌, ◌⊎◌, inl, inr, ℕ, zero, suc, ◌<◌, ◌≤◌, List, [], ◌∷◌, length, Option, Some, None, refl, sym, ap, arith}
 use Rattle.std.specs.Prelude.{IfSome, IsErrAnd, IsErrOf, IsSome, IsSomeAnd, MatchOption, Vec, Result, Ok, Err}
 use Rattle.std.specs.declared.alloc.Global.{Global}
@@ -11,10 +11,41 @@ use Rattle.sql_parse.specs.Trees.{StatementTree}
 use Rattle.session.specs.Statements.{asked_name}
 use Rattle.session.specs.declared.begun.GivenFile.{GivenFile}
 use Rattle.session.specs.declared.begun.GivenFile.TheVariants as given
-use Rattle.shell.specs.Carried.{GivesFile, ReadsOnly}
-use Rattle.shell.specs.Given.{IsGiven, IsGivenFor, IsMissing}
+use Rattle.shell.specs.Due.{GivesFile, ReadsOnly, CountsItsFile}
+use Rattle.shell.specs.Script.{IsGiven, IsGivenFor, IsMissing, Step}
 use Rattle.shell.specs.declared.status.Status.{Status}
 use Rattle.shell.specs.declared.status.Status.TheVariants as status
+use Rattle.session.specs.World.{World}
+use Rattle.shell.specs.Serve.{NeverFalls}
+
+-- a count that rose in a part of a run rose in the run
+pub rose_in : {before low high last : ℕ} → before ≤ low → high ≤ last → Rose low high → Rose before last
+rose_in {before} {low} {high} {last} first past rose = omega (arith, first, past, rose)
+
+pub falls_none : (state : FolderState) → NeverFalls state state
+falls_none state = record { read_faults = omega arith; write_faults = omega arith; misses = omega arith }
+
+pub falls_on : (before mid now : FolderState) → NeverFalls before mid → NeverFalls mid now → NeverFalls before now
+falls_on before mid now first last = record { read_faults = omega (arith, first.read_faults, last.read_faults); write_faults = omega (arith, first.write_faults, last.write_faults); misses = omega (arith, first.misses, last.misses) }
+
+-- a run ended at a failed read
+abbrev pub FailedToRead : {T : Type 0} → Result T Status → Type 0
+FailedToRead result = IsErrOf result status.ReadFault
+
+module _ {T : Type 0} (world : World) (step : Step) (before after : FolderState) where
+  -- nothing was read
+  pub counts_kept : (result : Result T Status) → ¬ FailedToRead result → after.read_faults ≡ before.read_faults → after.misses ≡ before.misses → NeverFalls before after → CountsItsFile world step result before after
+  counts_kept result other reads misses falls = record { read_faults = record { counted = λ is. absurd (other is); kept = λ _. reads }; misses = λ _. misses; unasked = λ _. (reads, misses); falls = falls }
+
+  -- what was put doesn't move them
+  pub counts_on : {U : Type 0} (one : Result U Status) (result : Result T Status) → (FailedToRead one → FailedToRead result) → (FailedToRead result → FailedToRead one) → CountsItsFile world step one before after
+      → CountsItsFile world step result before after
+  counts_on one result to from counts = record {
+    read_faults = record { counted = λ is. counts.read_faults.counted (from is); kept = λ other. counts.read_faults.kept (λ is. other (to is)) };
+    misses = counts.misses;
+    unasked = counts.unasked;
+    falls = counts.falls;
+  }
 
 -- a miss in a part of a run is one in the run
 given_wider : {missed more : Type 0} (held : Option Files) (name : List ℕ) (file : Option (List ℕ)) → (missed → more) → IsGiven held missed name file → IsGiven held more name file
@@ -93,11 +124,7 @@ module _ (name : List ℕ) (before after : FolderState) where
       files = reads.files;
       read_faults = record { counted = λ is. read_faults.counted (to is); kept = λ other. read_faults.kept (λ is. other (from is)) };
       misses = λ present. misses.kept (there present);
-      falls = record {
-        read_faults = reads.read_faults.never_falls;
-        write_faults = omega (arith, reads.write_faults);
-        misses = reads.misses.never_falls;
-      };
+      falls = record { read_faults = reads.read_faults.never_falls; write_faults = omega (arith, reads.write_faults); misses = reads.misses.never_falls };
     }
 
   pub gives_file : (read : Result (Vec ℕ Global) FileFault) → IfSome before.files (λ files. IsReadAnswer files name read) → KeepsFileLimit read → OnlyReads (IsErrOf read fault.Failed) (IsErrAnd read IsMiss) before after
@@ -119,28 +146,10 @@ module _ (name : List ℕ) (before after : FolderState) where
   gives_file (Err (fault.TooLong len)) known within reads faults misses =
       let long = long_given before.files (Rose before.misses after.misses) len known within (reads.misses.rose tt) in
       let past : max_file_bytes < length long.0 = omega (arith, long.1, within) in
-      record {
-        file = Some long.0;
-        given = long.2;
-        stands = (long.1, within);
-        ends = tt;
-        reads = only (Err (fault.TooLong len)) reads faults misses (Some long.0) (λ is. cc is) (λ is. cc is) (λ there. absurd (there past));
-      }
+      record { file = Some long.0; given = long.2; stands = (long.1, within); ends = tt; reads = only (Err (fault.TooLong len)) reads faults misses (Some long.0) (λ is. cc is) (λ is. cc is) (λ there. absurd (there past)) }
   gives_file (Err fault.Failed) known within reads faults misses =
       let any = any_given (Rose before.misses after.misses) before.files name in
-      record {
-        file = any.0;
-        given = any.1;
-        stands = tt;
-        ends = inl (refl, reads.read_faults.rose refl);
-        reads = only (Err fault.Failed) reads faults misses any.0 (λ is. refl) (λ is. refl) (λ _ no. no);
-      }
+      record { file = any.0; given = any.1; stands = tt; ends = inl (refl, reads.read_faults.rose refl); reads = only (Err fault.Failed) reads faults misses any.0 (λ is. refl) (λ is. refl) (λ _ no. no) }
   gives_file (Err fault.NoMemory) known within reads faults misses =
       let any = any_given (Rose before.misses after.misses) before.files name in
-      record {
-        file = any.0;
-        given = any.1;
-        stands = tt;
-        ends = inr refl;
-        reads = only (Err fault.NoMemory) reads faults misses any.0 (λ is. cc is) (λ is. cc is) (λ _ no. no);
-      }
+      record { file = any.0; given = any.1; stands = tt; ends = inr refl; reads = only (Err fault.NoMemory) reads faults misses any.0 (λ is. cc is) (λ is. cc is) (λ _ no. no) }
