@@ -1,5 +1,5 @@
 -- A statement that the session began so, and finished, is carried out.
-use Rattle.std.proofs.Common.{◌≡◌, ◌∙◌, ◌⊎◌, inl, inr, ℕ, ◌+◌, List, [], ◌∷◌, Option, None, refl, sym, ap, subst, arith}
+use Rattle.std.proofs.Common.{◌≡◌, ◌∙◌, ◌⊎◌, inl, inr, ℕ, ◌+◌, List, [], ◌∷◌, Option, None, refl, sym, ap, subst, arith, false, Some}
 use Rattle.std.specs.Prelude.{IsErrOf, MatchOption, OnOk, Vec, Result, Ok, Err}
 use Rattle.std.specs.declared.alloc.Global.{Global}
 use Rattle.outside_io.specs.Count.{Rose}
@@ -16,8 +16,8 @@ use Rattle.session.specs.declared.begun.Begun.TheVariants as begun
 use Rattle.session.specs.declared.begun.GivenFile.{GivenFile}
 use Rattle.session.specs.declared.stop.Stop.{Stop}
 use Rattle.session.specs.declared.stop.Stop.TheVariants as stop
-use Rattle.shell.specs.Due.{CarriesDue, DoesDue, GivesFile, IsCarriedOut, state_of}
-use Rattle.shell.specs.Script.{IsGiven, IsGivenFor, Step, with_saved}
+use Rattle.shell.specs.Due.{CarriesDue, GivesFile, IsCarriedOut, state_of}
+use Rattle.shell.specs.Script.{IsGiven, IsGivenFor, Step, with_saved, printed_by, left_by}
 use Rattle.shell.specs.Serve.{AsksNext, BreaksBefore, NeverFalls}
 use Rattle.shell.specs.Serve.BreaksBefore.{no_read, no_write, no_memory}
 use Rattle.shell.specs.declared.status.Status.{Status}

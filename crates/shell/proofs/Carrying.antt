@@ -20,7 +20,7 @@ use Rattle.shell.specs.declared.status.Status.{Status}
 use Rattle.shell.specs.declared.status.Status.TheVariants as status
 use Rattle.shell.specs.Due.{CarriesAll, EndsAt, LeadsOn, state_of}
 use Rattle.shell.specs.Due.EndsAt.{refuses, breaks}
-use Rattle.shell.specs.Serve.{BreaksBefore, EndsAsDue, NeverFalls, next_text, statements_of_steps}
+use Rattle.shell.specs.Serve.{BreaksBefore, NeverFalls, next_text, statements_of_steps}
 use Rattle.shell.specs.Serve.BreaksBefore.{no_read, no_write, no_put, no_memory}
 use Rattle.shell.proofs.Beginning.{whole_begins}
 use Rattle.shell.proofs.Folders.{falls_none, falls_on, rose_in, given_for_wider}

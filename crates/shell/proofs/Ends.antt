@@ -1,25 +1,25 @@
 -- What one statement returned and put: the run goes on behind it, or ends there.
-use Rattle.std.proofs.Common.{◌≡◌, inl, inr, ℕ, ◌+◌, ◌-◌, ◌<◌, ◌≤◌, List, [], length, map, take, get_or, false, Option, Some, None, sym, ap, ◌∙◌, arith}
+use Rattle.std.proofs.Common.{◌≡◌, inl, inr, ℕ, ◌+◌, ◌-◌, ◌<◌, ◌≤◌, List, [], length, map, take, get_or, Option, Some, None, sym, ap, ◌∙◌, arith}
 use Rattle.std.specs.Prelude.{◌≢◌, Vec, Result, Ok, Err, OnOk, OnErr, IfErr, IsErrOf}
 use Rattle.std.specs.declared.alloc.Global.{Global}
 use Rattle.std.specs.Io.KnownBytes.{Appends, Keeps}
 use Rattle.std.proofs.Math.ListN.{get_or-map}
 use Rattle.std.proofs.lemmas.List.{append-nil, length-map}
-use Rattle.outside_io.specs.Files.{Files, FolderState}
+use Rattle.outside_io.specs.Files.{FolderState}
 use Rattle.sql_parse.specs.declared.tree.Statement.{Statement}
 use Rattle.sql_parse.specs.Trees.{StatementTree, statement_tree}
 use Rattle.session.specs.declared.stop.Stop.{Stop}
 use Rattle.session.specs.declared.refusal.Refusal.{Refusal}
 use Rattle.session.specs.Refusal.{line_of}
 use Rattle.session.specs.Bounds.{IsAnsweredWithin}
-use Rattle.session.specs.Outcome.{Outcome, Prints, Saves, Refuses, refused_work}
+use Rattle.session.specs.Outcome.{Outcome, Refuses, refused_work}
 use Rattle.session.specs.Statements.{statement_outcome}
 use Rattle.session.specs.World.{World}
 use Rattle.shell.specs.declared.status.Status.{Status}
 use Rattle.shell.specs.declared.status.Status.TheVariants as status
-use Rattle.shell.specs.Due.{DoesDue, IsCarriedOut, state_of, CarriesAll, CarriesOne, EndsAt, LeadsOn}
+use Rattle.shell.specs.Due.{IsCarriedOut, state_of, CarriesAll, CarriesOne, EndsAt}
 use Rattle.shell.specs.Due.EndsAt.{refuses, breaks}
-use Rattle.shell.specs.Script.{printed_by}
+use Rattle.shell.specs.Script.{printed_by, Answer}
 use Rattle.shell.specs.Serve.BreaksBefore.{no_put, no_memory}
 use Rattle.shell.proofs.Beginning.{IsUnput, IsRefused, unput_not_read}
 use Rattle.shell.proofs.Carrying.{IsCarried, carried_on, carried_to}

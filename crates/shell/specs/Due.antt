@@ -2,10 +2,10 @@
 use Rattle.std.specs.Prelude.{◌≡◌, ◌≢◌, ◌⊎◌, ℕ, ◌+◌, ⊤, false, Result, Ok, Err, IfErr, OnOk, IfSome, List, ◌∷◌, Option, Some, IfOk, IsErrOf, Vec, []}
 use Rattle.std.specs.Io.KnownBytes.{Appends}
 use Rattle.outside_io.specs.Count.{Rose, CountsEach}
-use Rattle.outside_io.specs.Files.{FolderState, Files}
+use Rattle.outside_io.specs.Files.{FolderState}
 use Rattle.sql_parse.specs.Trees.{StatementTree}
 use Rattle.session.specs.Bounds.{IsAnsweredWithin}
-use Rattle.session.specs.Outcome.{Outcome, Refuses, refused_work, Prints, Saves}
+use Rattle.session.specs.Outcome.{Outcome, Refuses, refused_work}
 use Rattle.session.specs.Refusal.{line_of}
 use Rattle.session.specs.Statements.{statement_outcome, AsksForFile}
 use Rattle.session.specs.World.{World}
@@ -14,7 +14,7 @@ use Rattle.shell.specs.declared.script.ScriptFault.{ScriptFault}
 use Rattle.shell.specs.declared.script.ScriptFault.TheVariants as script_fault
 use Rattle.shell.specs.declared.status.Status.{Status}
 use Rattle.shell.specs.declared.status.Status.TheVariants as status
-use Rattle.shell.specs.Script.{IsGivenFor, AreGiven, ScriptState, Step, at_start, left_by, printed_by, script_answer, step_outcome, IsGiven, IsMissing, with_saved}
+use Rattle.shell.specs.Script.{IsGivenFor, AreGiven, ScriptState, Step, at_start, left_by, printed_by, script_answer, step_outcome, IsGiven, IsMissing}
 use Rattle.shell.specs.Serve.{BreaksBefore, BreaksOff, Carries, EndsAsDue, EndsWhole, IsScript, NeverFalls, Serves, statements_of_steps}
 use Rattle.std.specs.declared.alloc.Global.{Global}
 use Rattle.session.specs.Given.{IsFileGiven}
