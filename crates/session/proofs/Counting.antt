@@ -19,7 +19,7 @@ use Rattle.table_stats.specs.Fresh.{first_stale, stale_in}
 use Rattle.db_catalog.specs.Database.{DatabaseState, more_indexed, more_rows, new_table, with_index, with_rows, with_table}
 use Rattle.bouquet_type.specs.Trees.{BouquetTree}
 use Rattle.session.specs.Counted.{HasCountsOf, HaveGrown, IsCountedBefore}
-use Rattle.session.specs.Run.{stale_count}
+use Rattle.session.specs.Present.{stale_count}
 
 as_before : (rows : List ValueRow) → HaveGrown rows rows
 as_before rows = ([], sym (append-nil rows))

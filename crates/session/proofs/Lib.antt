@@ -1,5 +1,5 @@
 pub mod Auditing
-pub mod Carried
+pub mod Beginning
 pub mod Compiling
 pub mod ContourTexts
 pub mod Counting
@@ -14,4 +14,3 @@ pub mod PointTexts
 pub mod Queries
 pub mod RowsPrinted
 pub mod Sizes
-pub mod Unpaid

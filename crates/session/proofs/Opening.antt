@@ -14,17 +14,15 @@ use Rattle.cost_model.specs.declared.stats.Stats.{Stats}
 use Rattle.table_stats.specs.declared.fault.StatsFault.{StatsFault}
 use Rattle.table_stats.specs.declared.fault.StatsFault.TheVariants as counts
 use Rattle.bouquet_type.specs.Trees.{BouquetTree}
-use Rattle.bouquet_file.specs.Opened.{file_of, json_value}
 use Rattle.bouquet_file.specs.declared.fault.OpenFault.{OpenFault}
 use Rattle.bouquet_file.specs.declared.fault.OpenFault.TheVariants as opening
 use Rattle.session.specs.Bouquets.{product_refusal}
 use Rattle.session.specs.Compile.{taken_refusal, unless_refused}
 use Rattle.session.specs.Given.{at_file}
-use Rattle.session.specs.Open.{open_bytes, open_outcome, open_refusal, opened_kept, query_refusal}
+use Rattle.session.specs.Open.{open_bytes, open_outcome, open_refusal, open_with, opened_kept, query_refusal}
 use Rattle.session.specs.Outcome.{Outcome, Refuses}
 use Rattle.session.specs.Stop.{StopsAt, stop_of_binding, stop_of_counts, stop_of_opening}
 use Rattle.session.specs.World.{World, NamedBouquet, named_in}
-use Rattle.session.specs.declared.stop.Stop.TheVariants as stop
 use Rattle.session.proofs.Sizes.{product_past}
 use Rattle.session.specs.declared.refusal.Refusal.{Refusal}
 use Rattle.session.specs.declared.refusal.Refusal.TheVariants as refusal
@@ -48,13 +46,13 @@ module _ (world : World) (name file_name : List ℕ) (query : QueryTree) (file :
 
     pub open_unbound : (fault : BindFault) → (fault ≢ bind.NoMemory → bind_fault world.database query ≡ Some fault) → StopsAt (open_outcome world name file_name query file) (stop_of_binding fault)
     open_unbound bind.NoMemory due = tt
-    open_unbound (bind.UnknownTable name) due = refused_bound (bind.UnknownTable name) (due (λ is. cc is))
-    open_unbound (bind.UnknownColumn name) due = refused_bound (bind.UnknownColumn name) (due (λ is. cc is))
-    open_unbound (bind.Ambiguous name) due = refused_bound (bind.Ambiguous name) (due (λ is. cc is))
-    open_unbound (bind.DuplicateAlias name) due = refused_bound (bind.DuplicateAlias name) (due (λ is. cc is))
-    open_unbound (bind.TypeMismatch predicate) due = refused_bound (bind.TypeMismatch predicate) (due (λ is. cc is))
-    open_unbound (bind.PredicateForm conjunct) due = refused_bound (bind.PredicateForm conjunct) (due (λ is. cc is))
-    open_unbound (bind.Limit name value) due = refused_bound (bind.Limit name value) (due (λ is. cc is))
+    open_unbound (bind.UnknownTable name) due = (refused_bound (bind.UnknownTable name) (due (λ is. cc is)), refl)
+    open_unbound (bind.UnknownColumn name) due = (refused_bound (bind.UnknownColumn name) (due (λ is. cc is)), refl)
+    open_unbound (bind.Ambiguous name) due = (refused_bound (bind.Ambiguous name) (due (λ is. cc is)), refl)
+    open_unbound (bind.DuplicateAlias name) due = (refused_bound (bind.DuplicateAlias name) (due (λ is. cc is)), refl)
+    open_unbound (bind.TypeMismatch predicate) due = (refused_bound (bind.TypeMismatch predicate) (due (λ is. cc is)), refl)
+    open_unbound (bind.PredicateForm conjunct) due = (refused_bound (bind.PredicateForm conjunct) (due (λ is. cc is)), refl)
+    open_unbound (bind.Limit name value) due = (refused_bound (bind.Limit name value) (due (λ is. cc is)), refl)
 
     module _ (bound : bind_fault world.database query ≡ None) (block : BlockTree) (same : block ≡ block_of world.database query) where
       abbrev refused_outcome : Option Refusal → Outcome
@@ -69,7 +67,7 @@ module _ (world : World) (name file_name : List ℕ) (query : QueryTree) (file :
       pub open_uncounted : (fault : StatsFault) → ((value : ℕ) → fault ≡ counts.ProductLimit value → product_past world.database block ≡ Some value)
           → StopsAt (open_outcome world name file_name query file) (stop_of_counts fault)
       open_uncounted (counts.ProductLimit value) past =
-          ap refused_outcome (product_decides ∙ ap (option_map (λ number. refusal.PastLimit limit.Product number)) (past value refl))
+          (ap refused_outcome (product_decides ∙ ap (option_map (λ number. refusal.PastLimit limit.Product number)) (past value refl)), refl)
       open_uncounted counts.NoMemory past = tt
 
       -- the file decides
@@ -77,39 +75,21 @@ module _ (world : World) (name file_name : List ℕ) (query : QueryTree) (file :
         pub open_asks : open_refusal world name query ≡ None
         open_asks = product_decides ∙ small
 
-        pub open_with_file : open_outcome world name file_name query file ≡ with_file
-        open_with_file = ap refused_outcome open_asks
-
--- what a file of these bytes says is due
-pub open_bytes_due : (world : World) (name : List ℕ) (query : QueryTree) (bytes text : List ℕ) (block : BlockTree) (stats : Stats) → text ≡ canonical_query query → block ≡ block_of world.database query
-    → stats ≡ stats_of world.database.tables block → open_bytes world name query bytes ≡ opened_kept world name query (file_of (json_value bytes) text block stats)
-open_bytes_due world name query bytes text block stats same_text same_block same_stats =
-    let same : stats ≡ stats_of world.database.tables (block_of world.database query) = same_stats ∙ ap (stats_of world.database.tables) same_block in
-    λ i. opened_kept world name query (file_of (json_value bytes) (sym same_text i) (sym same_block i) (sym same i))
+        -- with the file of this name, for the query of this text and with these counts
+        pub open_with_file : (asked kept text : List ℕ) (stats : Stats) → asked ≡ file_name → kept ≡ name → text ≡ canonical_query query → stats ≡ stats_of world.database.tables block
+            → open_outcome world name file_name query file ≡ at_file asked (open_with world kept text block stats) file
+        open_with_file asked kept text stats same_file same_name same_text same_stats =
+            let counts : stats ≡ stats_of world.database.tables (block_of world.database query) = same_stats ∙ ap (stats_of world.database.tables) same in
+            ap refused_outcome open_asks ∙ (λ i. at_file (sym same_file i) (open_with world (sym same_name i) (sym same_text i) (sym same i) (sym counts i)) file)
 
 -- the file is refused
-pub open_refused : (world : World) (name : List ℕ) (query : QueryTree) (due : Result BouquetTree OpenFault) (fault : OpenFault) → (fault ≢ opening.NoMemory → due ≡ Err fault)
-    → StopsAt (opened_kept world name query due) (stop_of_opening fault)
-open_refused world name query due opening.NoMemory is = tt
-open_refused world name query due opening.NotJson is = ap (opened_kept world name query) (is (λ e. cc e))
-open_refused world name query due (opening.Field path) is = ap (opened_kept world name query) (is (λ e. cc e))
-open_refused world name query due (opening.Version found) is = ap (opened_kept world name query) (is (λ e. cc e))
-open_refused world name query due opening.OtherQuery is = ap (opened_kept world name query) (is (λ e. cc e))
-open_refused world name query due (opening.Stale stale) is = ap (opened_kept world name query) (is (λ e. cc e))
-open_refused world name query due (opening.BudgetLimit contour) is = ap (opened_kept world name query) (is (λ e. cc e))
-open_refused world name query due (opening.NotAPlan contour plan) is = ap (opened_kept world name query) (is (λ e. cc e))
-
--- what binding and counting refuse is no fault of reading
-pub unbound_unread : (fault : BindFault) → stop_of_binding fault ≡ stop.ReadFault → ⊥
-unbound_unread bind.NoMemory is = cc is
-unbound_unread (bind.UnknownTable name) is = cc is
-unbound_unread (bind.UnknownColumn name) is = cc is
-unbound_unread (bind.Ambiguous name) is = cc is
-unbound_unread (bind.DuplicateAlias name) is = cc is
-unbound_unread (bind.TypeMismatch predicate) is = cc is
-unbound_unread (bind.PredicateForm conjunct) is = cc is
-unbound_unread (bind.Limit name value) is = cc is
-
-pub uncounted_unread : (fault : StatsFault) → stop_of_counts fault ≡ stop.ReadFault → ⊥
-uncounted_unread (counts.ProductLimit value) is = cc is
-uncounted_unread counts.NoMemory is = cc is
+pub open_refused : (world : World) (name text : List ℕ) (due : Result BouquetTree OpenFault) (fault : OpenFault) → (fault ≢ opening.NoMemory → due ≡ Err fault)
+    → StopsAt (opened_kept world name text due) (stop_of_opening fault)
+open_refused world name text due opening.NoMemory is = tt
+open_refused world name text due opening.NotJson is = (ap (opened_kept world name text) (is (λ e. cc e)), refl)
+open_refused world name text due (opening.Field path) is = (ap (opened_kept world name text) (is (λ e. cc e)), refl)
+open_refused world name text due (opening.Version found) is = (ap (opened_kept world name text) (is (λ e. cc e)), refl)
+open_refused world name text due opening.OtherQuery is = (ap (opened_kept world name text) (is (λ e. cc e)), refl)
+open_refused world name text due (opening.Stale stale) is = (ap (opened_kept world name text) (is (λ e. cc e)), refl)
+open_refused world name text due (opening.BudgetLimit contour) is = (ap (opened_kept world name text) (is (λ e. cc e)), refl)
+open_refused world name text due (opening.NotAPlan contour plan) is = (ap (opened_kept world name text) (is (λ e. cc e)), refl)

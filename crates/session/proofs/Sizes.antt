@@ -1,11 +1,11 @@
 -- Which bouquet a block has, by what its grid and its counts say.
-use Rattle.std.proofs.Common.{◌≡◌, ◌∙◌, ℕ, ◌^◌, ◌<◌, ◌≤◌, Bool, true, false, length, Option, Some, None, IfSome, inl, inr, refl, sym, ap, subst, nat_lt, if◌then◌else◌, arith}
+use Rattle.std.proofs.Common.{◌≡◌, ◌∙◌, ℕ, ◌^◌, ◌<◌, ◌≤◌, Bool, true, false, Option, Some, None, IfSome, inl, inr, refl, sym, ap, subst, nat_lt, if◌then◌else◌, arith}
 use Rattle.std.specs.Prelude.{Result, Ok, Err, IsErrAnd, option_map}
 use Rattle.std.specs.Option.{option_or}
 use borrow.Author.Tests.{lt-ltb, ltb-true}
 use Rattle.sql_values.specs.Limits.{min_levels, max_levels, max_points}
 use Rattle.sql_values.specs.declared.limit.LimitName.TheVariants as limit
-use Rattle.query_block.specs.Blocks.{BlockTree}
+use Rattle.query_block.specs.Blocks.{BlockTree, axes_of}
 use Rattle.db_catalog.specs.Database.{DatabaseState}
 use Rattle.ess_grid.specs.declared.fault.GridFault.{GridFault}
 use Rattle.ess_grid.specs.declared.fault.GridFault.TheVariants as grid
@@ -15,11 +15,10 @@ use Rattle.table_stats.specs.declared.fault.StatsFault.TheVariants as counts
 use Rattle.table_stats.specs.Product.{first_past, row_counts}
 use Rattle.bouquet_type.specs.Shapes.{BouquetShape}
 use Rattle.bouquet_type.specs.Trees.{BouquetTree}
-use Rattle.session.specs.Bouquets.{compiled_over, points_refusal, product_refusal, size_refusal}
+use Rattle.session.specs.Bouquets.{GivesBouquet, compiled_over, points_refusal, product_refusal, size_refusal}
 use Rattle.session.specs.declared.refusal.Refusal.{Refusal}
 use Rattle.session.specs.declared.refusal.Refusal.TheVariants as refusal
 use Rattle.session.specs.declared.stop.Stop.{Stop}
-use Rattle.session.specs.Returns.{GivesBouquet}
 use Rattle.session.specs.Stop.{stop_of_counts, stop_of_grid}
 
 -- levels that an axis may have
@@ -64,7 +63,7 @@ module _ (database : DatabaseState) (block : BlockTree) where
 
     -- there is no such grid
     pub grid_refused : (result : Result BouquetShape Stop) (fault : GridFault) → AreLevels levels → ((given : ℕ) → fault ≡ grid.BadLevels given → HasBadLevels levels given)
-        → ((points : ℕ) → fault ≡ grid.TooManyPoints points → HasTooManyPoints (length block.edges) levels points) → (levels ≡ None → ⊥)
+        → ((points : ℕ) → fault ≡ grid.TooManyPoints points → HasTooManyPoints (axes_of block) levels points) → (levels ≡ None → ⊥)
         → IsErrAnd result (λ why. why ≡ stop_of_grid fault) → GivesBouquet bouquet_over result
     grid_refused result (grid.BadLevels given) are bad many some is =
         let has = bad given refl in
@@ -72,18 +71,20 @@ module _ (database : DatabaseState) (block : BlockTree) where
         absurd (elim has.are_bad [ inl low ↦ omega (arith, low, range.0) | inr high ↦ omega (arith, high, range.1) ])
     grid_refused result (grid.TooManyPoints points) are bad many some is =
         handed_on bouquet_over result _ is
-        (ap (λ found. compiled_over database levels threshold block (option_or found (product_refusal database block))) (too_many (length block.edges) points levels some (many points refl)))
+        (ap (λ found. compiled_over database levels threshold block (option_or found (product_refusal database block))) (too_many (axes_of block) points levels some (many points refl)), refl)
 
     -- its tables have too many combinations of rows
-    pub counts_refused : (result : Result BouquetShape Stop) (fault : StatsFault) → points_refusal (length block.edges) levels ≡ None
+    pub counts_refused : (result : Result BouquetShape Stop) (fault : StatsFault) → points_refusal (axes_of block) levels ≡ None
         → ((value : ℕ) → fault ≡ counts.ProductLimit value → product_past ≡ Some value)
         → IsErrAnd result (λ why. why ≡ stop_of_counts fault) → GivesBouquet bouquet_over result
     counts_refused result (counts.ProductLimit value) few past is =
-        handed_on bouquet_over result _ is
-        (ap (λ found. compiled_over database levels threshold block (option_or found (product_refusal database block))) few
-        ∙ ap (λ found. compiled_over database levels threshold block (option_map (λ value. refusal.PastLimit limit.Product value) found)) (past value refl))
+        handed_on bouquet_over result _ is (
+          ap (λ found. compiled_over database levels threshold block (option_or found (product_refusal database block))) few
+              ∙ ap (λ found. compiled_over database levels threshold block (option_map (λ value. refusal.PastLimit limit.Product value) found)) (past value refl),
+          refl,
+        )
     counts_refused result counts.NoMemory few past is = handed_on bouquet_over result _ is tt
 
     -- its grid and its counts are small enough
-    pub none_refused : points_refusal (length block.edges) levels ≡ None → product_refusal database block ≡ None → size_refusal database block levels ≡ None
+    pub none_refused : points_refusal (axes_of block) levels ≡ None → product_refusal database block ≡ None → size_refusal database block levels ≡ None
     none_refused few small = ap (λ found. option_or found (product_refusal database block)) few ∙ small

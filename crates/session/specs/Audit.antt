@@ -1,5 +1,5 @@
 -- What comes of AUDIT.
-use Rattle.std.specs.Prelude.{ℕ, ◌+◌, List, [], ◌∷◌, Option, Some, None, option_map, length, nat_eq, nat_lt, if◌then◌else◌}
+use Rattle.std.specs.Prelude.{ℕ, ◌+◌, List, [], ◌∷◌, Option, Some, None, option_map, length, nat_eq, nat_lt, false, if◌then◌else◌}
 use Rattle.sql_values.specs.Limits.{max_plans}
 use Rattle.sql_values.specs.declared.limit.LimitName.TheVariants as limit
 use Rattle.sql_parse.specs.declared.tree.AuditDef.{AuditDef}
@@ -8,11 +8,11 @@ use Rattle.plan_tree.specs.AllPlans.{plans_of}
 use Rattle.bouquet_type.specs.Trees.{BouquetTree}
 use Rattle.audit_run.specs.Audits.{audit_of, work_of_all}
 use Rattle.session.specs.Printed.{audit_line}
-use Rattle.session.specs.Run.{at_bouquet, stale_count, unless_stale}
 use Rattle.session.specs.declared.refusal.Refusal.{Refusal}
 use Rattle.session.specs.declared.refusal.Refusal.TheVariants as refusal
 use Rattle.session.specs.Outcome.{Outcome, Prints, Refuses}
-use Rattle.session.specs.World.{World, named_in}
+use Rattle.session.specs.Present.{at_present}
+use Rattle.session.specs.World.{World}
 
 -- the first of these levels that an axis of so many hasn't
 abbrev pub first_missing : (count : ℕ) → (levels : List ℕ) → Option ℕ
@@ -31,15 +31,10 @@ abbrev pub audit_answer : (max_work : ℕ) → World → BouquetTree → (levels
 audit_answer max_work world bouquet levels (Some why) = Refuses why
 audit_answer max_work world bouquet levels None =
     if nat_lt max_plans (length (plans_of bouquet.costing.block)) then Refuses (refusal.PastLimit limit.Plans (max_plans + 1))
-    else if nat_lt max_work (work_of_all bouquet world.database) then Refuses (refusal.PastAudit max_work)
+    else if nat_lt max_work (work_of_all bouquet world.database) then Refuses (refusal.PastWork max_work false)
     else Prints (audit_line (audit_of bouquet world.database levels)) 0 world
 
 -- the audit of the bouquet of this name, whose counts have to be those of the tables
 abbrev pub audit_outcome : (max_work : ℕ) → World → AuditDef → Outcome
 audit_outcome max_work world audit =
-    at_bouquet audit.name
-    (λ named.
-    let bouquet = named.bouquet in
-    unless_stale (stale_count world.database bouquet)
-    (audit_answer max_work world bouquet audit.levels (point_refusal bouquet.costing.grid audit.levels)))
-    (named_in audit.name world.bouquets)
+    at_present world audit.name (λ bouquet. audit_answer max_work world bouquet audit.levels (point_refusal bouquet.costing.grid audit.levels))

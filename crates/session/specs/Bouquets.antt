@@ -1,5 +1,5 @@
 -- The bouquet of a query, and what a bouquet answers.
-use Rattle.std.specs.Prelude.{ℕ, ◌^◌, nat_le, nat_lt, length, Option, Some, None, option_map, Result, Ok, Err, if◌then◌else◌}
+use Rattle.std.specs.Prelude.{◌≡◌, ⊤, ℕ, ◌^◌, nat_le, nat_lt, true, Option, Some, None, option_map, Result, Ok, Err, if◌then◌else◌}
 use Rattle.std.specs.Option.{option_or}
 use Rattle.sql_values.specs.Limits.{max_points}
 use Rattle.sql_values.specs.declared.limit.LimitName.TheVariants as limit
@@ -12,14 +12,17 @@ use Rattle.ess_grid.specs.Levels.{levels_of}
 use Rattle.cost_model.specs.Costing.{CostingTree}
 use Rattle.cost_model.specs.Counts.{stats_of}
 use Rattle.table_stats.specs.Product.{first_past, row_counts}
-use Rattle.bouquet_type.specs.Trees.{BouquetTree}
+use Rattle.bouquet_type.specs.Shapes.{BouquetShape}
+use Rattle.bouquet_type.specs.Trees.{BouquetTree, bouquet_tree}
 use Rattle.bouquet_type.specs.Compiled.{compiled}
 use Rattle.bouquet_type.specs.Runs.{run_end}
 use Rattle.bouquet_run.specs.Outcomes.{works_over}
 use Rattle.session.specs.Printed.{answer_text}
 use Rattle.session.specs.declared.refusal.Refusal.{Refusal}
 use Rattle.session.specs.declared.refusal.Refusal.TheVariants as refusal
-use Rattle.session.specs.Outcome.{Outcome, Prints, Refuses}
+use Rattle.session.specs.declared.stop.Stop.{Stop}
+use Rattle.session.specs.declared.stop.Stop.TheVariants as stop
+use Rattle.session.specs.Outcome.{Outcome, Prints, Refuses, refused_work}
 use Rattle.session.specs.World.{World}
 
 -- what the costs of a block's plans depend on: the counts of its tables, and a grid of its axes, each with so many levels,
@@ -47,6 +50,12 @@ abbrev pub compiled_over : DatabaseState → (levels : Option ℕ) → (threshol
 compiled_over database levels threshold block (Some why) = Err why
 compiled_over database levels threshold block None = Ok (compiled (costing_over database block levels) threshold)
 
+-- the bouquet that is due is returned, or why there is none, which costs nothing
+abbrev pub GivesBouquet : Result BouquetTree Refusal → Result BouquetShape Stop → Type 0
+GivesBouquet due (Ok bouquet) = due ≡ Ok (bouquet_tree bouquet)
+GivesBouquet due (Err (stop.Refused why)) = (due ≡ Err why) × (refused_work why ≡ 0)
+GivesBouquet due (Err stop.NoMemory) = ⊤
+
 -- of a query: it is refused by binding, by the points of its grid, or by the product of its tables' rows; else this is its bouquet
 abbrev pub bouquet_unless : DatabaseState → QueryTree → (levels : Option ℕ) → (threshold : ℕ) → Option BindFault → Result BouquetTree Refusal
 bouquet_unless database query levels threshold (Some fault) = Err (refusal.NotBound fault)
@@ -68,4 +77,4 @@ abbrev pub bouquet_answer : (max_work : ℕ) → World → BouquetTree → Outco
 bouquet_answer max_work world bouquet =
     let end = run_end bouquet (works_over world.database bouquet) in
     if nat_le end.total max_work then Prints (answer_text world.database bouquet.costing.block end) end.total world
-    else Refuses (refusal.PastWork max_work)
+    else Refuses (refusal.PastWork max_work true)

@@ -1,7 +1,7 @@
 -- What comes of EXPLAIN.
 use Rattle.std.specs.Prelude.{ℕ, List}
 use Rattle.session.specs.Printed.{contour_lines}
-use Rattle.session.specs.Run.{at_bouquet}
+use Rattle.session.specs.Present.{at_bouquet}
 use Rattle.session.specs.Outcome.{Outcome, Prints}
 use Rattle.session.specs.World.{World, named_in}
 

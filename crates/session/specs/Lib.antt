@@ -9,6 +9,7 @@ pub mod Bouquets
 pub mod CreateTable
 pub mod CreateIndex
 pub mod Given
+pub mod Present
 pub mod Load
 pub mod Select
 pub mod Compile
@@ -19,4 +20,5 @@ pub mod Save
 pub mod Open
 pub mod Statements
 pub mod Returns
+pub mod Begins
 pub mod Bounds

@@ -1,12 +1,14 @@
 -- What comes of OPEN.
 use Rattle.std.specs.Prelude.{ℕ, List, Option, Some, None, Result, Ok, Err}
 use Rattle.std.specs.Option.{option_or}
+use Rattle.query_block.specs.Blocks.{BlockTree}
 use Rattle.sql_parse.specs.Trees.{QueryTree}
 use Rattle.sql_parse.specs.Canonical.{canonical_query}
 use Rattle.db_catalog.specs.Database.{DatabaseState}
 use Rattle.sql_bind.specs.declared.fault.BindFault.{BindFault}
 use Rattle.sql_bind.specs.Binding.{bind_fault, block_of}
 use Rattle.cost_model.specs.Counts.{stats_of}
+use Rattle.cost_model.specs.declared.stats.Stats.{Stats}
 use Rattle.bouquet_type.specs.Trees.{BouquetTree}
 use Rattle.bouquet_file.specs.declared.fault.OpenFault.{OpenFault}
 use Rattle.bouquet_file.specs.Opened.{file_of, json_value}
@@ -30,16 +32,20 @@ open_refusal world name query =
     option_or (taken_refusal name (named_in name world.bouquets)) (query_refusal world.database query (bind_fault world.database query))
 
 -- the bouquet that a file says, kept under the name with the text of the query; or the file is refused
-abbrev pub opened_kept : World → (name : List ℕ) → QueryTree → Result BouquetTree OpenFault → Outcome
-opened_kept world name query (Ok bouquet) =
-    Prints (open_line bouquet) 0 (with_bouquet world (record { name = name; query = canonical_query query; bouquet = bouquet }))
-opened_kept world name query (Err fault) = Refuses (refusal.NotOpened fault)
+abbrev pub opened_kept : World → (name text : List ℕ) → Result BouquetTree OpenFault → Outcome
+opened_kept world name text (Ok bouquet) =
+    Prints (open_line bouquet) 0 (with_bouquet world (record { name = name; query = text; bouquet = bouquet }))
+opened_kept world name text (Err fault) = Refuses (refusal.NotOpened fault)
 
--- of these bytes, for the query over the tables as they are
+-- of these bytes, for the query of this text, this block and these counts
+abbrev pub open_with : World → (name text : List ℕ) → BlockTree → Stats → (bytes : List ℕ) → Outcome
+open_with world name text block stats bytes = opened_kept world name text (file_of (json_value bytes) text block stats)
+
+-- for the query over the tables as they are
 abbrev pub open_bytes : World → (name : List ℕ) → QueryTree → (bytes : List ℕ) → Outcome
-open_bytes world name query bytes =
+open_bytes world name query =
     let block = block_of world.database query in
-    opened_kept world name query (file_of (json_value bytes) (canonical_query query) block (stats_of world.database.tables block))
+    open_with world name (canonical_query query) block (stats_of world.database.tables block)
 
 -- with the file that the folder gives under the name of the file
 abbrev pub open_outcome : World → (name file_name : List ℕ) → QueryTree → (file : Option (List ℕ)) → Outcome

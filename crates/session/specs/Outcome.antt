@@ -1,5 +1,5 @@
 -- What comes of a statement.
-use Rattle.std.specs.Prelude.{ℕ, List, Option, None, Some}
+use Rattle.std.specs.Prelude.{◌≡◌, ℕ, true, List, Option, None, Some}
 use Rattle.db_catalog.specs.Database.{table_number}
 use Rattle.session.specs.World.{World}
 use Rattle.session.specs.declared.refusal.Refusal.{Refusal}
@@ -12,10 +12,14 @@ pub data Outcome : Type 0 where
   Saves : (name bytes : List ℕ) → Outcome
   Refuses : Refusal → Outcome
 
--- the work that was paid when a refusal comes: that which its line prints
+-- the work that was paid when a refusal comes: that which its line prints, where the book has it
 abbrev pub refused_work : Refusal → ℕ
-refused_work (refusal.PastWork spent) = spent
+refused_work (refusal.PastWork spent true) = spent
 refused_work why = 0
+
+-- a refusal that was found, and costs nothing
+abbrev pub RefusesFree : Option Refusal → Refusal → Type 0
+RefusesFree found why = (found ≡ Some why) × (refused_work why ≡ 0)
 
 -- what comes of the statement at the table of this number, where the name has one; else it is refused
 abbrev pub at_number : List ℕ → (ℕ → Outcome) → Option ℕ → Outcome

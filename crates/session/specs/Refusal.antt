@@ -118,5 +118,4 @@ line_of (refusal.AbsentFile name) = error_line (codes "E09 absent " ++ name)
 line_of (refusal.NotLoaded fault) = not_loaded_line fault
 line_of (refusal.NotOpened fault) = not_opened_line fault
 line_of (refusal.PastLimit limit value) = limit_line limit value
-line_of (refusal.PastWork spent) = error_line (codes "E16 " ++ (codes "work" ++ spaced spent))
-line_of (refusal.PastAudit spent) = error_line (codes "E16 " ++ (codes "work" ++ spaced spent))
+line_of (refusal.PastWork spent entered) = error_line (codes "E16 " ++ (codes "work" ++ spaced spent))

@@ -2,7 +2,7 @@
 use Rattle.sql_parse.specs.declared.tree.FileDef.{FileDef}
 use Rattle.bouquet_file.specs.Written.{file_text}
 use Rattle.session.specs.Outcome.{Outcome, Saves}
-use Rattle.session.specs.Run.{at_bouquet}
+use Rattle.session.specs.Present.{at_bouquet}
 use Rattle.session.specs.World.{World, named_in}
 
 -- the file of the bouquet of this name, stale or not, with the text of its query

@@ -1,5 +1,5 @@
 -- What comes of each statement.
-use Rattle.std.specs.Prelude.{◌≡◌, ℕ, List, Option, None, IsSome}
+use Rattle.std.specs.Prelude.{◌≡◌, ℕ, List, Option, Some, None, IsSome}
 use Rattle.sql_parse.specs.Trees.{StatementTree, CreateTable, CreateIndex, Load, Select, Compile, Run, Explain, SaveFile, OpenFile, Audit}
 use Rattle.db_catalog.specs.Database.{table_number}
 use Rattle.session.specs.Audit.{audit_outcome}
@@ -27,6 +27,12 @@ statement_outcome max_work world (Explain name) file = explain_outcome world nam
 statement_outcome max_work world (SaveFile save) file = save_outcome world save
 statement_outcome max_work world (OpenFile name file_name query) file = open_outcome world name file_name query file
 statement_outcome max_work world (Audit audit) file = audit_outcome max_work world audit
+
+-- the name of the file that a statement may ask for: only LOAD and OPEN ask for one
+abbrev pub asked_name : StatementTree → Option (List ℕ)
+asked_name (Load load) = Some load.file
+asked_name (OpenFile name file_name query) = Some file_name
+asked_name other = None
 
 -- a statement asks for a file: a LOAD into a table that is there, and an OPEN that isn't refused before; no other
 abbrev pub AsksForFile : World → StatementTree → Type 0

@@ -1,5 +1,5 @@
 -- A stop, held against what is due to the statement.
-use Rattle.std.specs.Prelude.{◌≡◌, ◌+◌, ⊤}
+use Rattle.std.specs.Prelude.{◌≡◌, ◌+◌, ⊤, false}
 use Rattle.session.specs.declared.stop.Stop.{Stop}
 use Rattle.session.specs.declared.stop.Stop.TheVariants as stop
 use Rattle.db_catalog.specs.declared.fault.DbFault.{DbFault}
@@ -19,21 +19,12 @@ use Rattle.bouquet_file.specs.declared.fault.OpenFault.TheVariants as opening
 use Rattle.sql_values.specs.Limits.{max_plans}
 use Rattle.sql_values.specs.declared.limit.LimitName.TheVariants as limit
 use Rattle.session.specs.declared.refusal.Refusal.TheVariants as refusal
-use Rattle.session.specs.Outcome.{Outcome, Refuses}
+use Rattle.session.specs.Outcome.{Outcome, Refuses, refused_work}
 
--- a refusal is the one that is due; a fault and out of memory fit anything
+-- a refusal is the one that is due, and costs nothing; out of memory fits anything
 abbrev pub StopsAt : Outcome → Stop → Type 0
-StopsAt due (stop.Refused why) = due ≡ Refuses why
-StopsAt due stop.ReadFault = ⊤
-StopsAt due stop.WriteFault = ⊤
+StopsAt due (stop.Refused why) = (due ≡ Refuses why) × (refused_work why ≡ 0)
 StopsAt due stop.NoMemory = ⊤
-
--- the folder failed
-abbrev pub IsFault : Stop → Type 0
-IsFault (stop.Refused why) = ⊥
-IsFault stop.ReadFault = ⊤
-IsFault stop.WriteFault = ⊤
-IsFault stop.NoMemory = ⊥
 
 -- a refusal of the database, of a file, or of a query; out of memory refuses nothing
 abbrev pub stop_of_change : DbFault → Stop
@@ -62,5 +53,5 @@ stop_of_counts counts.NoMemory = stop.NoMemory
 
 abbrev pub stop_of_audit : AuditFault → Stop
 stop_of_audit audits.PlanLimit = stop.Refused (refusal.PastLimit limit.Plans (max_plans + 1))
-stop_of_audit (audits.WorkLimit spent) = stop.Refused (refusal.PastAudit spent)
+stop_of_audit (audits.WorkLimit spent) = stop.Refused (refusal.PastWork spent false)
 stop_of_audit audits.NoMemory = stop.NoMemory

@@ -1,16 +1,14 @@
 // AUDIT: every plan of a bouquet's block is executed, for what its costs at a point are worth. No book takes in what that
 // spends.
-ghost use Rattle.std.specs.Prelude.{◌≡◌, IfErr, IfOk, IsErrAnd, None, OnOk, Some, option_map};
+ghost use Rattle.std.specs.Prelude.{◌≡◌, IfErr, IfOk, None, OnOk, option_map};
 ghost use Rattle.ess_grid.specs.Points.{IsPoint};
 ghost use Rattle.session.specs.Audit.{audit_outcome, first_missing, point_refusal};
+ghost use Rattle.session.specs.Outcome.{RefusesFree};
 ghost use Rattle.session.specs.Returns.{ReturnsFree};
 ghost use Rattle.session.specs.States.{world_of};
-ghost use Rattle.session.specs.Stop.{IsFault};
 
 use crate::lines::audit_line;
-use crate::named::no_bouquet;
 use crate::refusal::Refusal;
-use crate::run::check_counts;
 use crate::session::Session;
 use crate::stop::Stop;
 use ess_grid::{Grid, Point};
@@ -21,8 +19,8 @@ use std::alloc::Global;
 // Refuses the first of these levels that an axis of so many hasn't.
 fn check_point(count: usize, levels: &[u64]) -> Result<(), Refusal>
     ensures none { OnOk result (first_missing count levels.now ≡ None) }
-    ensures refusal { IfErr result (λ why.
-        option_map (Refusal.PastLimit LimitName.Level) (first_missing count levels.now) ≡ Some why) }
+    ensures refusal { IfErr result (RefusesFree
+        (option_map (Refusal.PastLimit LimitName.Level) (first_missing count levels.now))) }
 {
     for level in levels {
         if *level >= count as u64 {
@@ -37,7 +35,7 @@ fn point_of(grid: &Grid, levels: &[u64]) -> Result<Point, Refusal>
     ensures point { IfOk result (λ point. point ≡ levels.now) }
     ensures of_grid { IfOk result (IsPoint grid.now) }
     ensures none { OnOk result (point_refusal grid.now levels.now ≡ None) }
-    ensures refusal { IfErr result (λ why. point_refusal grid.now levels.now ≡ Some why) }
+    ensures refusal { IfErr result (RefusesFree (point_refusal grid.now levels.now)) }
 {
     if levels.len() != grid.axes() {
         return Err(Refusal::PastLimit(LimitName::Coordinates, levels.len() as u128));
@@ -51,24 +49,20 @@ fn point_of(grid: &Grid, levels: &[u64]) -> Result<Point, Refusal>
 }
 
 impl Session {
-    /// Tells of the bouquet of this name how its plans' works are to their costs at a point. It is refused where a count of a
-    /// table isn't what it was, and where the levels are no point of the bouquet's grid.
+    /// Tells of the bouquet of this name how its plans' works are to their costs at a point. It is refused where the levels are
+    /// no point of the bouquet's grid.
     pub(crate) fn audit(
         &self,
         alloc: Global,
         max_work: u64,
         audit: &AuditDef,
     ) -> Result<Vec<u8>, Stop>
-        ensures due { ReturnsFree (audit_outcome max_work (world_of self.now) audit.now)
+        ensures { ReturnsFree (audit_outcome max_work (world_of self.now) audit.now)
             result (world_of self.now) }
-        ensures no_fault { IsErrAnd result IsFault → ⊥ }
     {
-        let Some(kept) = self.bouquets.get(audit.name.bytes()) else {
-            return Err(no_bouquet(&audit.name));
-        };
-        check_counts(&self.database, &kept.bouquet)?;
-        let point = point_of(kept.bouquet.grid(), audit.levels.as_slice())?;
-        let told = audit_run::audit(alloc, &self.database, &kept.bouquet, &point, max_work)?;
+        let bouquet = self.present(&audit.name)?;
+        let point = point_of(bouquet.grid(), audit.levels.as_slice())?;
+        let told = audit_run::audit(alloc, &self.database, bouquet, &point, max_work)?;
         Ok(audit_line(alloc, &told)?)
     }
 }

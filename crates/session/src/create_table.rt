@@ -1,9 +1,8 @@
 // CREATE TABLE.
-ghost use Rattle.std.specs.Prelude.{◌≡◌, ◌<◌, length, OnErr, IsErrAnd};
+ghost use Rattle.std.specs.Prelude.{◌≡◌, ◌<◌, length, OnErr};
 ghost use Rattle.session.specs.CreateTable.{create_table_outcome};
 ghost use Rattle.session.specs.Returns.{ReturnsFree};
 ghost use Rattle.session.specs.States.{world_of};
-ghost use Rattle.session.specs.Stop.{IsFault};
 
 use crate::session::Session;
 use crate::stop::Stop;
@@ -16,7 +15,6 @@ impl Session {
         requires some { 0 < length table.now.columns }
         ensures due { ReturnsFree (create_table_outcome (world_of self.old) table.now)
             result (world_of self.new) }
-        ensures no_fault { IsErrAnd result IsFault → ⊥ }
         ensures unchanged { OnErr result (self.new ≡ self.old) }
     {
         self.database

@@ -1,9 +1,7 @@
 // EXPLAIN: it looks at no table, so a bouquet whose counts are out of date is printed too.
-ghost use Rattle.std.specs.Prelude.{IsErrAnd};
 ghost use Rattle.session.specs.Explain.{explain_outcome};
 ghost use Rattle.session.specs.Returns.{ReturnsFree};
 ghost use Rattle.session.specs.States.{world_of};
-ghost use Rattle.session.specs.Stop.{IsFault};
 
 use crate::lines;
 use crate::named::no_bouquet;
@@ -15,9 +13,8 @@ use std::alloc::Global;
 impl Session {
     /// Prints the contours of the bouquet of this name.
     pub(crate) fn explain(&self, alloc: Global, name: &Name) -> Result<Vec<u8>, Stop>
-        ensures due { ReturnsFree (explain_outcome (world_of self.now) name.now)
+        ensures { ReturnsFree (explain_outcome (world_of self.now) name.now)
             result (world_of self.now) }
-        ensures no_fault { IsErrAnd result IsFault → ⊥ }
     {
         let Some(kept) = self.bouquets.get(name.bytes()) else {
             return Err(no_bouquet(name));

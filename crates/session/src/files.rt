@@ -1,37 +1,20 @@
-// A file of the folder, by the name that a statement gives it.
-ghost use Rattle.std.specs.Prelude.{◌≡◌, IsErrOf};
+// A file that a statement has asked for, once it is given.
+ghost use Rattle.std.specs.Prelude.{◌≡◌, ℕ, List, Option, OnErr};
 ghost use Rattle.std.specs.Str.{IsUtf8};
-ghost use Rattle.outside_io.specs.Files.{OnlyReads};
-ghost use Rattle.session.specs.Outcome.{Refuses};
-ghost use Rattle.session.specs.Returns.{ReadsFile};
-ghost use Rattle.session.specs.Stop.{IsFault, StopsAt};
+ghost use Rattle.session.specs.Given.{IsFileGiven, at_file};
+ghost use Rattle.session.specs.Begins.{BelongsTo, pending_outcome};
+ghost use Rattle.session.specs.Returns.{ReturnsFree};
+ghost use Rattle.session.specs.States.{world_of};
 
+use crate::begun::{Asked, GivenFile, Pending};
 use crate::refusal::Refusal;
+use crate::session::Session;
 use crate::stop::Stop;
-use outside_io::{FileFault, Folder};
 use sql_values::{LimitName, Text};
 use std::alloc::Global;
 
-// The folder has no file of this name.
-fn absent_file(name: &Text) -> Stop
-    ensures refusal { StopsAt (Refuses (Refusal.AbsentFile name.now)) result }
-    ensures no_fault { IsFault result → ⊥ }
-{
-    match name.clone() {
-        Ok(name) => Stop::Refused(Refusal::AbsentFile(name)),
-        Err(_) => Stop::NoMemory,
-    }
-}
-
-// A file of so many bytes is too long.
-fn long_file(len: u64) -> Stop
-    ensures refusal { result ≡ Stop.Refused (Refusal.PastLimit LimitName.File len) }
-{
-    Stop::Refused(Refusal::PastLimit(LimitName::File, u128::from(len)))
-}
-
 /// The name of a file as a text.
-pub(crate) fn file_name(name: &Text) -> &str
+pub fn file_name(name: &Text) -> &str
     requires { IsUtf8 name.now }
     ensures { result.now ≡ name.now }
 {
@@ -41,23 +24,28 @@ pub(crate) fn file_name(name: &Text) -> &str
     text
 }
 
-/// The bytes of a file.
-pub(crate) fn read_file<F: Folder>(
-    alloc: Global,
-    name: &Text,
-    folder: &mut F,
-) -> Result<Vec<u8>, Stop>
-    requires text { IsUtf8 name.now }
-    ensures file { ReadsFile name.now (F.state folder.old) (F.state folder.new) result }
-    ensures no_write { IsErrOf result Stop.WriteFault → ⊥ }
-    ensures folder { OnlyReads (IsErrOf result Stop.ReadFault) ⊥
-        (F.state folder.old) (F.state folder.new) }
-{
-    match folder.read(alloc, file_name(name)) {
-        Ok(bytes) => Ok(bytes),
-        Err(FileFault::Absent) => Err(absent_file(name)),
-        Err(FileFault::TooLong { len }) => Err(long_file(len)),
-        Err(FileFault::Failed) => Err(Stop::ReadFault),
-        Err(FileFault::NoMemory) => Err(Stop::NoMemory),
+impl Session {
+    /// Carries a statement out to its end, with the file that it asked for in this state, and returns what it prints. One that
+    /// stops changes nothing.
+    pub fn finish(&mut self, alloc: Global, asked: Asked, given: GivenFile) -> Result<Vec<u8>, Stop>
+        requires { BelongsTo (world_of self.old) asked.pending }
+        ensures due { (file : Option (List ℕ)) → IsFileGiven file given →
+            ReturnsFree (at_file asked.name (pending_outcome (world_of self.old) asked.pending) file)
+            result (world_of self.new) }
+        ensures unchanged { OnErr result (self.new ≡ self.old) }
+    {
+        let Asked { name, pending } = asked;
+        let bytes = match given {
+            GivenFile::Bytes(bytes) => bytes,
+            GivenFile::Absent => return Err(Stop::Refused(Refusal::AbsentFile(name))),
+            GivenFile::TooLong(len) => {
+                let value = u128::from(len);
+                return Err(Stop::Refused(Refusal::PastLimit(LimitName::File, value)));
+            }
+        };
+        match pending {
+            Pending::Load(table) => self.load_bytes(alloc, table, &bytes),
+            Pending::Open(opening) => self.open_bytes(alloc, opening, &bytes),
+        }
     }
 }

@@ -1,5 +1,5 @@
 // A bouquet kept under a new name: what COMPILE and OPEN do at their end.
-ghost use Rattle.std.specs.Prelude.{◌≡◌, OnErr, IsErrAnd, None};
+ghost use Rattle.std.specs.Prelude.{◌≡◌, OnErr, None};
 ghost use Rattle.std.specs.Str.{IsUtf8};
 ghost use Rattle.query_block.specs.Blocks.{block_tree};
 ghost use Rattle.db_catalog.specs.Fits.{Fits};
@@ -9,7 +9,6 @@ ghost use Rattle.session.specs.Outcome.{Prints};
 ghost use Rattle.session.specs.Printed.{size_line};
 ghost use Rattle.session.specs.Returns.{ReturnsFree};
 ghost use Rattle.session.specs.States.{world_of};
-ghost use Rattle.session.specs.Stop.{IsFault};
 ghost use Rattle.session.specs.World.{NamedBouquet, named_in, with_bouquet};
 
 use crate::lines;
@@ -40,7 +39,6 @@ impl Session {
             let next = with_bouquet (world_of self.old) named in
             ReturnsFree (Prints (size_line label.now tree) 0 next) result (world_of self.new) }
         ensures unchanged { OnErr result (self.new ≡ self.old) }
-        ensures no_fault { IsErrAnd result IsFault → ⊥ }
     {
         let text = lines::size_line(alloc, label, &bouquet)?;
         let name = Vec::from_slice(alloc, name.bytes())?;

@@ -3,11 +3,13 @@
 //! paid is the work that they print and is within the bound of their bouquets, which have the counts of the tables, and that
 //! one which stops leaves the state as it was. The bouquets that are kept, compiled or opened from a file, always fit the
 //! tables, and have the counts of the tables as they were when they came.
-//! It never puts anything out, never asks the folder for a file but for a LOAD whose table is there and an OPEN that isn't
-//! refused before, never writes one but for a SAVE, and never reads a row but by a meter.
+//! It knows no folder: a statement returns the name of a file that it asks for, which is then given, or a file to be written.
+//! It never puts anything out, never asks for a file but for a LOAD whose table is there and an OPEN that isn't refused before,
+//! never returns one but for a SAVE, and never reads a row but by a meter.
 #![tactic(auto)]
 
 mod audit;
+mod begun;
 mod bouquets;
 mod columns;
 mod compile;
@@ -21,6 +23,7 @@ mod load;
 mod named;
 mod named_bouquets;
 mod open_file;
+mod present;
 mod refusal;
 mod run;
 mod save_file;
@@ -28,6 +31,8 @@ mod select;
 mod session;
 mod stop;
 
+pub use begun::{Asked, Begun, GivenFile};
+pub use files::file_name;
 pub use refusal::{Refusal, refusal_line};
 pub use session::Session;
 pub use stop::Stop;

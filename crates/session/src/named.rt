@@ -1,9 +1,9 @@
-// What a statement names: a table's column, and refusals for names that stand for nothing.
+// What a statement names: a table's column, and refusals for names that stand for nothing, each of which costs nothing.
 ghost use Rattle.std.specs.Prelude.{◌≡◌, ◌<◌, ◌≤◌, length, IfSome};
 ghost use Rattle.sql_values.specs.Limits.{max_columns};
 ghost use Rattle.session.specs.CreateIndex.{column_number};
 ghost use Rattle.session.specs.Outcome.{Refuses};
-ghost use Rattle.session.specs.Stop.{IsFault, StopsAt};
+ghost use Rattle.session.specs.Stop.{StopsAt};
 
 use crate::refusal::Refusal;
 use crate::stop::Stop;
@@ -12,8 +12,7 @@ use sql_values::ColumnDef;
 
 /// There is no table of this name.
 pub(crate) fn no_table(name: &Name) -> Stop
-    ensures refusal { StopsAt (Refuses (Refusal.NoTable name.now)) result }
-    ensures no_fault { IsFault result → ⊥ }
+    ensures { StopsAt (Refuses (Refusal.NoTable name.now)) result }
 {
     match name.clone() {
         Ok(name) => Stop::Refused(Refusal::NoTable(name)),
@@ -23,8 +22,7 @@ pub(crate) fn no_table(name: &Name) -> Stop
 
 /// The table has no column of this name.
 pub(crate) fn no_column(name: &Name) -> Stop
-    ensures refusal { StopsAt (Refuses (Refusal.NoColumn name.now)) result }
-    ensures no_fault { IsFault result → ⊥ }
+    ensures { StopsAt (Refuses (Refusal.NoColumn name.now)) result }
 {
     match name.clone() {
         Ok(name) => Stop::Refused(Refusal::NoColumn(name)),
@@ -34,8 +32,7 @@ pub(crate) fn no_column(name: &Name) -> Stop
 
 /// There is no bouquet of this name.
 pub(crate) fn no_bouquet(name: &Name) -> Stop
-    ensures refusal { StopsAt (Refuses (Refusal.NoBouquet name.now)) result }
-    ensures no_fault { IsFault result → ⊥ }
+    ensures { StopsAt (Refuses (Refusal.NoBouquet name.now)) result }
 {
     match name.clone() {
         Ok(name) => Stop::Refused(Refusal::NoBouquet(name)),
@@ -45,8 +42,7 @@ pub(crate) fn no_bouquet(name: &Name) -> Stop
 
 /// A bouquet has this name already.
 pub(crate) fn taken(name: &Name) -> Stop
-    ensures refusal { StopsAt (Refuses (Refusal.NameTaken name.now)) result }
-    ensures no_fault { IsFault result → ⊥ }
+    ensures { StopsAt (Refuses (Refusal.NameTaken name.now)) result }
 {
     match name.clone() {
         Ok(name) => Stop::Refused(Refusal::NameTaken(name)),

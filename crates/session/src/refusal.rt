@@ -42,11 +42,13 @@ pub enum Refusal {
     NotOpened(OpenFault),
     /// A quantity is past its limit, with this value.
     PastLimit(LimitName, u128),
-    /// The work of a query is past the most that one may cost, and so many units were spent on it.
-    PastWork(u128),
-    /// The work of all plans of an audit is past the most that one may cost, and so many units were spent on it. No book has
-    /// them.
-    PastAudit(u128),
+    /// The work of a query, or of all plans of an audit, is past the most that one may cost.
+    PastWork {
+        /// So many units were spent on it.
+        spent: u128,
+        /// The book has them: those of a query are entered there, those of an audit are not.
+        entered: bool,
+    },
 }
 
 // `error `, the kind of the refusal, and what it is about.
@@ -253,7 +255,6 @@ pub fn refusal_line(alloc: Global, refusal: &Refusal) -> Result<Vec<u8>, AllocEr
         Refusal::NotLoaded(fault) => not_loaded_line(alloc, fault),
         Refusal::NotOpened(fault) => not_opened_line(alloc, *fault),
         Refusal::PastLimit(limit, value) => limit_line(alloc, *limit, *value),
-        Refusal::PastWork(spent) => number_line(alloc, "E16 ", "work", *spent),
-        Refusal::PastAudit(spent) => number_line(alloc, "E16 ", "work", *spent),
+        Refusal::PastWork { spent, .. } => number_line(alloc, "E16 ", "work", *spent),
     }
 }

@@ -1,14 +1,13 @@
 // SELECT: a query is bound before anything else is asked of it, then compiled, then answered by a run of its bouquet.
-ghost use Rattle.std.specs.Prelude.{◌+◌, ◌^◌, ◌≤◌, OnOk, IsErrAnd};
+ghost use Rattle.std.specs.Prelude.{◌+◌, ◌^◌, ◌≤◌, OnOk};
 ghost use Rattle.sql_values.specs.Limits.{max_script_bytes};
 ghost use Rattle.sql_parse.specs.Trees.{Select, query_tree};
 ghost use Rattle.sql_parse.specs.WellFormed.{IsWellFormedQuery};
 ghost use Rattle.sql_parse.specs.Counts.{of_condition, predicates_in};
 ghost use Rattle.session.specs.Bounds.{IsAnsweredWithin};
-ghost use Rattle.session.specs.Returns.{ReturnsDue};
+ghost use Rattle.session.specs.Returns.{PaysAtMost, ReturnsDue};
 ghost use Rattle.session.specs.Select.{select_outcome};
 ghost use Rattle.session.specs.States.{world_of};
-ghost use Rattle.session.specs.Stop.{IsFault};
 
 use crate::bouquets::{answer, compiled_over};
 use crate::session::Session;
@@ -37,9 +36,7 @@ impl Session {
             result (world_of self.now) book.old book.new }
         ensures bounded { OnOk result
             (IsAnsweredWithin (world_of self.now) (Select (query_tree query.now))) }
-        ensures within { book.new ≤ book.old + max_work }
-        ensures never_falls { book.old ≤ book.new }
-        ensures no_fault { IsErrAnd result IsFault → ⊥ }
+        ensures pays { PaysAtMost max_work book.old book.new }
     {
         let block = bind(alloc, &self.database, query)?;
         let bouquet = compiled_over(alloc, &self.database, block, None, DEFAULT_THRESHOLD as u32)?;

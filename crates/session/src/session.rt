@@ -4,16 +4,17 @@ ghost use Rattle.sql_parse.specs.Trees.{statement_tree};
 ghost use Rattle.sql_parse.specs.WellFormed.{IsWellFormed};
 ghost use Rattle.sql_parse.specs.Counts.{predicates_of};
 ghost use Rattle.sql_values.specs.Limits.{max_script_bytes};
-ghost use Rattle.session.specs.Returns.{IsCarriedOut, UsesFolder};
+ghost use Rattle.session.specs.Begins.{BeginsAsDue, begun_with};
 ghost use Rattle.session.specs.Bounds.{IsAnsweredWithin};
+ghost use Rattle.session.specs.Returns.{PaysAtMost};
 ghost use Rattle.session.specs.States.{world_of};
 ghost use Rattle.session.specs.World.{nothing_made};
 
+use crate::begun::Begun;
 use crate::named_bouquets::NamedBouquets;
 use crate::stop::Stop;
 use bouquet_run::Book;
 use db_catalog::Database;
-use outside_io::Folder;
 use sql_parse::Statement;
 use std::alloc::Global;
 use std::marker::Model;
@@ -40,6 +41,16 @@ impl Model for Session {
     ghost invariant = { λ s. IsSession (record { database = s.database; bouquets = s.bouquets }) };
 }
 
+// What a statement prints, as it begins.
+fn prints(returned: Result<Vec<u8>, Stop>) -> Result<Begun, Stop>
+    ensures { result ≡ begun_with returned }
+{
+    match returned {
+        Ok(text) => Ok(Begun::Prints(text)),
+        Err(stop) => Err(stop),
+    }
+}
+
 impl Session {
     /// Before the first statement.
     pub fn new(alloc: Global) -> Session
@@ -51,41 +62,37 @@ impl Session {
         }
     }
 
-    /// Carries a statement out and returns what it prints. One that stops changes nothing, but that the file which a SAVE
-    /// couldn't write may hold anything. A query has a budget of `max_work` units, and what it paid is entered in the book,
-    /// whatever the answer; an audit may spend as much, which no book has.
-    pub fn carry_out<F: Folder>(
+    /// BeginsAsDue a statement: it is carried out to its end, or as far as it asks for a file. One that stops changes nothing. A query
+    /// has a budget of `max_work` units, and what it paid is entered in the book, whatever the answer; an audit may spend as
+    /// much, which no book has.
+    pub fn begin(
         &mut self,
         alloc: Global,
         max_work: u64,
         statement: &Statement,
-        folder: &mut F,
         book: &mut Book,
-    ) -> Result<Vec<u8>, Stop>
+    ) -> Result<Begun, Stop>
         requires well_formed { IsWellFormed (statement_tree statement.now) }
         requires predicates { predicates_of (statement_tree statement.now) ≤ max_script_bytes }
         requires room { book.old + max_work ≤ 2 ^ 126 }
-        ensures due { IsCarriedOut max_work (statement_tree statement.now)
-            (F.state folder.old) (F.state folder.new) (world_of self.old) (world_of self.new)
-            book.old book.new result }
+        ensures begins { BeginsAsDue max_work (world_of self.old) (statement_tree statement.now)
+            result (world_of self.new) book.old book.new }
         ensures unchanged { OnErr result (self.new ≡ self.old) }
         ensures bounded { OnOk result
             (IsAnsweredWithin (world_of self.old) (statement_tree statement.now)) }
-        ensures within { book.new ≤ book.old + max_work }
-        ensures never_falls { book.old ≤ book.new }
-        ensures folder { UsesFolder result (F.state folder.old) (F.state folder.new) }
+        ensures pays { PaysAtMost max_work book.old book.new }
     {
         match statement {
-            Statement::CreateTable(table) => self.create_table(alloc, table),
-            Statement::CreateIndex(index) => self.create_index(alloc, index),
-            Statement::Load(load) => self.load(alloc, load, folder),
-            Statement::Select(query) => self.select(alloc, max_work, query, book),
-            Statement::Compile(compile) => self.compile(alloc, compile),
-            Statement::Run(name) => self.run(alloc, max_work, name, book),
-            Statement::Explain(name) => self.explain(alloc, name),
-            Statement::SaveFile(save) => self.save_file(alloc, save, folder),
-            Statement::OpenFile(opened) => self.open_file(alloc, opened, folder),
-            Statement::Audit(audit) => self.audit(alloc, max_work, audit),
+            Statement::CreateTable(table) => prints(self.create_table(alloc, table)),
+            Statement::CreateIndex(index) => prints(self.create_index(alloc, index)),
+            Statement::Load(load) => self.load(load),
+            Statement::Select(query) => prints(self.select(alloc, max_work, query, book)),
+            Statement::Compile(compile) => prints(self.compile(alloc, compile)),
+            Statement::Run(name) => prints(self.run(alloc, max_work, name, book)),
+            Statement::Explain(name) => prints(self.explain(alloc, name)),
+            Statement::SaveFile(save) => self.save_file(alloc, save),
+            Statement::OpenFile(opened) => self.open_file(alloc, opened),
+            Statement::Audit(audit) => prints(self.audit(alloc, max_work, audit)),
         }
     }
 }

@@ -16,10 +16,6 @@ use table_stats::StatsFault;
 pub enum Stop {
     /// It is refused.
     Refused(Refusal),
-    /// The folder failed to read a file.
-    ReadFault,
-    /// The folder failed to write a file, which may hold anything.
-    WriteFault,
     /// Out of memory.
     NoMemory,
 }
@@ -147,7 +143,10 @@ impl From<AuditFault> for Stop {
             AuditFault::PlanLimit => {
                 Stop::Refused(Refusal::PastLimit(LimitName::Plans, u128::from(MAX_PLANS) + 1))
             }
-            AuditFault::WorkLimit { spent } => Stop::Refused(Refusal::PastAudit(spent)),
+            AuditFault::WorkLimit { spent } => Stop::Refused(Refusal::PastWork {
+                spent,
+                entered: false,
+            }),
             AuditFault::NoMemory => Stop::NoMemory,
         }
     }

@@ -10,7 +10,7 @@ use Rattle.outside_io.specs.Count.{Rose}
 use Rattle.outside_io.specs.Files.{FolderState}
 use Rattle.sql_parse.specs.Trees.{StatementTree}
 use Rattle.session.specs.Bounds.{IsAnsweredWithin}
-use Rattle.session.specs.Given.{IsGivenFor}
+use Rattle.shell.specs.Script.{IsGivenFor, Answer, AreAnsweredWithin, AreGiven, ScriptState, Step, and_then, at_start, files_after, left_by, printed_by, script_answer, state_after}
 use Rattle.session.specs.Outcome.{Outcome, Refuses, refused_work}
 use Rattle.session.specs.Refusal.{line_of}
 use Rattle.session.specs.Statements.{statement_outcome}
@@ -20,11 +20,11 @@ use Rattle.shell.specs.declared.status.Status.{Status}
 use Rattle.shell.specs.declared.status.Status.TheVariants as status
 use Rattle.shell.specs.Due.{CarriesAll, EndsAt, LeadsOn, state_of}
 use Rattle.shell.specs.Due.EndsAt.{refuses, breaks}
-use Rattle.shell.specs.Script.{Answer, AreAnsweredWithin, AreGiven, ScriptState, Step, and_then, at_start, files_after, left_by, printed_by, script_answer, state_after}
-use Rattle.shell.specs.Serve.{BreaksBefore, EndsAsDue, NeverFalls, next_text, statements_of_steps}
+use Rattle.shell.specs.Serve.{BreaksBefore, NeverFalls, next_text, statements_of_steps}
 use Rattle.shell.specs.Serve.BreaksBefore.{no_read, no_write, no_put, no_memory}
 use Rattle.shell.proofs.Beginning.{whole_begins}
-use Rattle.shell.proofs.Steps.{StepsFrom, given_for_wider, steps_behind}
+use Rattle.shell.proofs.Folders.{falls_none, falls_on, rose_in, given_for_wider}
+use Rattle.shell.proofs.Steps.{StepsFrom, steps_behind}
 
 -- an answer after a text and its work
 abbrev after : List ℕ → ℕ → Answer → Answer
@@ -47,35 +47,22 @@ nothing_after text work =
     let none : work + 0 ≡ work = omega arith in
     λ i. record { text = same i; work = none i; refused = false }
 
--- a count that rose in a part of a run rose in the run
-pub rose_in : {before low high last : ℕ} → before ≤ low → high ≤ last → Rose low high → Rose before last
-rose_in {before} {low} {high} {last} first past rose = omega (arith, first, past, rose)
+-- what went out when a run broke off is a beginning of the next text; the run didn't end as its text does, nor without a cause
+pub record IsBroken (max_work : ℕ) (sink_failed : Type 0) (old new : FolderState) (state : ScriptState) (later : List Step) (ended : Status) (part : List ℕ) : Type 0 where
+  pub begins : (n : ℕ) × (part ≡ take n (next_text max_work state later))
+  pub kinds : (ended ≡ status.Done → ⊥) × (ended ≡ status.Refused → ⊥) × (ended ≡ status.BadWords → ⊥)
+  pub read_fault : ended ≡ status.ReadFault → Rose old.read_faults new.read_faults
+  pub write_fault : ended ≡ status.WriteFault → sink_failed ⊎ Rose old.write_faults new.write_faults
 
--- what went out when a run broke off is a beginning of the next text, and the run didn't end as its text does
-breaks_part : {max_work : ℕ} {sink_failed : Type 0} {old new : FolderState} {state : ScriptState} {later : List Step} {ended : Status} {part : List ℕ} {spent : ℕ}
-    → BreaksBefore max_work sink_failed old new state later ended part spent → (n : ℕ) × (part ≡ take n (next_text max_work state later))
-breaks_part (no_read rose asks kept) = (0, refl)
-breaks_part (no_write rose fails) = (0, refl)
-breaks_part (no_put failed some kept n) = (n, refl)
-breaks_part (no_memory spent within kept) = (0, refl)
-
-breaks_not_due : {max_work : ℕ} {sink_failed : Type 0} {old new : FolderState} {state : ScriptState} {later : List Step} {ended : Status} {part : List ℕ} {spent : ℕ}
-    → BreaksBefore max_work sink_failed old new state later ended part spent → ¬ EndsAsDue ended
-breaks_not_due (no_read rose asks kept) due = elim due [ inl is ↦ cc is | inr is ↦ cc is ]
-breaks_not_due (no_write rose fails) due = elim due [ inl is ↦ cc is | inr is ↦ cc is ]
-breaks_not_due (no_put failed some kept n) due = elim due [ inl is ↦ cc is | inr is ↦ cc is ]
-breaks_not_due (no_memory spent within kept) due = elim due [ inl is ↦ cc is | inr is ↦ cc is ]
-
--- nor did it break off without a cause
-pub breaks_cause : {max_work : ℕ} {sink_failed : Type 0} {old new : FolderState} {state : ScriptState} {later : List Step} {ended : Status} {part : List ℕ} {spent : ℕ} → BreaksBefore max_work sink_failed old new state later ended part spent
-    → (ended ≡ status.ReadFault → Rose old.read_faults new.read_faults) × (ended ≡ status.WriteFault → sink_failed ⊎ Rose old.write_faults new.write_faults)
-breaks_cause (no_read rose asks kept) = (λ is. rose, λ is. cc is)
-breaks_cause (no_write rose fails) = (λ is. cc is, λ is. inr rose)
-breaks_cause (no_put failed some kept n) = (λ is. cc is, λ is. inl failed)
-breaks_cause (no_memory spent within kept) = (λ is. cc is, λ is. cc is)
+pub broken_by : {max_work : ℕ} {sink_failed : Type 0} {old new : FolderState} {state : ScriptState} {later : List Step} {ended : Status} {part : List ℕ} {spent : ℕ}
+    → BreaksBefore max_work sink_failed old new state later ended part spent → IsBroken max_work sink_failed old new state later ended part
+broken_by (no_read rose asks kept) = record { begins = (0, refl); kinds = (λ is. cc is, λ is. cc is, λ is. cc is); read_fault = λ is. rose; write_fault = λ is. cc is }
+broken_by (no_write rose fails) = record { begins = (0, refl); kinds = (λ is. cc is, λ is. cc is, λ is. cc is); read_fault = λ is. cc is; write_fault = λ is. inr rose }
+broken_by (no_put failed some kept n) = record { begins = (n, refl); kinds = (λ is. cc is, λ is. cc is, λ is. cc is); read_fault = λ is. cc is; write_fault = λ is. inl failed }
+broken_by (no_memory spent within kept) = record { begins = (0, refl); kinds = (λ is. cc is, λ is. cc is, λ is. cc is); read_fault = λ is. cc is; write_fault = λ is. cc is }
 
 -- a cause in a part of a run is one in the run
-breaks_in : {max_work : ℕ} {failed sink_failed : Type 0} {before mid now : FolderState} {state : ScriptState} {later : List Step} {ended : Status} {part : List ℕ} {spent : ℕ} → (failed → sink_failed) → NeverFalls before mid
+pub breaks_in : {max_work : ℕ} {failed sink_failed : Type 0} {before mid now : FolderState} {state : ScriptState} {later : List Step} {ended : Status} {part : List ℕ} {spent : ℕ} → (failed → sink_failed) → NeverFalls before mid
     → BreaksBefore max_work failed mid now state later ended part spent → BreaksBefore max_work sink_failed before now state later ended part spent
 breaks_in sinks first (no_read rose asks kept) = no_read (rose_in first.read_faults (omega arith) rose) asks kept
 breaks_in sinks first (no_write rose fails) = no_write (rose_in first.write_faults (omega arith) rose) fails
@@ -95,6 +82,7 @@ pub record IsCarried (max_work : ℕ) (all : List StatementTree) (i : ℕ) (befo
   pub given : (last : ℕ) → now.misses ≤ last → (rest : List Step) → AreGiven (Rose before.misses last) max_work (state_of world now) rest
       → AreGiven (Rose before.misses last) max_work (at_start before.files) (steps ++ rest)
   pub answered : (rest : List Step) → AreAnsweredWithin max_work (state_of world now) rest → AreAnsweredWithin max_work (at_start before.files) (steps ++ rest)
+  pub falls : NeverFalls before now
 
 pub carried_none : (max_work : ℕ) (all : List StatementTree) (before : FolderState) (had : Option (List ℕ)) → IsCarried max_work all 0 before before nothing_made had had 0
 carried_none max_work all before had = record {
@@ -107,6 +95,7 @@ carried_none max_work all before had = record {
   files = λ rest. refl;
   given = λ last past rest given. given;
   answered = λ rest within. within;
+  falls = falls_none before;
 }
 
 -- the statement at i comes after those before it
@@ -158,6 +147,7 @@ module _ (max_work : ℕ) (all : List StatementTree) (i : ℕ) (before now : Fol
         steps = carried.steps;
         are = carried.are ∙ take_all i all past;
         given = subst (AreGiven (Rose before.misses now.misses) max_work (at_start before.files)) alone (carried.given now.misses (omega arith) [] tt);
+        falls = carried.falls;
         carries = record {
           done = λ _. (ap (λ (a : Answer). a.refused) answer_so_far, whole);
           refused = λ ended. cc ended;
@@ -172,7 +162,7 @@ module _ (max_work : ℕ) (all : List StatementTree) (i : ℕ) (before now : Fol
       }
 
 module _ (max_work : ℕ) (all : List StatementTree) (i : ℕ) (before mid now : FolderState) (world : World) (statement : StatementTree) (file : Option (List ℕ)) (had got new : Option (List ℕ)) (paid due : ℕ)
-    (below : i < length all) (is : get_or all i statement ≡ statement) (first : NeverFalls before mid) (last_misses : mid.misses ≤ now.misses)
+    (below : i < length all) (is : get_or all i statement ≡ statement) (last : NeverFalls mid now)
     (carried : IsCarried max_work all i before mid world had got paid) (given : IsGivenFor mid.files (Rose mid.misses now.misses) statement file) where
   abbrev start : ScriptState
   start = at_start before.files
@@ -190,11 +180,11 @@ module _ (max_work : ℕ) (all : List StatementTree) (i : ℕ) (before mid now :
   one_more : (rest : List Step) → (carried.steps ++ here ∷ []) ++ rest ≡ carried.steps ++ here ∷ rest
   one_more rest = append_assoc carried.steps (here ∷ []) rest
 
-  given_here : (last : ℕ) → now.misses ≤ last → (rest : List Step) → IfSome (left_by what state) (λ next. AreGiven (Rose before.misses last) max_work next rest)
-      → AreGiven (Rose before.misses last) max_work start (carried.steps ++ here ∷ rest)
-  given_here last past rest others =
-      let until : mid.misses ≤ last = omega (arith, last_misses, past) in
-      carried.given last until (here ∷ rest) (given_for_wider mid.files statement file (rose_in first.misses past) given, others)
+  given_here : (end : ℕ) → now.misses ≤ end → (rest : List Step) → IfSome (left_by what state) (λ next. AreGiven (Rose before.misses end) max_work next rest)
+      → AreGiven (Rose before.misses end) max_work start (carried.steps ++ here ∷ rest)
+  given_here end past rest others =
+      let until : mid.misses ≤ end = omega (arith, last.misses, past) in
+      carried.given end until (here ∷ rest) (given_for_wider mid.files statement file (rose_in carried.falls.misses past) given, others)
 
   -- a statement behind which the run goes on
   pub carried_on : (next : World) → LeadsOn what state (state_of next now) got new paid due → IsAnsweredWithin world statement → IsCarried max_work all (i + 1) before now next had new due
@@ -204,6 +194,7 @@ module _ (max_work : ℕ) (all : List StatementTree) (i : ℕ) (before mid now :
         steps = carried.steps ++ here ∷ [];
         are = are_on all i carried.steps here below is carried.are;
         printed = carried.printed ++ goes.text;
+        falls = falls_on before mid now carried.falls last;
         put = Appends-trans had got new carried.printed goes.text carried.put goes.put;
         whole = λ rest.
             ap (script_answer max_work start) (one_more rest) ∙ carried.whole (here ∷ rest)
@@ -256,6 +247,7 @@ module _ (max_work : ℕ) (all : List StatementTree) (i : ℕ) (before mid now :
         steps = all_steps;
         are = all_are;
         given = given_here now.misses (omega arith) others.0 others.2;
+        falls = falls_on before mid now carried.falls last;
         carries = record {
           done = λ e. cc e;
           refused = λ _. (ap (λ (a : Answer). a.refused) whole, text);
@@ -273,7 +265,8 @@ module _ (max_work : ℕ) (all : List StatementTree) (i : ℕ) (before mid now :
       let more = begins there (left_by what state) (λ s. script_answer max_work s others.0) in
       let text : (script_answer max_work start all_steps).text ≡ carried.printed ++ (there.text ++ more.0) = ap (λ (a : Answer). a.text) answer_here ∙ ap (λ (l : List ℕ). carried.printed ++ l) more.1 in
       let here_is = cause others.0 in
-      let of_next = breaks_part here_is in
+      let here_broken = broken_by here_is in
+      let of_next = here_broken.begins in
       let out : Appends had new (carried.printed ++ part) = Appends-trans had got new carried.printed part carried.put put in
       let so_far = answer_so_far max_work all i before mid world had got paid carried in
       let work : (script_answer max_work start carried.steps).work ≡ paid = ap (λ (a : Answer). a.work) so_far in
@@ -281,15 +274,16 @@ module _ (max_work : ℕ) (all : List StatementTree) (i : ℕ) (before mid now :
         steps = all_steps;
         are = all_are;
         given = given_here now.misses (omega arith) others.0 others.2;
+        falls = falls_on before mid now carried.falls last;
         carries = record {
-          done = λ e. absurd (breaks_not_due here_is (inl e));
-          refused = λ e. absurd (breaks_not_due here_is (inr e));
+          done = λ e. absurd (here_broken.kinds.0 e);
+          refused = λ e. absurd (here_broken.kinds.1 e);
           beginning = (
             length carried.printed + min of_next.0 (length there.text),
             rw (text, cut of_next.0 carried.printed there.text more.0, ← of_next.1) out,
           );
         };
-        whole = λ e. absurd (breaks_not_due here_is e);
+        whole = λ e. elim e [ inl done ↦ absurd (here_broken.kinds.0 done) | inr refused ↦ absurd (here_broken.kinds.1 refused) ];
         broken = λ _. record {
           earlier = carried.steps;
           later = here ∷ others.0;
@@ -298,7 +292,7 @@ module _ (max_work : ℕ) (all : List StatementTree) (i : ℕ) (before mid now :
           reached = state_so_far max_work all i before mid world had got paid carried;
           part = part;
           spent = spent;
-          cause = breaks_in sinks first here_is;
+          cause = breaks_in sinks carried.falls here_is;
           put = rw so_far out;
           pays = omega (arith, work, pays);
           bounds = within_so_far max_work all i before mid world had got paid carried;

@@ -1,76 +1,29 @@
 -- What one statement returned and put: the run goes on behind it, or ends there.
-use Rattle.std.proofs.Common.{◌≡◌, inl, inr, ℕ, ◌+◌, ◌-◌, ◌<◌, ◌≤◌, List, [], length, map, take, get_or, false, Option, Some, None, sym, ap, ◌∙◌, arith}
+use Rattle.std.proofs.Common.{◌≡◌, inl, inr, ℕ, ◌+◌, ◌-◌, ◌<◌, ◌≤◌, List, [], length, map, take, get_or, Option, Some, None, sym, ap, ◌∙◌, arith}
 use Rattle.std.specs.Prelude.{◌≢◌, Vec, Result, Ok, Err, OnOk, OnErr, IfErr, IsErrOf}
 use Rattle.std.specs.declared.alloc.Global.{Global}
 use Rattle.std.specs.Io.KnownBytes.{Appends, Keeps}
 use Rattle.std.proofs.Math.ListN.{get_or-map}
 use Rattle.std.proofs.lemmas.List.{append-nil, length-map}
-use Rattle.outside_io.specs.Files.{Files, FolderState}
+use Rattle.outside_io.specs.Files.{FolderState}
 use Rattle.sql_parse.specs.declared.tree.Statement.{Statement}
 use Rattle.sql_parse.specs.Trees.{StatementTree, statement_tree}
 use Rattle.session.specs.declared.stop.Stop.{Stop}
 use Rattle.session.specs.declared.refusal.Refusal.{Refusal}
 use Rattle.session.specs.Refusal.{line_of}
 use Rattle.session.specs.Bounds.{IsAnsweredWithin}
-use Rattle.session.specs.Outcome.{Outcome, Prints, Saves, Refuses, refused_work}
-use Rattle.session.specs.Returns.{DoesDue, IsCarriedOut, UsesFolder}
+use Rattle.session.specs.Outcome.{Outcome, Refuses, refused_work}
 use Rattle.session.specs.Statements.{statement_outcome}
 use Rattle.session.specs.World.{World}
 use Rattle.shell.specs.declared.status.Status.{Status}
 use Rattle.shell.specs.declared.status.Status.TheVariants as status
-use Rattle.shell.specs.Due.{CarriesAll, CarriesOne, EndsAt, LeadsOn, state_of}
+use Rattle.shell.specs.Due.{IsCarriedOut, state_of, CarriesAll, CarriesOne, EndsAt}
 use Rattle.shell.specs.Due.EndsAt.{refuses, breaks}
-use Rattle.shell.specs.Script.{printed_by}
-use Rattle.shell.specs.Serve.{NeverFalls}
+use Rattle.shell.specs.Script.{printed_by, Answer}
 use Rattle.shell.specs.Serve.BreaksBefore.{no_put, no_memory}
-use Rattle.shell.proofs.Beginning.{IsUnput, IsRefused}
+use Rattle.shell.proofs.Beginning.{IsUnput, IsRefused, unput_not_read}
 use Rattle.shell.proofs.Carrying.{IsCarried, carried_on, carried_to}
-
--- the counts of a folder that a statement used
-pub falls_by : {returned : Result (Vec ℕ Global) Stop} (before after : FolderState) → UsesFolder returned before after → NeverFalls before after
-falls_by before after uses = record {
-  read_faults = uses.read_faults.never_falls;
-  write_faults = uses.write_faults.never_falls;
-  misses = uses.misses;
-}
-
-pub falls_none : (state : FolderState) → NeverFalls state state
-falls_none state = record { read_faults = omega arith; write_faults = omega arith; misses = omega arith }
-
-pub falls_on : (before mid now : FolderState) → NeverFalls before mid → NeverFalls mid now → NeverFalls before now
-falls_on before mid now first last = record {
-  read_faults = omega (arith, first.read_faults, last.read_faults);
-  write_faults = omega (arith, first.write_faults, last.write_faults);
-  misses = omega (arith, first.misses, last.misses);
-}
-
--- a statement that did what is due to it, and whose text was put
-goes_on : (due : Outcome) (text : List ℕ) (world next : World) (before after : FolderState) (old new : ℕ) (had got : Option (List ℕ)) → DoesDue due text world next before.files after.files old new → Appends had got text
-    → LeadsOn due (state_of world before) (state_of next after) had got old new
-goes_on (Prints printed work made) text world next before after old new had got does put = record {
-  text = text;
-  work = work;
-  prints = λ i. record { text = sym does.0 i; work = work; refused = false };
-  leaves = λ i. Some (record { world = sym does.1 i; files = sym does.3 i });
-  put = put;
-  spent = does.2;
-}
-goes_on (Saves name bytes) text world next before after old new had got does put = record {
-  text = text;
-  work = 0;
-  prints = λ i. record { text = sym does.0 i; work = 0; refused = false };
-  leaves = λ i. Some (record { world = sym does.1 i; files = sym does.3 i });
-  put = put;
-  spent = omega (arith, does.2);
-}
-goes_on (Refuses why) text world next before after old new had got does put = absurd does
-
--- one that has a text to put paid the work that it prints, and left the files as they were
-printed_kept : (due : Outcome) (text : List ℕ) (world next : World) (before after : Option Files) (old new : ℕ) → DoesDue due text world next before after old new → text ≢ []
-    → ((printed_by due).text ≡ text) × (new ≡ old + (printed_by due).work) × (after ≡ before)
-printed_kept (Prints printed work made) text world next before after old new does some = (sym does.0, does.2, does.3)
-printed_kept (Saves name bytes) text world next before after old new does some = absurd (some does.0)
-printed_kept (Refuses why) text world next before after old new does some = absurd does
+use Rattle.shell.proofs.Folders.{FailedToRead, counts_on}
 
 -- what was paid between the two, and it is at most the most
 pub paid_more : (old new most : ℕ) → old ≤ new → new ≤ old + most → (spent : ℕ) × (spent ≤ most) × (new ≡ old + spent)
@@ -105,41 +58,41 @@ module _ (max_work : ℕ) (sink_failed : Type 0) (statement : StatementTree) (fi
       let work : (printed_by due).work ≡ refused_work why = ap (λ (o : Outcome). (printed_by o).work) is in
       ends_in_part (line_of why) ended unput (ap (λ (o : Outcome). (printed_by o).text) is) (omega (arith, work, spent)) within kept part nothing sink some
 
--- a statement that returned its text, which was put, or not whole
-pub returned_text : {T : Type 0} (max_work : ℕ) (sink_failed : Type 0) (statement : StatementTree) (before after : FolderState) (world next : World) (old new : ℕ) (had got : Option (List ℕ)) (text : Vec ℕ Global) (result : Result T Status)
-    → IsCarriedOut max_work statement before after world next old new (Ok text) → NeverFalls before after → new ≤ old + max_work → IsAnsweredWithin world statement → OnOk result (Appends had got text.items) → OnErr result ((n : ℕ) × Appends had got (take n text.items))
-    → (IsErrOf result status.NoMemory → Keeps had got) → OnErr result (text.items ≢ []) → IfErr result IsUnput → (IsErrOf result status.WriteFault → sink_failed) → CarriesOne max_work sink_failed statement before after world next old new result had got
-returned_text max_work sink_failed statement before after world next old new had got text (Ok done) out falls most within whole part nothing some kinds sink = record {
-  file = out.file;
-  given = out.given;
-  falls = falls;
-  bounded = within;
-  goes = goes_on (statement_outcome max_work world statement out.file) text.items world next before after old new had got out.does whole;
-  ends = tt;
-}
-returned_text max_work sink_failed statement before after world next old new had got text (Err ended) out falls most within whole part nothing some kinds sink =
-    let shown = printed_kept (statement_outcome max_work world statement out.file) text.items world next before.files after.files old new out.does some in
-    record {
-      file = out.file;
-      given = out.given;
-      falls = falls;
-      bounded = tt;
-      goes = tt;
-      ends = ends_in_part max_work sink_failed statement out.file before after world had got old new text.items ended kinds shown.0 shown.1 most shown.2 part (λ is. nothing (ap Err is)) (λ is. sink (ap Err is)) (λ _. some);
-    }
+module _ {T : Type 0} (max_work : ℕ) (sink_failed : Type 0) (statement : StatementTree) (before after : FolderState) (world next : World) (old new : ℕ) (had got : Option (List ℕ)) where
+  -- a statement that returned its text, which was put, or not whole
+  pub returned_text : (text : Vec ℕ Global) (result : Result T Status) → IsCarriedOut max_work statement before after world next old new (Ok (Ok text)) → new ≤ old + max_work → IsAnsweredWithin world statement
+      → OnOk result (Appends had got text.items) → OnErr result ((n : ℕ) × Appends had got (take n text.items)) → (IsErrOf result status.NoMemory → Keeps had got) → OnErr result (text.items ≢ []) → IfErr result IsUnput
+      → (IsErrOf result status.WriteFault → sink_failed) → CarriesOne max_work sink_failed statement before after world next old new result had got
+  returned_text text (Ok done) out most within whole part nothing some kinds sink = record {
+    file = out.file;
+    given = out.given;
+    counts = counts_on world _ before after _ (Ok done) (λ is. cc is) (λ is. cc is) out.counts;
+    bounded = within;
+    goes = record { text = text.items; work = out.does.work; prints = out.does.prints; leaves = out.does.leaves; put = whole; spent = out.does.spent };
+    ends = tt;
+  }
+  returned_text text (Err ended) out most within whole part nothing some kinds sink =
+      record {
+        file = out.file;
+        given = out.given;
+        counts = counts_on world _ before after _ (Err ended) (λ is. cc is) (λ is. let same : ended ≡ status.ReadFault = cc is in absurd (unput_not_read ended kinds same)) out.counts;
+        bounded = tt;
+        goes = tt;
+        ends = ends_in_part max_work sink_failed statement out.file before after world had got old new text.items ended kinds (ap (λ (a : Answer). a.text) out.does.prints) (out.does.spent ∙ ap (λ (a : Answer). old + a.work) (sym out.does.prints)) most (out.does.kept some) part (λ is. nothing (ap Err is)) (λ is. sink (ap Err is)) (λ _. some);
+      }
 
--- a statement that stopped, at which the run ends
-pub stopped_at : {T : Type 0} (max_work : ℕ) (sink_failed : Type 0) (statement : StatementTree) (before after : FolderState) (world next : World) (old new : ℕ) (had got : Option (List ℕ)) (why : Stop) (ended : Status)
-    → (out : IsCarriedOut max_work statement before after world next old new (Err why)) → UsesFolder (Err why) before after → EndsAt max_work sink_failed (record { statement = statement; file = out.file }) (state_of world before) before after had got old new ended
-    → CarriesOne {T = T} max_work sink_failed statement before after world next old new (Err ended) had got
-stopped_at max_work sink_failed statement before after world next old new had got why ended out uses ends = record {
-  file = out.file;
-  given = out.given;
-  falls = falls_by before after uses;
-  bounded = tt;
-  goes = tt;
-  ends = ends;
-}
+  -- one that stopped, at which the run ends
+  pub stopped_at : (returned : Result (Result (Vec ℕ Global) Stop) Status) (ended : Status) → (FailedToRead returned → ended ≡ status.ReadFault) → (ended ≡ status.ReadFault → FailedToRead returned)
+      → (out : IsCarriedOut max_work statement before after world next old new returned) → EndsAt max_work sink_failed (record { statement = statement; file = out.file }) (state_of world before) before after had got old new ended
+      → CarriesOne {T = T} max_work sink_failed statement before after world next old new (Err ended) had got
+  stopped_at returned ended to from out ends = record {
+    file = out.file;
+    given = out.given;
+    counts = counts_on world _ before after returned (Err ended) (λ is. ap Err (to is)) (λ is. let same : ended ≡ status.ReadFault = cc is in from same) out.counts;
+    bounded = tt;
+    goes = tt;
+    ends = ends;
+  }
 
 -- the tree of the statement in this place
 tree_at : (statements : List Statement) (i : ℕ) (statement : Statement) → statement ≡ get_or statements i statement → get_or (map statement_tree statements) i (statement_tree statement) ≡ statement_tree statement
@@ -149,16 +102,16 @@ inside : (statements : List Statement) (i : ℕ) → i < length statements → i
 inside statements i below = omega (arith, below, length-map statements statement_tree)
 
 module _ (max_work : ℕ) (statements : List Statement) (i : ℕ) (before mid now : FolderState) (world next : World) (statement : Statement) (had got new : Option (List ℕ)) (paid due : ℕ) (failed : Type 0)
-    (below : i < length statements) (is : statement ≡ get_or statements i statement) (first : NeverFalls before mid) (carried : IsCarried max_work (map statement_tree statements) i before mid world had got paid) where
+    (below : i < length statements) (is : statement ≡ get_or statements i statement) (carried : IsCarried max_work (map statement_tree statements) i before mid world had got paid) where
   -- the run ended there
   pub ended_at : {T : Type 0} (sink_failed : Type 0) (ended : Status) → (failed → sink_failed)
       → CarriesOne {T = T} max_work failed (statement_tree statement) mid now world next paid due (Err ended) got new → CarriesAll max_work sink_failed (map statement_tree statements) before now ended had new due
   ended_at sink_failed ended sinks one =
-      carried_to max_work (map statement_tree statements) i before mid now world (statement_tree statement) one.file had got new paid due (inside statements i below) (tree_at statements i statement is) first one.falls.misses carried one.given
+      carried_to max_work (map statement_tree statements) i before mid now world (statement_tree statement) one.file had got new paid due (inside statements i below) (tree_at statements i statement is) one.counts.falls carried one.given
       failed sink_failed ended sinks one.ends
 
   -- the run goes on behind it
   pub on_at : {T : Type 0} (done : T) → CarriesOne max_work failed (statement_tree statement) mid now world next paid due (Ok done) got new → IsCarried max_work (map statement_tree statements) (i + 1) before now next had new due
   on_at done one =
-      carried_on max_work (map statement_tree statements) i before mid now world (statement_tree statement) one.file had got new paid due (inside statements i below) (tree_at statements i statement is) first one.falls.misses carried one.given
+      carried_on max_work (map statement_tree statements) i before mid now world (statement_tree statement) one.file had got new paid due (inside statements i below) (tree_at statements i statement is) one.counts.falls carried one.given
       next one.goes one.bounded

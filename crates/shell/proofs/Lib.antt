@@ -1,11 +1,13 @@
 pub mod Asked
 pub mod Beginning
+pub mod Carried
 pub mod Carrying
 pub mod ClapLine
 pub mod ClapWords
 pub mod CutAtEquals
 pub mod Demonstrations
 pub mod Ends
+pub mod Folders
 pub mod Reading
 pub mod Runs
 pub mod Scripts

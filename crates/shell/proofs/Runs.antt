@@ -14,10 +14,11 @@ use Rattle.shell.specs.declared.status.Status.{Status}
 use Rattle.shell.specs.declared.status.Status.TheVariants as status
 use Rattle.shell.specs.Script.{Answer, AreGiven, Step, answer_of, at_start}
 use Rattle.shell.specs.Serve.{BreaksOffLine, EndsAsDue, IsScript, IsAnswer, Serves, IsDecided, statements_read}
-use Rattle.shell.specs.Due.{CarriesAll}
+use Rattle.shell.specs.Due.{CarriesAll, RunsScript}
 use Rattle.shell.specs.Source.{TakesAtMost}
-use Rattle.shell.proofs.Beginning.{IsRefused, refused_not_done}
-use Rattle.shell.proofs.Carrying.{breaks_cause}
+use Rattle.shell.proofs.Beginning.{IsRefused, refused_not_done, refused_no_fault}
+use Rattle.shell.proofs.Carrying.{broken_by}
+use Rattle.shell.proofs.Folders.{falls_none}
 use Rattle.shell.proofs.Steps.{any_steps, one_script_answer}
 use Rattle.shell.proofs.Scripts.{enough, some_reading, one_reading, reads_whole, reads_cut}
 
@@ -50,13 +51,13 @@ serves_nothing max_work source_failed sink_failed script folder ended had paid u
       broken = λ _. inl (record { cause = cause; folder = refl; sink = refl; unpaid = unpaid });
     }
 
-pub known_nothing : (max_work : ℕ) (source_failed sink_failed : Type 0) (source : Option (List ℕ)) (folder : FolderState) (ended : Status) (had : Option (List ℕ)) (paid : ℕ) → paid ≡ 0 → EndsUnread source_failed ended
+known_nothing : (max_work : ℕ) (source_failed sink_failed : Type 0) (source : Option (List ℕ)) (folder : FolderState) (ended : Status) (had : Option (List ℕ)) (paid : ℕ) → paid ≡ 0 → EndsUnread source_failed ended
     → IfSome source (λ script. Serves max_work source_failed sink_failed script folder folder ended had had paid)
 known_nothing max_work source_failed sink_failed None folder ended had paid unpaid cause = tt
 known_nothing max_work source_failed sink_failed (Some script) folder ended had paid unpaid cause = serves_nothing max_work source_failed sink_failed script folder ended had paid unpaid cause
 
 -- statements that were carried out are those of the script
-pub serves_statements : (max_work : ℕ) (sink_failed : Type 0) (script : List ℕ) (statements : List StatementTree) (before after : FolderState) (ended : Status) (had got : Option (List ℕ)) (paid : ℕ) → IsScript script (Ok statements)
+serves_statements : (max_work : ℕ) (sink_failed : Type 0) (script : List ℕ) (statements : List StatementTree) (before after : FolderState) (ended : Status) (had got : Option (List ℕ)) (paid : ℕ) → IsScript script (Ok statements)
     → CarriesAll max_work sink_failed statements before after ended had got paid → Serves max_work ⊥ sink_failed script before after ended had got paid
 serves_statements max_work sink_failed script statements before after ended had got paid reads carried = record {
   answer = answer_of max_work before.files (Ok carried.steps);
@@ -66,17 +67,6 @@ serves_statements max_work sink_failed script statements before after ended had 
   broken = λ other. inr (carried.broken other, tt);
 }
 
--- a fault has its cause
-pub cause_read : (max_work : ℕ) (sink_failed : Type 0) (statements : List StatementTree) (before after : FolderState) (ended : Status) (had got : Option (List ℕ)) (paid : ℕ) → CarriesAll max_work sink_failed statements before after ended had got paid
-    → ended ≡ status.ReadFault → Rose before.read_faults after.read_faults
-cause_read max_work sink_failed statements before after ended had got paid carried is =
-    (breaks_cause (carried.broken (λ due. elim due [ inl done ↦ cc (is, done) | inr refused ↦ cc (is, refused) ])).cause).0 is
-
-pub cause_write : (max_work : ℕ) (sink_failed : Type 0) (statements : List StatementTree) (before after : FolderState) (ended : Status) (had got : Option (List ℕ)) (paid : ℕ) → CarriesAll max_work sink_failed statements before after ended had got paid
-    → ended ≡ status.WriteFault → sink_failed ⊎ Rose before.write_faults after.write_faults
-cause_write max_work sink_failed statements before after ended had got paid carried is =
-    (breaks_cause (carried.broken (λ due. elim due [ inl done ↦ cc (is, done) | inr refused ↦ cc (is, refused) ])).cause).1 is
-
 -- the line of a script that is refused whole was put, whole or in part
 line_broke : (sink_failed : Type 0) (line : List ℕ) (folder : FolderState) (ended : Status) (had got : Option (List ℕ)) (paid : ℕ) → paid ≡ 0 → IsRefused ended → ((n : ℕ) × Appends had got (take n line)) → (ended ≡ status.NoMemory → Keeps had got)
     → (ended ≡ status.WriteFault → sink_failed) → ¬ EndsAsDue ended → BreaksOffLine sink_failed ended folder folder had got paid line
@@ -84,17 +74,13 @@ line_broke sink_failed line folder ended had got paid unpaid (inl refused) part 
 line_broke sink_failed line folder ended had got paid unpaid (inr (inl fault)) part nothing sink other = record { put = inl (fault, sink fault, part); folder = refl; unpaid = unpaid }
 line_broke sink_failed line folder ended had got paid unpaid (inr (inr memory)) part nothing sink other = record { put = inr (memory, nothing memory); folder = refl; unpaid = unpaid }
 
-pub serves_refusal : (max_work : ℕ) (sink_failed : Type 0) (script : List ℕ) (why : Refusal) (folder : FolderState) (ended : Status) (had got : Option (List ℕ)) (paid : ℕ) → paid ≡ 0 → IsScript script (Err why)
+serves_refusal : (max_work : ℕ) (sink_failed : Type 0) (script : List ℕ) (why : Refusal) (folder : FolderState) (ended : Status) (had got : Option (List ℕ)) (paid : ℕ) → paid ≡ 0 → IsScript script (Err why)
     → (ended ≡ status.Refused → Appends had got (line_of why)) → ((n : ℕ) × Appends had got (take n (line_of why))) → (ended ≡ status.NoMemory → Keeps had got) → IsRefused ended → (ended ≡ status.WriteFault → sink_failed)
     → Serves max_work ⊥ sink_failed script folder folder ended had got paid
 serves_refusal max_work sink_failed script why folder ended had got paid unpaid reads whole part nothing kinds sink = record {
   answer = answer_of max_work folder.files (Err why);
   due = record { steps = Err why; reads = reads; given = tt; is = refl };
-  carries = record {
-    done = λ is. absurd (refused_not_done ended kinds is);
-    refused = λ is. (refl, whole is);
-    beginning = part;
-  };
+  carries = record { done = λ is. absurd (refused_not_done ended kinds is); refused = λ is. (refl, whole is); beginning = part };
   whole = λ _. record { files = tt; pays = unpaid; bounds = tt };
   broken = λ other. inr (tt, line_broke sink_failed (line_of why) folder ended had got paid unpaid kinds part nothing sink other);
 }
@@ -105,7 +91,7 @@ unread_of source_failed ended (inl none) = absurd none.1
 unread_of source_failed ended (inr memory) = inr memory
 
 -- a run over what was read is a run over the whole
-pub known_whole : (max_work : ℕ) (source_failed sink_failed : Type 0) (source : Option (List ℕ)) (before after : FolderState) (bytes : List ℕ) (ended : Status) (had got : Option (List ℕ)) (paid : ℕ) → IfSome source (λ left. bytes ≡ take enough left)
+known_whole : (max_work : ℕ) (source_failed sink_failed : Type 0) (source : Option (List ℕ)) (before after : FolderState) (bytes : List ℕ) (ended : Status) (had got : Option (List ℕ)) (paid : ℕ) → IfSome source (λ left. bytes ≡ take enough left)
     → Serves max_work ⊥ sink_failed bytes before after ended had got paid → IfSome source (λ script. Serves max_work source_failed sink_failed script before after ended had got paid)
 known_whole max_work source_failed sink_failed None before after bytes ended had got paid read serves = tt
 known_whole max_work source_failed sink_failed (Some left) before after bytes ended had got paid read serves =
@@ -122,7 +108,7 @@ known_whole max_work source_failed sink_failed (Some left) before after bytes en
     }
 
 -- what holds where what was read is refused whole holds where the script is
-pub known_refused : (source : Option (List ℕ)) (T : Type 0) (bytes : List ℕ) → IfSome source (λ left. bytes ≡ take enough left) → ((why : Refusal) → IsScript bytes (Err why) → T)
+known_refused : (source : Option (List ℕ)) (T : Type 0) (bytes : List ℕ) → IfSome source (λ left. bytes ≡ take enough left) → ((why : Refusal) → IsScript bytes (Err why) → T)
     → IfSome source (λ script. (why : Refusal) → IsScript script (Err why) → T)
 known_refused None T bytes read whole = tt
 known_refused (Some left) T bytes read whole = λ why refused.
@@ -163,7 +149,7 @@ decided_by max_work source_failed sink_failed script before after status.WriteFa
 decided_by max_work source_failed sink_failed script before after status.NoMemory had got paid words reads writes serves = record { answer = serves.answer; due = serves.due; ends = inr refl }
 
 -- a run that met no fault ends as the script does
-pub known_decided : (max_work : ℕ) (source_failed sink_failed : Type 0) (source : Option (List ℕ)) (before after : FolderState) (ended : Status) (had got : Option (List ℕ)) (paid : ℕ) → (ended ≡ status.BadWords → ⊥) → (ended ≡ status.ReadFault → ⊥) → (ended ≡ status.WriteFault → ⊥)
+known_decided : (max_work : ℕ) (source_failed sink_failed : Type 0) (source : Option (List ℕ)) (before after : FolderState) (ended : Status) (had got : Option (List ℕ)) (paid : ℕ) → (ended ≡ status.BadWords → ⊥) → (ended ≡ status.ReadFault → ⊥) → (ended ≡ status.WriteFault → ⊥)
     → IfSome source (λ script. Serves max_work source_failed sink_failed script before after ended had got paid) → IfSome source (λ script. IsDecided max_work script before after ended)
 known_decided max_work source_failed sink_failed None before after ended had got paid words reads writes serves = tt
 known_decided max_work source_failed sink_failed (Some script) before after ended had got paid words reads writes serves = decided_by max_work source_failed sink_failed script before after ended had got paid words reads writes serves
@@ -181,3 +167,69 @@ pub one_answer : (max_work : ℕ) (script : List ℕ) (old new other : FolderSta
 one_answer max_work script old new other one two known first second =
     let same = one_reading script (statements_read first.steps) (statements_read second.steps) first.reads second.reads in
     first.is ∙ same_reading max_work (Rose old.misses new.misses) (Rose old.misses other.misses) old first.steps second.steps known same first.given second.given ∙ sym second.is
+
+-- what is said of a run of a script: nothing was done of it, or its statements were carried out, or it is refused whole
+whatever : {P : List ℕ → Type 0} (script : Option (List ℕ)) → ((bytes : List ℕ) → P bytes) → IfSome script P
+whatever None holds = tt
+whatever (Some bytes) holds = holds bytes
+
+module _ (max_work : ℕ) (source_failed sink_failed : Type 0) (ended : Status) (had got : Option (List ℕ)) (paid : ℕ) where
+  pub runs_nothing : (script : Option (List ℕ)) (folder : FolderState) → paid ≡ 0 → EndsUnread source_failed ended → RunsScript max_work source_failed sink_failed script folder folder ended had had paid
+  runs_nothing script folder unpaid cause = record {
+    serves = known_nothing max_work source_failed sink_failed script folder ended had paid unpaid cause;
+    kinds = λ is. elim cause [ inl fault ↦ cc (fault.0, is) | inr memory ↦ cc (memory, is) ];
+    folder = falls_none folder;
+    unread = whatever script (λ bytes why refused. refl);
+    unpaid = whatever script (λ bytes why refused. unpaid);
+    read_fault = λ is. elim cause [ inl fault ↦ inl fault.1 | inr memory ↦ cc (memory, is) ];
+    write_fault = λ is. elim cause [ inl fault ↦ cc (fault.0, is) | inr memory ↦ cc (memory, is) ];
+  }
+
+  module _ (script : List ℕ) where
+    pub runs_statements : (statements : List StatementTree) (before after : FolderState) → IsScript script (Ok statements) → CarriesAll max_work sink_failed statements before after ended had got paid
+        → RunsScript max_work ⊥ sink_failed (Some script) before after ended had got paid
+    runs_statements statements before after reads carried =
+        let unlike = λ (why : Refusal) (refused : IsScript script (Err why)). one_reading script (Ok statements) (Err why) reads refused in
+        let broken = λ (other : ¬ EndsAsDue ended). broken_by (carried.broken other).cause in
+        record {
+          serves = serves_statements max_work sink_failed script statements before after ended had got paid reads carried;
+          kinds = λ is. (broken (λ due. elim due [ inl done ↦ cc (is, done) | inr refused ↦ cc (is, refused) ])).kinds.2 is;
+          folder = carried.falls;
+          unread = λ why refused. absurd (cc (unlike why refused));
+          unpaid = λ why refused. absurd (cc (unlike why refused));
+          read_fault = λ is. inr ((broken (λ due. elim due [ inl done ↦ cc (is, done) | inr refused ↦ cc (is, refused) ])).read_fault is);
+          write_fault = λ is. (broken (λ due. elim due [ inl done ↦ cc (is, done) | inr refused ↦ cc (is, refused) ])).write_fault is;
+        }
+
+    pub runs_refusal : (why : Refusal) (folder : FolderState) → paid ≡ 0 → IsScript script (Err why) → (ended ≡ status.Refused → Appends had got (line_of why)) → ((n : ℕ) × Appends had got (take n (line_of why)))
+        → (ended ≡ status.NoMemory → Keeps had got) → IsRefused ended → (ended ≡ status.WriteFault → sink_failed) → RunsScript max_work ⊥ sink_failed (Some script) folder folder ended had got paid
+    runs_refusal why folder unpaid reads whole part nothing kinds sink = record {
+      serves = serves_refusal max_work sink_failed script why folder ended had got paid unpaid reads whole part nothing kinds sink;
+      kinds = (refused_no_fault ended kinds).0;
+      folder = falls_none folder;
+      unread = λ why refused. refl;
+      unpaid = λ why refused. unpaid;
+      read_fault = λ is. absurd ((refused_no_fault ended kinds).1 is);
+      write_fault = λ is. inl (sink is);
+    }
+
+  -- a run over what was read is one over the whole
+  pub runs_whole : (source : Option (List ℕ)) (before after : FolderState) (bytes : List ℕ) → IfSome source (λ left. bytes ≡ take enough left) → RunsScript max_work ⊥ sink_failed (Some bytes) before after ended had got paid
+      → RunsScript max_work source_failed sink_failed source before after ended had got paid
+  runs_whole source before after bytes read runs = record {
+    serves = known_whole max_work source_failed sink_failed source before after bytes ended had got paid read runs.serves;
+    kinds = runs.kinds;
+    folder = runs.folder;
+    unread = known_refused source (after ≡ before) bytes read runs.unread;
+    unpaid = known_refused source (paid ≡ 0) bytes read runs.unpaid;
+    read_fault = λ is. elim (runs.read_fault is) [ inl none ↦ absurd none | inr rose ↦ inr rose ];
+    write_fault = runs.write_fault;
+  }
+
+  -- one that met no fault ends as the script does
+  pub runs_decided : (source : Option (List ℕ)) (before after : FolderState) → RunsScript max_work source_failed sink_failed source before after ended had got paid → ¬ source_failed → ¬ Rose before.read_faults after.read_faults
+      → ¬ Rose before.write_faults after.write_faults → ¬ sink_failed → IfSome source (λ script. IsDecided max_work script before after ended)
+  runs_decided source before after runs source_quiet reads_quiet writes_quiet sink_quiet =
+      known_decided max_work source_failed sink_failed source before after ended had got paid runs.kinds
+      (λ is. elim (runs.read_fault is) [ inl source ↦ source_quiet source | inr folder ↦ reads_quiet folder ])
+      (λ is. elim (runs.write_fault is) [ inl sink ↦ sink_quiet sink | inr folder ↦ writes_quiet folder ]) runs.serves

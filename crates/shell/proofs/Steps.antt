@@ -1,34 +1,12 @@
 -- The steps of a run: its statements, each with the file that the folder gives for it.
-use Rattle.std.proofs.Common.{◌≡◌, inl, inr, ℕ, List, [], ◌∷◌, Option, Some, None, refl, sym, ap, ◌∙◌, subst, arith}
+use Rattle.std.proofs.Common.{◌≡◌, ℕ, List, [], ◌∷◌, Option, Some, None, refl, sym, ap, ◌∙◌, subst}
 use Rattle.std.specs.Prelude.{IfSome, IsSome}
-use Rattle.outside_io.specs.Files.{Files, held_file}
-use Rattle.sql_parse.specs.Trees.{StatementTree, Load, OpenFile}
-use Rattle.session.specs.Given.{IsGiven, IsGivenFor}
+use Rattle.outside_io.specs.Files.{Files}
+use Rattle.sql_parse.specs.Trees.{StatementTree}
 use Rattle.session.specs.Outcome.{Outcome, Prints, Saves, Refuses}
-use Rattle.session.specs.Returns.{with_saved}
-use Rattle.shell.specs.Script.{Answer, AreGiven, ScriptState, Step, and_then, left_by, printed_by, script_answer, step_outcome}
+use Rattle.shell.specs.Script.{IsGivenFor, Answer, AreGiven, ScriptState, Step, and_then, left_by, printed_by, script_answer, step_outcome, with_saved}
 use Rattle.shell.specs.Serve.{statements_of_steps}
-
--- a miss in a part of a run is one in the run
-given_wider : {missed more : Type 0} (held : Option Files) (name : List ℕ) (file : Option (List ℕ)) → (missed → more) → IsGiven held missed name file → IsGiven held more name file
-given_wider None name file so (inl within) = inl within
-given_wider None name file so (inr miss) = inr (so miss)
-given_wider (Some files) name file so given = given
-
-pub given_for_wider : {missed more : Type 0} (held : Option Files) (statement : StatementTree) (file : Option (List ℕ)) → (missed → more) → IsGivenFor held missed statement file → IsGivenFor held more statement file
-given_for_wider held (Load load) file so given = given_wider held load.file file so given
-given_for_wider held (OpenFile name file_name query) file so given = given_wider held file_name file so given
-given_for_wider held other file so given = given
-
--- some file is given under every name, and for every statement
-any_given : (missed : Type 0) (held : Option Files) (name : List ℕ) → (file : Option (List ℕ)) × IsGiven held missed name file
-any_given missed None name = (Some [], inl (omega arith))
-any_given missed (Some files) name = (held_file files name, refl)
-
-any_given_for : (missed : Type 0) (held : Option Files) (statement : StatementTree) → (file : Option (List ℕ)) × IsGivenFor held missed statement file
-any_given_for missed held (Load load) = any_given missed held load.file
-any_given_for missed held (OpenFile name file_name query) = any_given missed held file_name
-any_given_for missed held other = (None, refl)
+use Rattle.shell.proofs.Folders.{any_given_for, one_file_for}
 
 -- steps of these statements from a state, where there is one
 abbrev pub StepsFrom : (missed : Type 0) (max_work : ℕ) → List StatementTree → Option ScriptState → Type 0
@@ -50,16 +28,6 @@ any_steps missed max_work (statement ∷ rest) state =
 -- and so have those behind a step
 pub steps_behind : (missed : Type 0) (max_work : ℕ) (statements : List StatementTree) (state : ScriptState) (left : Option ScriptState) → StepsFrom missed max_work statements left
 steps_behind missed max_work statements state left = steps_from missed max_work statements state left (any_steps missed max_work statements)
-
--- a folder of known contents gives one file, and for a statement too
-one_file : (missed other : Type 0) (held : Option Files) (name : List ℕ) (a b : Option (List ℕ)) → IsSome held → IsGiven held missed name a → IsGiven held other name b → a ≡ b
-one_file missed other None name a b known first second = cc known
-one_file missed other (Some files) name a b known first second = first ∙ sym second
-
-one_file_for : (missed other : Type 0) (held : Option Files) (statement : StatementTree) (a b : Option (List ℕ)) → IsSome held → IsGivenFor held missed statement a → IsGivenFor held other statement b → a ≡ b
-one_file_for missed other held (Load load) a b known first second = one_file missed other held load.file a b known first second
-one_file_for missed other held (OpenFile name file_name query) a b known first second = one_file missed other held file_name a b known first second
-one_file_for missed other held statement a b known first second = first ∙ sym second
 
 -- a folder of known contents stays one
 saved_known : (name bytes : List ℕ) (held : Option Files) → IsSome held → IsSome (with_saved name bytes held)

@@ -1,16 +1,30 @@
 -- The answer to a script: its statements one after another, up to and with the first that is refused.
-use Rattle.std.specs.Prelude.{ℕ, ⊤, ◌+◌, Bool, true, false, List, [], ◌∷◌, ◌++◌, Option, Some, None, IfSome, Result, Ok, Err}
+use Rattle.std.specs.Prelude.{ℕ, ⊤, ◌+◌, Bool, true, false, List, [], ◌∷◌, ◌++◌, Option, Some, None, IfSome, option_map, Result, Ok, Err, ◌≡◌, ◌⊎◌, ◌<◌, ◌≤◌, length, IsSomeAnd, MatchOption}
 use Rattle.std.specs.Option.{option_and_then, option_map_or}
-use Rattle.outside_io.specs.Files.{Files}
+use Rattle.outside_io.specs.Files.{Files, with_file, held_file}
 use Rattle.sql_parse.specs.Trees.{StatementTree}
 use Rattle.session.specs.Bounds.{IsAnsweredWithin}
-use Rattle.session.specs.Given.{IsGivenFor}
 use Rattle.session.specs.Outcome.{Outcome, Prints, Saves, Refuses, refused_work}
 use Rattle.session.specs.Refusal.{line_of}
-use Rattle.session.specs.Returns.{with_saved}
-use Rattle.session.specs.Statements.{statement_outcome}
+use Rattle.session.specs.Statements.{statement_outcome, asked_name}
 use Rattle.session.specs.World.{World, nothing_made}
 use Rattle.session.specs.declared.refusal.Refusal.{Refusal}
+use Rattle.sql_values.specs.Limits.{max_file_bytes}
+
+-- the file that a folder of these files gives under a name: what it holds there; where its files are unknown, a file that a
+-- read can give, or a miss was counted
+abbrev pub IsGiven : Option Files → (missed : Type 0) → List ℕ → Option (List ℕ) → Type 0
+IsGiven held missed name file =
+    MatchOption held (IsSomeAnd file (λ bytes. length bytes ≤ max_file_bytes) ⊎ missed) (λ files. file ≡ held_file files name)
+
+-- the file that it gives for a statement, where that may ask for one
+abbrev pub IsGivenFor : Option Files → (missed : Type 0) → StatementTree → Option (List ℕ) → Type 0
+IsGivenFor held missed statement file = MatchOption (asked_name statement) (file ≡ None) (λ name. IsGiven held missed name file)
+
+-- there is no such file, or it is too long
+abbrev pub IsMissing : Option (List ℕ) → Type 0
+IsMissing None = ⊤
+IsMissing (Some bytes) = max_file_bytes < length bytes
 
 -- a statement, and the file that the folder gives for it
 pub record Step : Type 0 where
@@ -35,6 +49,10 @@ at_start files = record { world = nothing_made; files = files }
 -- what comes of a step
 abbrev pub step_outcome : (max_work : ℕ) → ScriptState → Step → Outcome
 step_outcome max_work state step = statement_outcome max_work state.world step.statement step.file
+
+-- a file stands under the name now, where the files are known
+abbrev pub with_saved : (name bytes : List ℕ) → Option Files → Option Files
+with_saved name bytes held = option_map (λ files. with_file files name bytes) held
 
 -- the state that an outcome leaves; a refusal leaves none
 abbrev pub left_by : Outcome → ScriptState → Option ScriptState

@@ -2,7 +2,7 @@
 use Rattle.std.specs.Prelude.{◌≡◌, ◌≢◌, ◌⊎◌, ℕ, ◌+◌, ◌<◌, ◌≤◌, true, false, List, [], ◌∷◌, ◌++◌, take, length, map, codes, Option, Some, Result, Ok, Err, IfOk, IfErr, if◌then◌else◌}
 use Rattle.std.specs.Io.KnownBytes.{Appends, Keeps}
 use Rattle.outside_io.specs.Count.{Rose}
-use Rattle.outside_io.specs.Files.{Files, FolderState}
+use Rattle.outside_io.specs.Files.{Files, FolderState, KeepsOthers}
 use Rattle.sql_lex.specs.declared.token.Token.{Token}
 use Rattle.sql_lex.specs.declared.fault.LexFault.{LexFault}
 use Rattle.sql_lex.specs.Tokens.{Tokens, IsFirstFault}
@@ -11,8 +11,8 @@ use Rattle.sql_parse.specs.Script.{AreStatements, IsFirstRefused}
 use Rattle.sql_values.specs.Limits.{max_script_bytes}
 use Rattle.sql_values.specs.declared.limit.LimitName.TheVariants as limit
 use Rattle.session.specs.Refusal.{line_of}
-use Rattle.session.specs.Returns.{FailsToWrite}
-use Rattle.session.specs.Statements.{AsksForFile}
+use Rattle.session.specs.Statements.{AsksForFile, WritesFile}
+use Rattle.session.specs.World.{World}
 use Rattle.session.specs.declared.refusal.Refusal.{Refusal}
 use Rattle.session.specs.declared.refusal.Refusal.TheVariants as refusal
 use Rattle.demo_data.specs.Demo.{demo_files, demo_script}
@@ -97,6 +97,12 @@ next_work max_work state (step ∷ later) = (printed_by (step_outcome max_work s
 abbrev pub AsksNext : ScriptState → List Step → Type 0
 AsksNext state [] = ⊥
 AsksNext state (step ∷ later) = AsksForFile state.world step.statement
+
+-- the file that a statement writes may hold anything, and every other is as it was
+pub record FailsToWrite (world : World) (statement : StatementTree) (before after : Option Files) : Type 0 where
+  pub name : List ℕ
+  pub writes : WritesFile world statement name
+  pub others : KeepsOthers name before after
 
 -- it writes a file, which may hold anything now, and the folder holds what it held otherwise
 abbrev pub FailsNext : (left : Option Files) → ScriptState → List Step → Type 0

@@ -9,15 +9,15 @@ use Rattle.session.proofs.RowsPrinted.{printed_meaning}
 use Rattle.session.proofs.bouquets.print_answer.Goals as goal
 
 pub print_rows-requires-clause-words : goal.print_rows-requires-clause-words
-print_rows-requires-clause-words c = rw c.texts.ensures c.requires.rows.allowed
+print_rows-requires-clause-words c = rw c.texts.ensures.texts c.requires.rows.allowed
 
 pub returns : goal.returns
 returns c =
-    let database = c.args.meter.now.database in
+    let database = c.args.database.now in
     let block = block_tree c.args.block.now in
     let words = c.args.rows.now.rows in
     let found : printed_rows c.texts.result.now block words ≡ printed_rows database.texts block words =
-    ap (λ (texts : List (List ℕ)). printed_rows texts block words) c.texts.ensures in
+    ap (λ (texts : List (List ℕ)). printed_rows texts block words) c.texts.ensures.texts in
     let text : table_text c.args.names.now (printed_rows c.texts.result.now block words) ≡ printed (header_of database block) database.tables block =
     (λ i. table_text (c.requires.names i) (found i)) ∙ printed_meaning database block words c.requires.rows (header_of database block) in
     c.in_ok-push_report.ensures

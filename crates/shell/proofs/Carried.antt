@@ -1,0 +1,131 @@
+-- A statement that the session began so, and finished, is carried out.
+use Rattle.std.proofs.Common.{◌≡◌, ◌∙◌, ◌⊎◌, inl, inr, ℕ, ◌+◌, List, [], ◌∷◌, Option, None, refl, sym, ap, subst, arith, false, Some}
+use Rattle.std.specs.Prelude.{IsErrOf, MatchOption, OnOk, Vec, Result, Ok, Err}
+use Rattle.std.specs.declared.alloc.Global.{Global}
+use Rattle.outside_io.specs.Count.{Rose}
+use Rattle.outside_io.specs.Files.{FolderState, KeepsOthers, OnlyWrites}
+use Rattle.sql_parse.specs.Trees.{StatementTree}
+use Rattle.session.specs.Begins.{BeginsAsDue, pending_outcome}
+use Rattle.session.specs.Given.{at_file}
+use Rattle.session.specs.Outcome.{Outcome, refused_work}
+use Rattle.session.specs.Returns.{ReturnsFree}
+use Rattle.session.specs.Statements.{statement_outcome}
+use Rattle.session.specs.World.{World}
+use Rattle.session.specs.declared.begun.Asked.{Asked}
+use Rattle.session.specs.declared.begun.Begun.TheVariants as begun
+use Rattle.session.specs.declared.begun.GivenFile.{GivenFile}
+use Rattle.session.specs.declared.stop.Stop.{Stop}
+use Rattle.session.specs.declared.stop.Stop.TheVariants as stop
+use Rattle.shell.specs.Due.{CarriesDue, GivesFile, IsCarriedOut, state_of}
+use Rattle.shell.specs.Script.{IsGiven, IsGivenFor, Step, with_saved, printed_by, left_by}
+use Rattle.shell.specs.Serve.{AsksNext, BreaksBefore, NeverFalls}
+use Rattle.shell.specs.Serve.BreaksBefore.{no_read, no_write, no_memory}
+use Rattle.shell.specs.declared.status.Status.{Status}
+use Rattle.shell.specs.declared.status.Status.TheVariants as status
+use Rattle.shell.proofs.Folders.{counts_kept, falls_none, any_given_for}
+
+-- a stop is never a text
+pub within_bounds : {P : Type 0} (returned : Result (Vec ℕ Global) Stop) → P → OnOk returned P
+within_bounds (Ok text) holds = holds
+within_bounds (Err why) holds = tt
+
+module _ (max_work : ℕ) (statement : StatementTree) (world next : World) (before : FolderState) (old new : ℕ) where
+  -- nothing was asked of the folder
+  abbrev any : (file : Option (List ℕ)) × IsGivenFor before.files (Rose before.misses before.misses) statement file
+  any = any_given_for (Rose before.misses before.misses) before.files statement
+
+  abbrev step : Step
+  step = record { statement = statement; file = any.0 }
+
+  unread : (returned : Result (Vec ℕ Global) Stop) → CarriesDue max_work step before before world next old new (Ok returned) → IsCarriedOut max_work statement before before world next old new (Ok returned)
+  unread returned does = record { file = any.0; given = any.1; counts = counts_kept world step before before (Ok returned) (λ is. cc is) refl refl (falls_none before); does = does }
+
+  pub carried_prints : (text : Vec ℕ Global) → BeginsAsDue max_work world statement (Ok (begun.Prints text)) next old new → IsCarriedOut max_work statement before before world next old new (Ok (Ok text))
+  carried_prints text begins = unread (Ok text)
+      (record { work = begins.0; prints = ap printed_by (begins.1 any.0); leaves = ap (λ (due : Outcome). left_by due (state_of world before)) (begins.1 any.0); spent = begins.2; kept = λ _. refl })
+
+  pub carried_stops : (why : Stop) → BeginsAsDue max_work world statement (Err why) next old new → IsCarriedOut max_work statement before before world next old new (Ok (Err why))
+  carried_stops (stop.Refused why) begins = unread (Err (stop.Refused why)) (begins.0 any.0, begins.1, refl)
+  carried_stops stop.NoMemory begins = unread (Err stop.NoMemory) refl
+
+  -- a file was to be written
+  module _ (after : FolderState) (name : List ℕ) (bytes : Vec ℕ Global) (begins : BeginsAsDue max_work world statement (Ok (begun.Saves name bytes)) next old new) where
+    given_any : (file : Option (List ℕ)) × IsGivenFor before.files (Rose before.misses after.misses) statement file
+    given_any = any_given_for (Rose before.misses after.misses) before.files statement
+
+    module _ {failed : Type 0} (writes : OnlyWrites failed before after) where
+      falls : NeverFalls before after
+      falls = record { read_faults = omega (arith, writes.read_faults); write_faults = writes.write_faults.never_falls; misses = omega (arith, writes.misses) }
+
+      unread_but_written : (result : Result (Result (Vec ℕ Global) Stop) Status) → (IsErrOf result status.ReadFault → ⊥) → CarriesDue max_work (record { statement = statement; file = given_any.0 }) before after world next old new result
+          → IsCarriedOut max_work statement before after world next old new result
+      unread_but_written result other does = record { file = given_any.0; given = given_any.1; counts = counts_kept world _ before after result other writes.read_faults writes.misses falls; does = does }
+
+      pub carried_saves : (text : Vec ℕ Global) → text.items ≡ [] → after.files ≡ with_saved name bytes.items before.files → IsCarriedOut max_work statement before after world next old new (Ok (Ok text))
+      carried_saves text none written = unread_but_written (Ok (Ok text)) (λ is. cc is) (record {
+        work = 0;
+        prints = ap printed_by (begins.0.due given_any.0) ∙ (λ i. record { text = sym none i; work = 0; refused = false });
+        leaves = ap (λ (due : Outcome). left_by due (state_of world before)) (begins.0.due given_any.0) ∙ (λ i. Some (record { world = sym begins.1 i; files = sym written i }));
+        spent = omega (arith, begins.2);
+        kept = λ some. absurd (some none);
+      })
+
+      pub carried_unsaved : Rose before.write_faults after.write_faults → KeepsOthers name before.files after.files → IsCarriedOut max_work statement before after world next old new (Err status.WriteFault)
+      carried_unsaved rose others = unread_but_written (Err status.WriteFault) (λ is. cc is)
+          (begins.2, λ later. no_write rose (record { name = name; writes = begins.0.writes; others = others }))
+
+      pub carried_no_room : after.files ≡ before.files → IsCarriedOut max_work statement before after world next old new (Err status.NoMemory)
+      carried_no_room kept = unread_but_written (Err status.NoMemory) (λ is. cc is) (begins.2, λ later. no_memory 0 (omega arith) kept)
+
+-- a file was asked for
+module _ (max_work : ℕ) (statement : StatementTree) (world : World) (before after : FolderState) (old new : ℕ) (asked : Asked) (mid : World)
+    (begins : BeginsAsDue max_work world statement (Ok (begun.Asks asked)) mid old new) where
+  given_for : (file : Option (List ℕ)) → IsGiven before.files (Rose before.misses after.misses) asked.name file → IsGivenFor before.files (Rose before.misses after.misses) statement file
+  given_for file given = subst (λ (name : Option (List ℕ)). MatchOption name (file ≡ None) (λ n. IsGiven before.files (Rose before.misses after.misses) n file)) (sym begins.0.name) given
+
+  -- it couldn't be had
+  pub carried_unread : (ended : Status) → GivesFile asked.name before after (Err ended) → IsCarriedOut max_work statement before after world mid old new (Err ended)
+  carried_unread ended gives = record {
+    file = gives.file;
+    given = given_for gives.file gives.given;
+    counts = record {
+      read_faults = record {
+        counted = λ is. let same : ended ≡ status.ReadFault = cc is in gives.reads.read_faults.counted (ap Err same);
+        kept = λ other. gives.reads.read_faults.kept (λ is. let same : ended ≡ status.ReadFault = cc is in other (ap Err same));
+      };
+      misses = gives.reads.misses;
+      unasked = λ none. absurd (none begins.0.asks);
+      falls = gives.reads.falls;
+    };
+    does = (begins.2, λ later. broke (record { statement = statement; file = gives.file } ∷ later) begins.0.asks gives.ends);
+  }
+    where
+      broke : (steps : List Step) → AsksNext (state_of world before) steps → ((ended ≡ status.ReadFault) × Rose before.read_faults after.read_faults) ⊎ (ended ≡ status.NoMemory) → BreaksBefore max_work ⊥ before after (state_of world before) steps ended [] 0
+      broke steps asks (inl fault) = rw fault.0 (no_read fault.1 asks gives.reads.files)
+      broke steps asks (inr memory) = rw memory (no_memory 0 (omega arith) gives.reads.files)
+
+  -- it was given, and the statement finished with it
+  pub carried_with_file : (file : GivenFile) (returned : Result (Vec ℕ Global) Stop) (next : World) → (gives : GivesFile asked.name before after (Ok file))
+      → ReturnsFree (at_file asked.name (pending_outcome mid asked.pending) gives.file) returned next → IsCarriedOut max_work statement before after world next old new (Ok returned)
+  carried_with_file file returned next gives returns = record {
+    file = gives.file;
+    given = given_for gives.file gives.given;
+    counts = record { read_faults = record { counted = λ is. cc is; kept = λ _. gives.reads.read_faults.kept (λ is. cc is) }; misses = gives.reads.misses; unasked = λ none. absurd (none begins.0.asks); falls = gives.reads.falls };
+    does = by returned (subst (λ (due : Outcome). ReturnsFree due returned next) (sym is) returns);
+  }
+    where
+      is : statement_outcome max_work world statement gives.file ≡ at_file asked.name (pending_outcome mid asked.pending) gives.file
+      is = begins.0.due gives.file ∙ (λ i. at_file asked.name (pending_outcome (sym begins.1 i) asked.pending) gives.file)
+
+      by : (r : Result (Vec ℕ Global) Stop) → ReturnsFree (statement_outcome max_work world statement gives.file) r next → CarriesDue max_work (record { statement = statement; file = gives.file }) before after world next old new (Ok r)
+      by (Ok text) due = record {
+        work = 0;
+        prints = ap printed_by due;
+        leaves = ap (λ (o : Outcome). left_by o (state_of world before)) due ∙ (λ i. Some (record { world = next; files = sym gives.reads.files i }));
+        spent = omega (arith, begins.2);
+        kept = λ _. gives.reads.files;
+      }
+      by (Err (stop.Refused why)) due =
+          let paid : new ≡ old + refused_work why = omega (arith, begins.2, due.1) in
+          (due.0, paid, gives.reads.files)
+      by (Err stop.NoMemory) due = gives.reads.files
