@@ -1,6 +1,7 @@
 // The compiled bouquet of a block, and the answer of a bouquet: its run over the tables, with its rows sorted and printed, and
 // how it ended. It reaches rows by the meter of the run alone, and never prints a work that wasn't paid into the book.
-ghost use Rattle.std.specs.Prelude.{◌≡◌, ◌+◌, ◌^◌, ◌≤◌, IfOk, IfSome, OnOk, length};
+ghost use Rattle.std.specs.Prelude.{◌≡◌, ◌+◌, ◌≤◌, IfOk, IfSome, OnOk, length};
+ghost use Rattle.work_ledger.specs.Account.{max_account};
 ghost use Rattle.sql_values.specs.Limits.{min_levels, max_levels, max_threshold};
 ghost use Rattle.query_block.specs.Blocks.{block_tree, width_of};
 ghost use Rattle.query_block.specs.Meaning.{meaning_of};
@@ -92,7 +93,7 @@ pub(crate) fn answer(
     book: &mut Book,
 ) -> Result<Vec<u8>, Stop>
     requires fits { Fits database.now (block_tree bouquet.now.block) }
-    requires room { book.old + max_work ≤ 2 ^ 126 }
+    requires room { book.old + max_work ≤ max_account }
     ensures due { (world : World) → world.database ≡ database.now →
         ReturnsDue (bouquet_answer max_work world (bouquet_tree bouquet.now))
         result world book.old book.new }

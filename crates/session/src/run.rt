@@ -1,5 +1,6 @@
 // RUN: a bouquet's counts are looked at before a row is read.
-ghost use Rattle.std.specs.Prelude.{◌+◌, ◌^◌, ◌≤◌, OnOk};
+ghost use Rattle.std.specs.Prelude.{◌+◌, ◌≤◌, OnOk};
+ghost use Rattle.work_ledger.specs.Account.{max_account};
 ghost use Rattle.sql_parse.specs.Trees.{Run};
 ghost use Rattle.session.specs.Bounds.{IsAnsweredWithin};
 ghost use Rattle.session.specs.Returns.{PaysAtMost, ReturnsDue};
@@ -22,7 +23,7 @@ impl Session {
         name: &Name,
         book: &mut Book,
     ) -> Result<Vec<u8>, Stop>
-        requires room { book.old + max_work ≤ 2 ^ 126 }
+        requires room { book.old + max_work ≤ max_account }
         ensures due { ReturnsDue (run_outcome max_work (world_of self.now) name.now)
             result (world_of self.now) book.old book.new }
         ensures bounded { OnOk result (IsAnsweredWithin (world_of self.now) (Run name.now)) }

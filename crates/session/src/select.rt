@@ -1,5 +1,6 @@
 // SELECT: a query is bound before anything else is asked of it, then compiled, then answered by a run of its bouquet.
-ghost use Rattle.std.specs.Prelude.{◌+◌, ◌^◌, ◌≤◌, OnOk};
+ghost use Rattle.std.specs.Prelude.{◌+◌, ◌≤◌, OnOk};
+ghost use Rattle.work_ledger.specs.Account.{max_account};
 ghost use Rattle.sql_values.specs.Limits.{max_script_bytes};
 ghost use Rattle.sql_parse.specs.Trees.{Select, query_tree};
 ghost use Rattle.sql_parse.specs.WellFormed.{IsWellFormedQuery};
@@ -30,7 +31,7 @@ impl Session {
         requires well_formed { IsWellFormedQuery (query_tree query.now) }
         requires predicates { of_condition predicates_in (query_tree query.now).condition
             ≤ max_script_bytes }
-        requires room { book.old + max_work ≤ 2 ^ 126 }
+        requires room { book.old + max_work ≤ max_account }
         ensures due { ReturnsDue
             (select_outcome max_work (world_of self.now) (query_tree query.now))
             result (world_of self.now) book.old book.new }

@@ -1,5 +1,6 @@
 // What the statements so far have made, and what one statement more does. A statement that stops changes nothing.
-ghost use Rattle.std.specs.Prelude.{◌≡◌, ◌+◌, ◌^◌, ◌≤◌, OnOk, OnErr};
+ghost use Rattle.std.specs.Prelude.{◌≡◌, ◌+◌, ◌≤◌, OnOk, OnErr};
+ghost use Rattle.work_ledger.specs.Account.{max_account};
 ghost use Rattle.sql_parse.specs.Trees.{statement_tree};
 ghost use Rattle.sql_parse.specs.WellFormed.{IsWellFormed};
 ghost use Rattle.sql_parse.specs.Counts.{predicates_of};
@@ -62,7 +63,7 @@ impl Session {
         }
     }
 
-    /// BeginsAsDue a statement: it is carried out to its end, or as far as it asks for a file. One that stops changes nothing. A query
+    /// Begins a statement: it is carried out to its end, or until it asks for a file. One that stops changes nothing. A query
     /// has a budget of `max_work` units, and what it paid is entered in the book, whatever the answer; an audit may spend as
     /// much, which no book has.
     pub fn begin(
@@ -74,7 +75,7 @@ impl Session {
     ) -> Result<Begun, Stop>
         requires well_formed { IsWellFormed (statement_tree statement.now) }
         requires predicates { predicates_of (statement_tree statement.now) ≤ max_script_bytes }
-        requires room { book.old + max_work ≤ 2 ^ 126 }
+        requires room { book.old + max_work ≤ max_account }
         ensures begins { BeginsAsDue max_work (world_of self.old) (statement_tree statement.now)
             result (world_of self.new) book.old book.new }
         ensures unchanged { OnErr result (self.new ≡ self.old) }

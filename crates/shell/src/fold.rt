@@ -3,6 +3,7 @@
 // and never looks at what a file or an answer holds.
 ghost use Rattle.std.specs.Prelude.{◌≡◌, ◌+◌, ◌^◌, ◌≤◌, map, All, IfOk, OnOk};
 ghost use Rattle.std.specs.Str.{IsUtf8};
+ghost use Rattle.work_ledger.specs.Account.{max_account};
 ghost use Rattle.outside_io.specs.Count.{Rose};
 ghost use Rattle.sql_values.specs.Limits.{max_script_bytes};
 ghost use Rattle.sql_parse.specs.Trees.{statement_tree};
@@ -47,7 +48,7 @@ fn carry_out<F: Folder>(
 ) -> Result<Result<Vec<u8>, Stop>, Status>
     requires well_formed { IsWellFormed (statement_tree statement.now) }
     requires predicates { predicates_of (statement_tree statement.now) ≤ max_script_bytes }
-    requires room { book.old + max_work ≤ 2 ^ 126 }
+    requires room { book.old + max_work ≤ max_account }
     ensures carries { IsCarriedOut max_work (statement_tree statement.now)
         (F.state folder.old) (F.state folder.new)
         (world_of session.old) (world_of session.new) book.old book.new result }
@@ -83,7 +84,7 @@ fn carry_out_one<F: Folder, K: Sink>(
 ) -> Result<(), Status>
     requires well_formed { IsWellFormed (statement_tree statement.now) }
     requires predicates { predicates_of (statement_tree statement.now) ≤ max_script_bytes }
-    requires room { book.old + max_work ≤ 2 ^ 126 }
+    requires room { book.old + max_work ≤ max_account }
     ensures carries { CarriesOne max_work (Rose (K.faults sink.old) (K.faults sink.new))
         (statement_tree statement.now) (F.state folder.old) (F.state folder.new)
         (world_of session.old) (world_of session.new)
