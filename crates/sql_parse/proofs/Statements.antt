@@ -59,6 +59,7 @@ abbrev AreRead : List (List ℕ × Reader StatementTree) → Type 0
 AreRead [] = Unit {0}
 AreRead (production ∷ others) = Reads (IsAfter (Word production.0 ∷ [])) production.1 × AreRead others
 
+-- each production with what is known of the others
 infixr 5 ◌&◌
 ◌&◌ : {A B : Type 0} → A → B → A × B
 a & b = (a, b)

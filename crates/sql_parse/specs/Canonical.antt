@@ -19,9 +19,9 @@ use Rattle.sql_parse.specs.Trees.{ConditionTree, ConditionTrees, Compare, Betwee
 
 -- what canonical text is made of
 pub data Part : Type 0 where
-  -- a keyword or a sign that productions share
+  -- a sign, or a reserved word within a statement
   Fixed : Mark → Part
-  -- a keyword of one production
+  -- another keyword
   Keyword : (upper : List ℕ) → Part
   Name : (upper : List ℕ) → Part
   Number : (value : ℕ) → Part

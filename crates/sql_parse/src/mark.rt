@@ -1,4 +1,4 @@
-// The signs of the grammar and the reserved words that stand within a statement, keywords, and the words that can't be
+// The marks of the grammar: its signs, and the reserved words that stand within a statement. And the words that can't be
 // names.
 
 ghost use Rattle.std.specs.Prelude.{◌≡◌, map, bytes_eq};
@@ -10,7 +10,7 @@ ghost use Rattle.sql_parse.specs.Reading.{same, mark_spelled};
 
 use sql_lex::{TokenKind, is_word};
 
-/// A sign, or a reserved word that stands within a statement. Any other keyword stands in its production alone.
+/// A sign, or a reserved word that stands within a statement. Any other keyword stands in its production.
 #[derive(Clone, Copy)]
 pub enum Mark {
     And,

@@ -1,5 +1,5 @@
-// The statements of the language. Each has a production, in a file of its name: how it is read and printed. Here they are
-// put together: a statement is known by the keyword that it begins with.
+// The statements of the language. Each has a production, in a file of its name: how it is read and how it is printed.
+// Here they are put together: a statement is known by the word that it begins with.
 
 ghost use Rattle.std.specs.Prelude.{◌≡◌, Option, Some, None, length, OnOk, ◌==◌, if◌then◌else◌};
 ghost use Rattle.sql_parse.specs.Trees.{statement_tree};
