@@ -2,10 +2,11 @@
 // a count of a table isn't what it was.
 ghost use Rattle.std.specs.Prelude.{IfOk, IfErr};
 ghost use Rattle.query_block.specs.Blocks.{block_tree};
+ghost use Rattle.cost_model.specs.Staleness.{RefusesFirst};
 ghost use Rattle.db_catalog.specs.Fits.{Fits};
 ghost use Rattle.bouquet_type.specs.Trees.{BouquetTree, bouquet_tree};
 ghost use Rattle.session.specs.Outcome.{Outcome};
-ghost use Rattle.session.specs.Present.{IsPresent, at_present};
+ghost use Rattle.session.specs.Present.{IsPresent, at_present, stale_count};
 ghost use Rattle.session.specs.States.{world_of};
 ghost use Rattle.session.specs.Stop.{StopsAt};
 
@@ -13,8 +14,18 @@ use crate::named::no_bouquet;
 use crate::session::Session;
 use crate::stop::Stop;
 use bouquet_type::Bouquet;
+use cost_model::Stale;
+use db_catalog::Database;
 use sql_parse::Name;
 use table_stats::fresh;
+
+// Refuses the first count of a bouquet that isn't that of its tables any more.
+fn refuse_stale(database: &Database, bouquet: &Bouquet) -> Result<(), Stale>
+    requires { Fits database.now (block_tree bouquet.now.block) }
+    ensures { RefusesFirst (stale_count database.now (bouquet_tree bouquet.now)) result }
+{
+    fresh(database, bouquet.block(), bouquet.stats())
+}
 
 impl Session {
     /// The bouquet of this name, whose counts are those of the tables.
@@ -29,7 +40,7 @@ impl Session {
         let Some(kept) = self.bouquets.get(name.bytes()) else {
             return Err(no_bouquet(name));
         };
-        fresh(&self.database, kept.bouquet.block(), kept.bouquet.stats())?;
+        refuse_stale(&self.database, &kept.bouquet)?;
         Ok(&kept.bouquet)
     }
 }

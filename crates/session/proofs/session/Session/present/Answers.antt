@@ -42,13 +42,13 @@ returns-in_default-clause-refused c = λ go.
     let none : named_in c.args.name.now world.bouquets ≡ None = rw (← c.self.view_is, ← c.bytes.ensures) (c.get.ensures.none (ap is_some c.in_default.is)) in
     rw (none_present world c.args.name.now go none) c.no_bouquet.ensures
 
-pub returns-in_err-fresh-clause-refused : goal.returns-in_err-fresh-clause-refused
-returns-in_err-fresh-clause-refused c =
+pub returns-in_err-refuse_stale-clause-refused : goal.returns-in_err-refuse_stale-clause-refused
+returns-in_err-refuse_stale-clause-refused c =
     let world : World = world_of (record { database = c.self.inside.database; bouquets = c.self.inside.bouquets }) in
     let named : NamedBouquet = named_of (named_shape c.bytes.result.now c.in-Some.kept.now) in
     let found : named_in c.args.name.now world.bouquets ≡ Some named = rw (← c.bytes.ensures) c.in-Some.ensures.named in
     let stop = err_from_is_err_and c.from_residual.result c.from_residual.ensures.1 in
-    rw (← c.self.view_is, stop.1, stop.2) (λ go. stale_refused world c.args.name.now go named found c.in_err-fresh.field-0.0 (rw (c.block.ensures.block, c.stats.ensures) at c.in_err-fresh.ensures.refused))
+    rw (← c.self.view_is, stop.1, stop.2) (λ go. stale_refused world c.args.name.now go named found c.in_err-refuse_stale.field-0.0 c.in_err-refuse_stale.ensures.refused)
 
 pub returns-clause-present : goal.returns-clause-present
 returns-clause-present c =
@@ -56,7 +56,7 @@ returns-clause-present c =
     let kept : NamedShape = named_shape c.bytes.result.now c.in-Some.kept.now in
     let named : NamedBouquet = named_of kept in
     let found : named_in c.args.name.now world.bouquets ≡ Some named = rw (← c.bytes.ensures) c.in-Some.ensures.named in
-    let none : stale_count world.database named.bouquet ≡ None = rw (c.block.ensures.block, c.stats.ensures) at c.in_ok-fresh.ensures.answered in
+    let none : stale_count world.database named.bouquet ≡ None = c.in_ok-refuse_stale.ensures.answered in
     let counted : IsCountedBefore world.database named.bouquet =
     All-contains (λ (one : NamedShape). IsCountedBefore world.database (bouquet_tree one.bouquet)) c.self.inside.bouquets kept c.self.invariant.counted c.in-Some.ensures.there in
     rw (← c.self.view_is) (record {
