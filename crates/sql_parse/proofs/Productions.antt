@@ -1,5 +1,4 @@
 -- What the proof of a production is made of, from one place.
-pub use Rattle.std.proofs.Common.{codes, ◌≡◌, ◌∙◌, ℕ, List, [], ◌∷◌, ◌++◌, Some, None, refl, ap, subst, ◌≤◌, length, arith}
 pub use Rattle.sql_parse.specs.Lexemes.{Lexeme, Word, mark}
 unfoldable pub use Rattle.sql_parse.specs.Reading.{after_word, after_mark, name_at, number_at, list_at, in_parentheses_at, text_token_at}
 pub use Rattle.sql_parse.specs.Grammar.{IsName, Separated}

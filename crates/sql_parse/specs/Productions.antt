@@ -1,5 +1,4 @@
 -- What a production is made of, from one place.
-pub use Rattle.std.specs.Prelude.{codes, ℕ, ◌≡◌, List, [], ◌∷◌, Some, ◌++◌}
 pub use Rattle.sql_parse.specs.Lexemes.{Lexeme, Word, mark}
 unfoldable pub use Rattle.sql_parse.specs.Reading.{after_word, Reader, ◌>>=◌, choose, name_at, number_at, list_at, after_mark, select_at, in_parentheses_at, text_token_at}
 pub use Rattle.sql_parse.specs.Grammar.{Rule, IsName, Separated, IsSelect}

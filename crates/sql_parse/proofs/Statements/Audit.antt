@@ -1,5 +1,6 @@
 -- What is written by the grammar for AUDIT, what is read and what is printed are the same.
-use Rattle.sql_parse.proofs.Productions.{codes, ◌≡◌, ◌∙◌, ℕ, List, [], ◌∷◌, ◌++◌, Some, None, refl, ap, subst, Lexeme, Word, IsName, Separated, after_word, after_mark, name_at, number_at, list_at, statement_at, either_word, IsAfter, Reads, then_read, also, name-reads, number-reads, list-reads, IsReadAgain, list-again, read_to_end, tokens_of, IsPrintedBy, separated-printed, word-sound, EachSound, IsWritable, listed-writable}
+use Rattle.std.proofs.Common.{codes, ◌≡◌, ◌∙◌, ℕ, List, [], ◌∷◌, ◌++◌, Some, None, refl, ap, subst}
+use Rattle.sql_parse.proofs.Productions.{Lexeme, Word, IsName, Separated, after_word, after_mark, name_at, number_at, list_at, statement_at, either_word, IsAfter, Reads, then_read, also, name-reads, number-reads, list-reads, IsReadAgain, list-again, read_to_end, tokens_of, IsPrintedBy, separated-printed, word-sound, EachSound, IsWritable, listed-writable}
 use Rattle.sql_parse.specs.declared.mark.Mark.TheVariants as m
 use Rattle.sql_parse.specs.declared.tree.AuditDef.{AuditDef}
 use Rattle.sql_parse.specs.Trees.{Audit}

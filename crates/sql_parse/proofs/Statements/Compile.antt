@@ -1,6 +1,6 @@
 -- What is written by the grammar for COMPILE, what is read and what is printed are the same.
-use Rattle.sql_parse.proofs.Productions.{codes, ◌≡◌, ◌∙◌, ◌≤◌, ℕ, List, [], ◌∷◌, ◌++◌, length, Some, None, refl, ap, subst, arith, IsUtf8, Lexeme, Word, mark, after_word, after_mark, name_at, number_at, statement_at, either_word, IsAfter, Reads, then_read, also, then_after, name-reads, number-reads, select-reads, select-again, tokens_of, tokens-append, IsPrintedBy, select-printed, word-sound, EachSound, mark-sound, IsWritable, sound-front, select-writable, Writable, writable-append, select-counted, query-utf8, query-well_formed}
-use Rattle.std.proofs.Common.{Option, length-append}
+use Rattle.std.proofs.Common.{codes, ◌≡◌, ◌∙◌, ◌≤◌, ℕ, List, [], ◌∷◌, ◌++◌, length, Some, None, refl, ap, subst, arith, Option, length-append}
+use Rattle.sql_parse.proofs.Productions.{IsUtf8, Lexeme, Word, mark, after_word, after_mark, name_at, number_at, statement_at, either_word, IsAfter, Reads, then_read, also, then_after, name-reads, number-reads, select-reads, select-again, tokens_of, tokens-append, IsPrintedBy, select-printed, word-sound, EachSound, mark-sound, IsWritable, sound-front, select-writable, Writable, writable-append, select-counted, query-utf8, query-well_formed}
 use Rattle.sql_parse.specs.declared.mark.Mark.TheVariants as m
 use Rattle.sql_parse.specs.Trees.{QueryTree, Compile}
 use Rattle.sql_parse.specs.Counts.{operands_in, of_condition}

@@ -1,5 +1,6 @@
 -- What is written by the grammar for CREATE INDEX, what is read and what is printed are the same.
-use Rattle.sql_parse.proofs.Productions.{codes, ◌≡◌, ◌∙◌, ℕ, List, [], ◌∷◌, ◌++◌, Some, refl, ap, subst, Lexeme, Word, mark, IsName, after_word, after_mark, name_at, in_parentheses_at, create_at, statement_at, IsAfter, Reads, then_read, also, then_after, name-reads, in_parentheses-reads, IsPrintedBy, word-sound, EachSound, mark-sound, IsWritable}
+use Rattle.std.proofs.Common.{codes, ◌≡◌, ◌∙◌, ℕ, List, [], ◌∷◌, ◌++◌, Some, refl, ap, subst}
+use Rattle.sql_parse.proofs.Productions.{Lexeme, Word, mark, IsName, after_word, after_mark, name_at, in_parentheses_at, create_at, statement_at, IsAfter, Reads, then_read, also, then_after, name-reads, in_parentheses-reads, IsPrintedBy, word-sound, EachSound, mark-sound, IsWritable}
 use Rattle.sql_parse.specs.declared.mark.Mark.TheVariants as m
 use Rattle.sql_parse.specs.declared.tree.IndexDef.{IndexDef}
 use Rattle.sql_parse.specs.Trees.{CreateIndex}

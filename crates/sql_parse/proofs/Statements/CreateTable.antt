@@ -1,6 +1,6 @@
 -- What is written by the grammar for CREATE TABLE, what is read and what is printed are the same.
-use Rattle.sql_parse.proofs.Productions.{codes, ◌≡◌, ◌∙◌, ℕ, List, [], ◌∷◌, ◌++◌, length, Some, None, refl, ap, subst, Lexeme, Word, mark, IsName, Separated, after_word, after_mark, name_at, number_at, list_at, in_parentheses_at, create_at, statement_at, IsAfter, Reads, then_read, also, then_after, name-reads, number-reads, list-reads, in_parentheses-reads, IsReadAgain, list-again, read_to_end, tokens_of, tokens-append, IsPrintedBy, separated-printed, word-sound, EachSound, mark-sound, IsWritable, sound-front, listed-writable, Writable, writable-append}
-use Rattle.std.proofs.Common.{◌<◌, inl, inr, Bool, true, false, append_assoc}
+use Rattle.std.proofs.Common.{codes, ◌≡◌, ◌∙◌, ℕ, List, [], ◌∷◌, ◌++◌, length, Some, None, refl, ap, subst, ◌<◌, inl, inr, Bool, true, false, append_assoc}
+use Rattle.sql_parse.proofs.Productions.{Lexeme, Word, mark, IsName, Separated, after_word, after_mark, name_at, number_at, list_at, in_parentheses_at, create_at, statement_at, IsAfter, Reads, then_read, also, then_after, name-reads, number-reads, list-reads, in_parentheses-reads, IsReadAgain, list-again, read_to_end, tokens_of, tokens-append, IsPrintedBy, separated-printed, word-sound, EachSound, mark-sound, IsWritable, sound-front, listed-writable, Writable, writable-append}
 use Rattle.std.proofs.lemmas.List.{append-nil}
 use Rattle.sql_values.specs.declared.column.ColumnType.{ColumnType}
 use Rattle.sql_values.specs.declared.column.ColumnType.TheVariants as types

@@ -1,5 +1,6 @@
 -- What is written by the grammar for LOAD, what is read and what is printed are the same.
-use Rattle.sql_parse.proofs.Productions.{codes, ◌≡◌, ◌∙◌, List, [], ◌∷◌, ◌++◌, Some, refl, ap, subst, IsUtf8, Word, Lexeme, mark, after_word, after_mark, name_at, text_token_at, statement_at, IsAfter, Reads, then_read, also, then_after, name-reads, text-reads, IsPrintedBy, word-sound, EachSound, mark-sound, IsWritable}
+use Rattle.std.proofs.Common.{codes, ◌≡◌, ◌∙◌, List, [], ◌∷◌, ◌++◌, Some, refl, ap, subst}
+use Rattle.sql_parse.proofs.Productions.{IsUtf8, Word, Lexeme, mark, after_word, after_mark, name_at, text_token_at, statement_at, IsAfter, Reads, then_read, also, then_after, name-reads, text-reads, IsPrintedBy, word-sound, EachSound, mark-sound, IsWritable}
 use Rattle.sql_parse.specs.declared.mark.Mark.TheVariants as m
 use Rattle.sql_parse.specs.declared.tree.LoadDef.{LoadDef}
 use Rattle.sql_parse.specs.Trees.{Load}

@@ -1,5 +1,6 @@
 -- What is written by the grammar for a keyword and a name, what is read and what is printed are the same.
-use Rattle.sql_parse.proofs.Productions.{ℕ, List, ◌∷◌, [], refl, ap, subst, Word, Lexeme, IsAfter, Reads, then_read, name-reads, IsPrintedBy, EachSound, IsWritable}
+use Rattle.std.proofs.Common.{ℕ, List, ◌∷◌, [], refl, ap, subst}
+use Rattle.sql_parse.proofs.Productions.{Word, Lexeme, IsAfter, Reads, then_read, name-reads, IsPrintedBy, EachSound, IsWritable}
 use Rattle.sql_parse.specs.Trees.{StatementTree}
 use Rattle.sql_parse.specs.Statements.{IsStatement}
 use Rattle.sql_parse.specs.Statements.Named.{IsNamed, named_at, named_parts}

@@ -1,5 +1,6 @@
 -- What is written by the grammar for OPEN, what is read and what is printed are the same.
-use Rattle.sql_parse.proofs.Productions.{codes, ◌≡◌, ◌∙◌, ◌≤◌, ℕ, List, [], ◌∷◌, ◌++◌, length, Some, refl, ap, subst, arith, IsUtf8, Lexeme, Word, mark, after_word, after_mark, name_at, text_token_at, statement_at, IsAfter, Reads, then_read, also, then_after, name-reads, text-reads, select-reads, select-again, tokens_of, IsPrintedBy, select-printed, word-sound, EachSound, mark-sound, IsWritable, select-writable, select-counted, query-utf8, query-well_formed}
+use Rattle.std.proofs.Common.{codes, ◌≡◌, ◌∙◌, ◌≤◌, ℕ, List, [], ◌∷◌, ◌++◌, length, Some, refl, ap, subst, arith}
+use Rattle.sql_parse.proofs.Productions.{IsUtf8, Lexeme, Word, mark, after_word, after_mark, name_at, text_token_at, statement_at, IsAfter, Reads, then_read, also, then_after, name-reads, text-reads, select-reads, select-again, tokens_of, IsPrintedBy, select-printed, word-sound, EachSound, mark-sound, IsWritable, select-writable, select-counted, query-utf8, query-well_formed}
 use Rattle.sql_parse.specs.declared.mark.Mark.TheVariants as m
 use Rattle.sql_parse.specs.Lexemes.{Text as TextToken}
 use Rattle.sql_parse.specs.Trees.{QueryTree, OpenFile}

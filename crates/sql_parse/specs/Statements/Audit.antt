@@ -1,5 +1,6 @@
 -- AUDIT.
-use Rattle.sql_parse.specs.Productions.{codes, ℕ, ◌≡◌, List, [], ◌∷◌, Some, Lexeme, Word, Rule, IsName, Separated, after_word, Reader, ◌>>=◌, choose, name_at, number_at, list_at, Keyword, Part, Name, Number, listed}
+use Rattle.std.specs.Prelude.{codes, ℕ, ◌≡◌, List, [], ◌∷◌, Some}
+use Rattle.sql_parse.specs.Productions.{Lexeme, Word, Rule, IsName, Separated, after_word, Reader, ◌>>=◌, choose, name_at, number_at, list_at, Keyword, Part, Name, Number, listed}
 use Rattle.sql_parse.specs.declared.mark.Mark.TheVariants as m
 use Rattle.sql_parse.specs.declared.tree.AuditDef.{AuditDef}
 use Rattle.sql_parse.specs.Lexemes.{Number as NumberToken}

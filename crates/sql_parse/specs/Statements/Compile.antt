@@ -1,6 +1,6 @@
 -- COMPILE.
-use Rattle.sql_parse.specs.Productions.{codes, ℕ, ◌≡◌, List, [], ◌∷◌, ◌++◌, Some, Lexeme, Word, mark, Rule, IsName, IsSelect, after_word, Reader, ◌>>=◌, choose, after_mark, name_at, number_at, select_at, Keyword, Part, Fixed, Name, Number, query_parts}
-use Rattle.std.specs.Prelude.{Option, None}
+use Rattle.std.specs.Prelude.{codes, ℕ, ◌≡◌, List, [], ◌∷◌, ◌++◌, Some, Option, None}
+use Rattle.sql_parse.specs.Productions.{Lexeme, Word, mark, Rule, IsName, IsSelect, after_word, Reader, ◌>>=◌, choose, after_mark, name_at, number_at, select_at, Keyword, Part, Fixed, Name, Number, query_parts}
 use Rattle.sql_parse.specs.declared.mark.Mark.TheVariants as m
 use Rattle.sql_parse.specs.Lexemes.{Number as NumberToken}
 use Rattle.sql_parse.specs.Trees.{QueryTree, StatementTree, Compile}

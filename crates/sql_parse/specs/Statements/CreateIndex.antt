@@ -1,5 +1,6 @@
 -- CREATE INDEX.
-use Rattle.sql_parse.specs.Productions.{codes, ◌≡◌, List, [], ◌∷◌, Some, Word, mark, Rule, IsName, Reader, ◌>>=◌, after_mark, name_at, in_parentheses_at, Keyword, Part, Fixed, Name, in_parentheses}
+use Rattle.std.specs.Prelude.{codes, ◌≡◌, List, [], ◌∷◌, Some}
+use Rattle.sql_parse.specs.Productions.{Word, mark, Rule, IsName, Reader, ◌>>=◌, after_mark, name_at, in_parentheses_at, Keyword, Part, Fixed, Name, in_parentheses}
 use Rattle.sql_parse.specs.declared.mark.Mark.TheVariants as m
 use Rattle.sql_parse.specs.declared.tree.IndexDef.{IndexDef}
 use Rattle.sql_parse.specs.Trees.{StatementTree, CreateIndex}

@@ -1,6 +1,6 @@
 -- CREATE TABLE.
-use Rattle.sql_parse.specs.Productions.{codes, ◌≡◌, List, [], ◌∷◌, ◌++◌, Some, Lexeme, Word, mark, Rule, IsName, Separated, Reader, ◌>>=◌, choose, after_mark, name_at, number_at, list_at, in_parentheses_at, Keyword, Part, Fixed, Name, Number, listed, in_parentheses}
-use Rattle.std.specs.Prelude.{◌⊎◌, true, false}
+use Rattle.std.specs.Prelude.{codes, ◌≡◌, List, [], ◌∷◌, ◌++◌, Some, ◌⊎◌, true, false}
+use Rattle.sql_parse.specs.Productions.{Lexeme, Word, mark, Rule, IsName, Separated, Reader, ◌>>=◌, choose, after_mark, name_at, number_at, list_at, in_parentheses_at, Keyword, Part, Fixed, Name, Number, listed, in_parentheses}
 use Rattle.sql_values.specs.declared.column.ColumnDef.{ColumnDef}
 use Rattle.sql_values.specs.declared.column.ColumnType.{ColumnType}
 use Rattle.sql_values.specs.declared.column.ColumnType.TheVariants as types

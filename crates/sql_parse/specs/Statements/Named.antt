@@ -1,5 +1,6 @@
 -- A statement of a keyword and a name.
-use Rattle.sql_parse.specs.Productions.{ℕ, ◌≡◌, List, [], ◌∷◌, Some, Word, Rule, IsName, Reader, ◌>>=◌, name_at, Keyword, Part, Name}
+use Rattle.std.specs.Prelude.{ℕ, ◌≡◌, List, [], ◌∷◌, Some}
+use Rattle.sql_parse.specs.Productions.{Word, Rule, IsName, Reader, ◌>>=◌, name_at, Keyword, Part, Name}
 use Rattle.sql_parse.specs.Trees.{StatementTree}
 
 -- keyword name

@@ -1,5 +1,6 @@
 -- OPEN.
-use Rattle.sql_parse.specs.Productions.{codes, ℕ, ◌≡◌, List, ◌∷◌, Some, Lexeme, Word, mark, Rule, IsName, IsSelect, Reader, ◌>>=◌, after_mark, name_at, text_token_at, select_at, Keyword, Part, Fixed, Name, Text, query_parts}
+use Rattle.std.specs.Prelude.{codes, ℕ, ◌≡◌, List, ◌∷◌, Some}
+use Rattle.sql_parse.specs.Productions.{Lexeme, Word, mark, Rule, IsName, IsSelect, Reader, ◌>>=◌, after_mark, name_at, text_token_at, select_at, Keyword, Part, Fixed, Name, Text, query_parts}
 use Rattle.sql_parse.specs.declared.mark.Mark.TheVariants as m
 use Rattle.sql_parse.specs.Lexemes.{Text as TextToken}
 use Rattle.sql_parse.specs.Trees.{QueryTree, StatementTree, OpenFile}

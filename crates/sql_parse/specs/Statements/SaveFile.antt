@@ -1,5 +1,6 @@
 -- SAVE.
-use Rattle.sql_parse.specs.Productions.{codes, ◌≡◌, List, [], ◌∷◌, Some, Word, mark, Rule, IsName, Reader, ◌>>=◌, after_mark, name_at, text_token_at, Keyword, Part, Fixed, Name, Text}
+use Rattle.std.specs.Prelude.{codes, ◌≡◌, List, [], ◌∷◌, Some}
+use Rattle.sql_parse.specs.Productions.{Word, mark, Rule, IsName, Reader, ◌>>=◌, after_mark, name_at, text_token_at, Keyword, Part, Fixed, Name, Text}
 use Rattle.sql_parse.specs.declared.mark.Mark.TheVariants as m
 use Rattle.sql_parse.specs.declared.tree.FileDef.{FileDef}
 use Rattle.sql_parse.specs.Lexemes.{Text as TextToken}
