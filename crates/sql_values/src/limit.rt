@@ -143,26 +143,20 @@ pub const MAX_CONTOUR_COST: u128 = 20769187434139310514121985316880384;
 
 /// The law of the limits: each constant is the figure of the definitions.
 pub fn limits_are_as_stated()
-    ensures script_bytes { MAX_SCRIPT_BYTES ≡ spec.max_script_bytes }
-    ensures file_bytes { MAX_FILE_BYTES ≡ spec.max_file_bytes }
-    ensures tables { MAX_TABLES ≡ spec.max_tables }
-    ensures columns { MAX_COLUMNS ≡ spec.max_columns }
-    ensures least_length { MIN_LENGTH ≡ spec.min_length }
-    ensures length { MAX_LENGTH ≡ spec.max_length }
-    ensures rows { MAX_ROWS ≡ spec.max_rows }
-    ensures words { MAX_WORDS ≡ spec.max_words }
-    ensures texts { MAX_TEXTS ≡ spec.max_texts }
-    ensures text_bytes { MAX_TEXT_BYTES ≡ spec.max_text_bytes }
-    ensures relations { MAX_RELATIONS ≡ spec.max_relations }
-    ensures projection { MAX_PROJECTION ≡ spec.max_projection }
-    ensures axes { MAX_AXES ≡ spec.max_axes }
-    ensures product { MAX_PRODUCT ≡ spec.max_product }
-    ensures least_levels { MIN_LEVELS ≡ spec.min_levels }
-    ensures levels { MAX_LEVELS ≡ spec.max_levels }
+    ensures bytes { (MAX_SCRIPT_BYTES ≡ spec.max_script_bytes)
+        × (MAX_FILE_BYTES ≡ spec.max_file_bytes) }
+    ensures tables { (MAX_TABLES ≡ spec.max_tables) × (MAX_COLUMNS ≡ spec.max_columns) }
+    ensures lengths { (MIN_LENGTH ≡ spec.min_length) × (MAX_LENGTH ≡ spec.max_length) }
+    ensures rows { (MAX_ROWS ≡ spec.max_rows) × (MAX_WORDS ≡ spec.max_words) }
+    ensures texts { (MAX_TEXTS ≡ spec.max_texts) × (MAX_TEXT_BYTES ≡ spec.max_text_bytes) }
+    ensures query { (MAX_RELATIONS ≡ spec.max_relations)
+        × (MAX_PROJECTION ≡ spec.max_projection) }
+    ensures axes { (MAX_AXES ≡ spec.max_axes) × (MAX_PRODUCT ≡ spec.max_product) }
+    ensures levels { (MIN_LEVELS ≡ spec.min_levels) × (MAX_LEVELS ≡ spec.max_levels) }
     ensures points { MAX_POINTS ≡ spec.max_points }
-    ensures threshold { MAX_THRESHOLD ≡ spec.max_threshold }
-    ensures no_threshold { DEFAULT_THRESHOLD ≡ spec.default_threshold }
+    ensures thresholds { (MAX_THRESHOLD ≡ spec.max_threshold)
+        × (DEFAULT_THRESHOLD ≡ spec.default_threshold) }
     ensures plans { MAX_PLANS ≡ spec.max_plans }
-    ensures contours { MAX_CONTOURS ≡ spec.max_contours }
-    ensures contour_cost { MAX_CONTOUR_COST ≡ spec.max_contour_cost }
+    ensures contours { (MAX_CONTOURS ≡ spec.max_contours)
+        × (MAX_CONTOUR_COST ≡ spec.max_contour_cost) }
 {}
