@@ -1,3 +1,4 @@
 pub mod Height
 pub mod Entries
 pub mod Nodes
+pub mod Cursors

@@ -1,12 +1,13 @@
 // The index: a tree of nodes, whose leaves are its entries in order. A descent is paid by its levels.
 // It relies on the ledger for each paid read, and never changes what it was built of.
-ghost use Rattle.std.specs.Prelude.{◌≡◌, ◌+◌, ◌*◌, ◌^◌, ◌<◌, ◌≤◌, ◌++◌, if◌then◌else◌, drop, filter, length, int_le, true, IfOk, OnOk, OnErr};
+ghost use Rattle.std.specs.Prelude.{◌≡◌, ◌+◌, ◌*◌, ◌^◌, ◌<◌, ◌≤◌, ◌++◌, if◌then◌else◌, filter, length, int_le, true, IfOk};
 ghost use Rattle.std.specs.List.{AllWithin};
 ghost use Rattle.std.specs.List.Sorted.{IsPermutation};
 ghost use Rattle.work_ledger.specs.Account.{Pays};
 ghost use Rattle.work_ledger.specs.Charges.{node_charge};
 ghost use Rattle.btree_index.specs.Height.{height_of};
-ghost use Rattle.btree_index.specs.Entries.{HaveWords, IsInOrder, IsOn, entries_left, first_row, is_within, next_charge};
+ghost use Rattle.btree_index.specs.Entries.{HaveWords, IsInOrder, IsOn, entries_left, is_within, next_charge};
+ghost use Rattle.btree_index.specs.Cursors.{IsOnRange, MovesOn};
 ghost use Rattle.btree_index.specs.Nodes.{AreSplitAt, is_entry_below, nodes_of};
 
 use crate::levels::{first_of, inner_levels};
@@ -82,8 +83,7 @@ fn one_more(count: usize, passes: bool) -> usize
 // The cursor of the entries with words from `from` to `to`, found by one look at each entry.
 fn cursor_among_few(entries: &[(i64, u64)], from: i64, to: i64) -> Cursor
     requires { IsInOrder entries.now }
-    ensures range { entries_left entries.now result ≡ filter (is_within from to) entries.now }
-    ensures placed { IsOn entries.now result }
+    ensures { IsOnRange entries.now from to result }
 {
     let mut next = 0;
     let mut end = 0;
@@ -197,8 +197,7 @@ impl Index {
     /// The place of the entries with words from `from` to `to`, both included. There are none where `from` is greater than
     /// `to`. It isn't paid, and takes as long as two descents at most.
     pub fn place(&self, from: i64, to: i64) -> Cursor
-        ensures range { entries_left self.now result ≡ filter (is_within from to) self.now }
-        ensures placed { IsOn self.now result }
+        ensures range { IsOnRange self.now from to result }
         ensures words { HaveWords self.now }
     {
         if self.entries.len() <= FEW_ENTRIES {
@@ -224,9 +223,7 @@ impl Index {
 
     /// Descends to these entries, which pays for each level.
     pub fn seek(&self, from: i64, to: i64, ledger: &mut Ledger) -> Result<Cursor, Exhausted>
-        ensures range { IfOk result
-            (λ cursor. entries_left self.now cursor ≡ filter (is_within from to) self.now) }
-        ensures placed { IfOk result (λ cursor. IsOn self.now cursor) }
+        ensures range { IfOk result (IsOnRange self.now from to) }
         ensures words { HaveWords self.now }
         ensures pays { Pays (node_charge * height_of (length self.now)) ledger.old ledger.new result }
     {
@@ -238,12 +235,9 @@ impl Index {
     /// there is none, and nothing is paid.
     pub fn next(&self, cursor: &mut Cursor, ledger: &mut Ledger) -> Result<Option<u64>, Exhausted>
         requires { IsOn self.now cursor.old }
-        ensures row { IfOk result (λ row. row ≡ first_row (entries_left self.now cursor.old)) }
-        ensures left { OnOk result
-            (entries_left self.now cursor.new ≡ drop 1 (entries_left self.now cursor.old)) }
-        ensures unchanged { OnErr result (cursor.new ≡ cursor.old) }
-        ensures placed { IsOn self.now cursor.new }
-        ensures pays { Pays (next_charge (entries_left self.now cursor.old)) ledger.old ledger.new result }
+        ensures moves { MovesOn self.now cursor.old cursor.new result }
+        ensures pays { Pays (next_charge (entries_left self.now cursor.old))
+            ledger.old ledger.new result }
     {
         if cursor.next >= cursor.end {
             // A payment of nothing is one too, so that one clause says what each call pays.

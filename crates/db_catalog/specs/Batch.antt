@@ -10,6 +10,10 @@ pub record BatchState : Type 0 where
   pub rows : List ValueRow
   pub row : ValueRow
 
+-- no rows yet, for a table of these columns
+abbrev pub new_batch : List ColumnDef → BatchState
+new_batch columns = record { columns = columns; rows = []; row = [] }
+
 -- the value fits the next column, and there is one
 abbrev pub FitsNext : BatchState → Value → Type 0
 FitsNext batch value =

@@ -6,3 +6,5 @@ pub mod Meter
 pub mod Kept
 pub mod Recoded
 pub mod Fits
+pub mod Cursors
+pub mod Tables

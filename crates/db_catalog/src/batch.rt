@@ -6,7 +6,7 @@ ghost use Rattle.sql_values.specs.declared.value.Value.TheVariants as value;
 ghost use Rattle.sql_values.specs.Stored.{IsRowOf};
 ghost use Rattle.heap_pages.specs.Changes.{Becomes};
 ghost use Rattle.db_catalog.specs.Database.{FillRows, rows_in};
-ghost use Rattle.db_catalog.specs.Batch.{FitsNext, with_value, with_row_ended};
+ghost use Rattle.db_catalog.specs.Batch.{FitsNext, new_batch, with_value, with_row_ended};
 ghost use Rattle.db_catalog.specs.Batch.{with_whole_row};
 
 use crate::columns::copy_of;
@@ -59,10 +59,8 @@ fn push_within(row: &mut Vec<i64>, word: i64)
 impl Batch {
     /// No rows yet, for a table of these columns.
     pub fn new(alloc: Global, columns: &[ColumnDef]) -> Result<Batch, AllocError>
-        requires some { 1 ≤ length columns.now }
-        ensures columns { IfOk result (λ batch. batch.columns ≡ columns.now) }
-        ensures rows { IfOk result (λ batch. batch.rows ≡ []) }
-        ensures row { IfOk result (λ batch. batch.row ≡ []) }
+        requires { 1 ≤ length columns.now }
+        ensures { IfOk result (λ batch. batch ≡ new_batch columns.now) }
     {
         let row = Vec::with_capacity(alloc, columns.len())?;
         let columns = copy_of(alloc, columns)?;
@@ -127,9 +125,8 @@ impl Batch {
     ) -> Result<Batch, AllocError>
         requires some { 1 ≤ length columns.now }
         requires fill { FillRows columns.now values.now }
-        ensures columns { IfOk result (λ batch. batch.columns ≡ columns.now) }
-        ensures rows { IfOk result (λ batch. batch.rows ≡ rows_in columns.now values.now) }
-        ensures row { IfOk result (λ batch. batch.row ≡ []) }
+        ensures { IfOk result (λ batch. batch
+            ≡ record (new_batch columns.now) { rows = rows_in columns.now values.now }) }
     {
         let mut batch = Batch::new(alloc, columns)?;
         let width = columns.len();

@@ -6,6 +6,7 @@ ghost use Rattle.std.specs.List.{IsDistinct};
 ghost use Rattle.std.specs.Str.{bytes_eq};
 ghost use Rattle.sql_values.specs.Limits.{max_tables, max_columns, max_rows};
 ghost use Rattle.db_catalog.specs.Database.{with_table, with_rows, with_index, new_table, rows_in};
+ghost use Rattle.db_catalog.specs.Tables.{AreColumnsOfTable, new_database};
 ghost use Rattle.db_catalog.specs.Database.{table_at, table_number, FillRows};
 ghost use Rattle.db_catalog.specs.Meter.{table_pages, page_rows};
 ghost use Rattle.db_catalog.specs.Refused.{Refuses, creation_fault, append_fault, index_fault};
@@ -160,9 +161,7 @@ fn check_texts(texts: &Texts) -> Result<(), DbFault>
 impl Database {
     /// A database without tables.
     pub fn new(alloc: Global) -> Database
-        ensures tables { result.tables ≡ [] }
-        ensures texts { result.texts ≡ [] }
-        ensures index_names { result.index_names ≡ [] }
+        ensures { result ≡ new_database }
     {
         Database {
             alloc,
@@ -179,9 +178,8 @@ impl Database {
     pub fn create_table(&mut self, name: &[u8], columns: &[ColumnDef]) -> Result<u32, DbFault>
         requires some { 1 ≤ length columns.now }
         ensures number { IfOk result (λ number. number ≡ length self.old.tables) }
-        ensures created { OnOk result
-            (self.new ≡ with_table self.old (new_table name.now columns.now)) }
-        ensures unchanged { OnErr result (self.new ≡ self.old) }
+        ensures created { let table = new_table name.now columns.now in
+            Becomes (with_table self.old table) self.old self.new result }
         ensures refuses { Refuses (creation_fault self.old name.now columns.now) result }
     {
         self.check_creation(name, columns)?;
@@ -215,8 +213,8 @@ impl Database {
     #[tactic(auto, using(crate::proofs::Tables::of_reads))]
     pub fn create_index(&mut self, name: &[u8], table: u32, column: u8) -> Result<(), DbFault>
         requires { column < length (table_at self.old table).columns }
-        ensures created { OnOk result (self.new ≡ with_index self.old name.now table column) }
-        ensures unchanged { OnErr result (self.new ≡ self.old) }
+        ensures created { let after = with_index self.old name.now table column in
+            Becomes after self.old self.new result }
         ensures refuses { Refuses (index_fault self.old name.now table column) result }
     {
         self.check_index(name, table, column)?;
@@ -320,8 +318,7 @@ impl Database {
     pub fn columns(&self, table: u32) -> &[ColumnDef]
         requires { table < length self.now.tables }
         ensures columns { result.now ≡ (table_at self.now table).columns }
-        ensures some { 1 ≤ length result.now }
-        ensures few { length result.now ≤ max_columns }
+        ensures few { AreColumnsOfTable result.now }
     {
         self.tables[table as usize].columns.as_slice()
     }

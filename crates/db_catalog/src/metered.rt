@@ -1,13 +1,16 @@
 // The meter: the only way by which the layers above reach a row. It relies on the ledger for what is paid, and lends
 // rows for as long as the database is lent.
-ghost use Rattle.std.specs.Prelude.{◌≡◌, ◌+◌, ◌*◌, ◌<◌, ◌≤◌, ◌^◌, length, filter, drop, Contains};
-ghost use Rattle.std.specs.Prelude.{IfOk, IfSome, OnOk, OnErr};
-ghost use Rattle.btree_index.specs.Entries.{HaveWords, IsOn, entries_left, first_row, is_within, next_charge};
+ghost use Rattle.std.specs.Prelude.{◌≡◌, ◌+◌, ◌*◌, ◌<◌, ◌≤◌, length, Contains, IfOk};
+ghost use Rattle.btree_index.specs.Cursors.{IsOnRange};
+ghost use Rattle.btree_index.specs.Entries.{HaveWords, entries_left, next_charge};
 ghost use Rattle.work_ledger.specs.Account.{IsInBounds, max_account};
+ghost use Rattle.work_ledger.specs.Budget.{granted, new_account};
 ghost use Rattle.work_ledger.specs.Charges.{page_charge, row_charge, fetch_charge, node_charge};
-ghost use Rattle.sql_values.specs.Limits.{max_columns, max_rows};
-ghost use Rattle.db_catalog.specs.Database.{table_at, IsRowAt, StandAsWords};
+ghost use Rattle.sql_values.specs.Limits.{max_rows};
+ghost use Rattle.db_catalog.specs.Database.{IsRowAt, StandAsWords, table_at};
+ghost use Rattle.db_catalog.specs.Tables.{AreColumnsOfTable};
 ghost use Rattle.db_catalog.specs.Indexes.{index_at, index_height};
+ghost use Rattle.db_catalog.specs.Cursors.{GivesNext, IsCursorOf};
 ghost use Rattle.db_catalog.specs.Meter.{Reads, HasSlot, table_pages, page_rows, IsRowIn};
 
 use crate::database::Database;
@@ -36,9 +39,7 @@ impl<'d> Model for Metered<'d> {
 impl<'d> Metered<'d> {
     /// Nothing is spent, and nothing may be.
     pub fn new(database: &'d Database) -> Metered<'d>
-        ensures database { result.database ≡ database.now }
-        ensures spent { result.account.spent ≡ 0 }
-        ensures limit { result.account.limit ≡ 0 }
+        ensures { result ≡ record { database = database.now; account = new_account } }
     {
         Metered {
             database,
@@ -64,9 +65,7 @@ impl<'d> Metered<'d> {
     /// Allows as much work more as the budget says, counted from what is spent. What was left before is gone.
     pub fn grant(&mut self, budget: u128)
         requires { self.old.account.spent + budget ≤ max_account }
-        ensures spent { self.new.account.spent ≡ self.old.account.spent }
-        ensures limit { self.new.account.limit ≡ self.old.account.spent + budget }
-        ensures database { self.new.database ≡ self.old.database }
+        ensures { self.new ≡ record self.old { account = granted budget self.old.account } }
     {
         self.ledger.grant(budget);
     }
@@ -75,8 +74,6 @@ impl<'d> Metered<'d> {
     pub fn pay(&mut self, n: u128) -> Result<(), Exhausted>
         requires { n ≤ max_account }
         ensures reads { Reads n self.old self.new result }
-        ensures never_falls { self.old.account.spent ≤ self.new.account.spent }
-        ensures bounds { IsInBounds self.new.account }
     {
         self.ledger.pay(n)
     }
@@ -85,8 +82,7 @@ impl<'d> Metered<'d> {
     pub fn columns(&self, table: u32) -> &'d [ColumnDef]
         requires { table < length self.now.database.tables }
         ensures columns { result.now ≡ (table_at self.now.database table).columns }
-        ensures some { 1 ≤ length result.now }
-        ensures few { length result.now ≤ max_columns }
+        ensures few { AreColumnsOfTable result.now }
     {
         self.database.columns(table)
     }
@@ -156,11 +152,7 @@ impl<'d> Metered<'d> {
     /// level. There are none where `from` is greater than `to`, and none for NULL. What the entries and the rows are is told.
     pub fn seek(&mut self, table: u32, column: u8, from: i64, to: i64) -> Result<Cursor, Exhausted>
         requires { Contains (table_at self.old.database table).indexed column }
-        ensures range { IfOk result (λ cursor.
-            entries_left (index_at self.old.database table column) cursor
-            ≡ filter (is_within from to) (index_at self.old.database table column)) }
-        ensures placed { IfOk result (λ cursor.
-            IsOn (index_at self.old.database table column) cursor) }
+        ensures range { IfOk result (IsOnRange (index_at self.old.database table column) from to) }
         ensures words { HaveWords (index_at self.old.database table column) }
         ensures rows { StandAsWords self.old.database table }
         ensures reads { Reads (node_charge * index_height self.old.database table column)
@@ -179,16 +171,8 @@ impl<'d> Metered<'d> {
         column: u8,
         cursor: &mut Cursor,
     ) -> Result<Option<u64>, Exhausted>
-        requires indexed { Contains (table_at self.old.database table).indexed column }
-        requires placed { IsOn (index_at self.old.database table column) cursor.old }
-        ensures row { IfOk result (λ row.
-            row ≡ first_row (entries_left (index_at self.old.database table column) cursor.old)) }
-        ensures there { IfOk result (λ row.
-            IfSome row (λ i. i < length (table_at self.old.database table).rows)) }
-        ensures left { OnOk result (entries_left (index_at self.old.database table column) cursor.new
-            ≡ drop 1 (entries_left (index_at self.old.database table column) cursor.old)) }
-        ensures unchanged { OnErr result (cursor.new ≡ cursor.old) }
-        ensures placed { IsOn (index_at self.old.database table column) cursor.new }
+        requires { IsCursorOf self.old.database table column cursor.old }
+        ensures gives { GivesNext self.old.database table column cursor.old cursor.new result }
         ensures reads { Reads
             (next_charge (entries_left (index_at self.old.database table column) cursor.old))
             self.old self.new result }

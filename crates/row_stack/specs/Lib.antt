@@ -2,3 +2,5 @@ pub mod Limits
 pub mod Stack
 pub mod Packed
 pub mod Memory
+pub mod Bounds
+pub mod Changes

@@ -1,7 +1,7 @@
 // The two stacks of an execution. They are lent on their own, so that rows of one can be read while rows are pushed
 // on the other.
-ghost use Rattle.std.specs.Prelude.{◌≡◌, ◌≤◌};
-ghost use Rattle.row_stack.specs.Limits.{max_width};
+ghost use Rattle.std.specs.Prelude.{◌≡◌};
+ghost use Rattle.row_stack.specs.Bounds.{IsWidth};
 ghost use Rattle.row_stack.specs.Stack.{new_stack};
 
 use crate::stack::RowStack;
@@ -19,8 +19,7 @@ pub struct Space {
 impl Space {
     /// Two stacks without rows, of rows of `width` words, 1 to 192. It takes no memory.
     pub fn new(alloc: Global, width: usize) -> Space
-        requires some { 1 ≤ width }
-        requires few { width ≤ max_width }
+        requires { IsWidth width }
         ensures work { result.work ≡ new_stack width }
         ensures result { result.result ≡ new_stack width }
     {

@@ -1,7 +1,8 @@
 // The stack: the words of all rows in one block, which is kept when rows are released.
-ghost use Rattle.std.specs.Prelude.{max, ◌≡◌, ◌+◌, ◌-◌, ◌*◌, ◌^◌, ◌<◌, ◌≤◌, [], ◌∷◌, ◌++◌, take, drop, length, Some, slice_get, IsOk, OnOk, OnErr, IfOk};
-ghost use Rattle.row_stack.specs.Limits.{max_width};
+ghost use Rattle.std.specs.Prelude.{max, ◌≡◌, ◌-◌, ◌*◌, ◌<◌, ◌≤◌, [], ◌∷◌, ◌++◌, length, nat_lt, None, Some, slice_get, if◌then◌else◌, IsOk, OnOk, OnErr};
+ghost use Rattle.row_stack.specs.Bounds.{IsWidth, word_limit};
 ghost use Rattle.row_stack.specs.Stack.{room_of, new_stack, grown_by, IsRowStack};
+ghost use Rattle.row_stack.specs.Changes.{Pushes, released_to};
 
 use crate::block::{Block, WORD_LIMIT};
 use std::alloc::{AllocError, Global};
@@ -9,6 +10,18 @@ use std::marker::Model;
 
 // How many rows the first growth makes room for.
 const FIRST_ROWS: u64 = 16;
+
+// How many words rows take, where a stack can have so many.
+fn words_of_rows(width: usize, rows: u64) -> Option<usize>
+    ensures { result ≡ (if nat_lt (rows * width) word_limit then Some (rows * width) else None) }
+{
+    let words = (rows as usize).checked_mul(width)?;
+    if words < WORD_LIMIT {
+        Some(words)
+    } else {
+        None
+    }
+}
 
 /// Rows of one width.
 #[derive(Drop)]
@@ -41,8 +54,7 @@ impl Model for RowStack {
 impl RowStack {
     /// A stack without rows, of rows of `width` words, 1 to 192. It takes no memory.
     pub fn new(alloc: Global, width: usize) -> RowStack
-        requires some { 1 ≤ width }
-        requires few { width ≤ max_width }
+        requires { IsWidth width }
         ensures { result ≡ new_stack width }
     {
         RowStack {
@@ -85,22 +97,7 @@ impl RowStack {
     /// Else it takes memory for as many rows as there are, at least 16. Out of memory the stack is as it was.
     pub fn push(&mut self, row: &[i64]) -> Result<u64, AllocError>
         requires { length row.now ≡ self.old.width }
-        ensures place { IfOk result (λ place. place ≡ length self.old.rows) }
-        ensures rows { OnOk result (self.new.rows ≡ self.old.rows ++ row.now ∷ []) }
-        ensures width { self.new.width ≡ self.old.width }
-
-        // With a row to spare.
-        ensures succeeds { 0 < self.old.spare → IsOk result }
-        ensures spare { 0 < self.old.spare → self.new.spare + 1 ≡ self.old.spare }
-
-        // With none.
-        ensures doubles { self.old.spare ≡ 0
-            → OnOk result (self.new.spare + 1 ≡ grown_by (length self.old.rows)) }
-
-        // Whatever the answer.
-        ensures unchanged { OnErr result (self.new ≡ self.old) }
-        ensures no_room_lost { room_of self.old ≤ room_of self.new }
-        ensures stack { IsRowStack self.new }
+        ensures { Pushes row.now self.old self.new result }
     {
         if self.rows == self.room {
             self.grow()?;
@@ -113,10 +110,10 @@ impl RowStack {
         requires room { 0 < self.old.spare }
         requires width { length row.now ≡ self.old.width }
         ensures place { result ≡ length self.old.rows }
-        ensures rows { self.new.rows ≡ self.old.rows ++ row.now ∷ [] }
-        ensures width { self.new.width ≡ self.old.width }
-        ensures spare { self.new.spare + 1 ≡ self.old.spare }
-        ensures stack { IsRowStack self.new }
+        ensures stack { self.new ≡ record self.old {
+          rows = self.old.rows ++ row.now ∷ [];
+          spare = self.old.spare - 1;
+        } }
     {
         let Some(block) = &mut self.block else {
             unreachable!()
@@ -132,9 +129,8 @@ impl RowStack {
     #[inline(never)]
     fn grow(&mut self) -> Result<(), AllocError>
         requires { self.old.spare ≡ 0 }
-        ensures rows { self.new.rows ≡ self.old.rows }
-        ensures width { self.new.width ≡ self.old.width }
-        ensures spare { OnOk result (self.new.spare ≡ grown_by (length self.old.rows)) }
+        ensures grown { OnOk result
+            (self.new ≡ record self.old { spare = grown_by (length self.old.rows) }) }
         ensures unchanged { OnErr result (self.new ≡ self.old) }
     {
         self.reserve(self.rows.max(FIRST_ROWS))
@@ -143,9 +139,8 @@ impl RowStack {
     /// Makes sure that `n` rows can be pushed without taking memory. Where so many are spare it takes none and can't
     /// fail, else it takes memory for no more than that. Out of memory the stack is as it was.
     pub fn reserve(&mut self, n: u64) -> Result<(), AllocError>
-        ensures rows { self.new.rows ≡ self.old.rows }
-        ensures width { self.new.width ≡ self.old.width }
-        ensures spare { OnOk result (self.new.spare ≡ max n self.old.spare) }
+        ensures reserved { OnOk result
+            (self.new ≡ record self.old { spare = max n self.old.spare }) }
         ensures succeeds { n ≤ self.old.spare → IsOk result }
         ensures unchanged { OnErr result (self.new ≡ self.old) }
     {
@@ -159,16 +154,12 @@ impl RowStack {
     // Moves the rows to a block with room for `room` rows. Out of memory they stay where they are.
     fn move_to(&mut self, room: u64) -> Result<(), AllocError>
         requires { room_of self.old ≤ room }
-        ensures rows { self.new.rows ≡ self.old.rows }
-        ensures width { self.new.width ≡ self.old.width }
-        ensures room { OnOk result (room_of self.new ≡ room) }
+        ensures moved { OnOk result
+            (self.new ≡ record self.old { spare = room - length self.old.rows }) }
         ensures unchanged { OnErr result (self.new ≡ self.old) }
     {
         let words = self.rows as usize * self.width;
-        let capacity = (room as usize).checked_mul(self.width).ok_or(AllocError)?;
-        if WORD_LIMIT <= capacity {
-            return Err(AllocError);
-        }
+        let capacity = words_of_rows(self.width, room).ok_or(AllocError)?;
         Block::make_room(&mut self.block, self.alloc, words, capacity)?;
         self.room = room;
         Ok(())
@@ -177,9 +168,7 @@ impl RowStack {
     /// Keeps the first `to` rows. The memory of the others is spare from then on. It takes no memory.
     pub fn release(&mut self, to: u64)
         requires { to ≤ length self.old.rows }
-        ensures rows { self.new.rows ≡ take to self.old.rows }
-        ensures spare { self.new.spare ≡ self.old.spare + (length self.old.rows - to) }
-        ensures width { self.new.width ≡ self.old.width }
+        ensures { self.new ≡ released_to to self.old }
     {
         self.rows = to;
     }

@@ -1,6 +1,7 @@
 // The ledger: two numbers, and the one place where they are compared. It relies on nothing, and never takes memory.
-ghost use Rattle.std.specs.Prelude.{◌≡◌, ◌+◌, ◌^◌, ◌≤◌};
+ghost use Rattle.std.specs.Prelude.{◌≡◌, ◌+◌, ◌≤◌};
 ghost use Rattle.work_ledger.specs.Account.{Pays, IsInBounds, max_account};
+ghost use Rattle.work_ledger.specs.Budget.{granted, new_account};
 
 use std::marker::Model;
 
@@ -28,8 +29,7 @@ impl Model for Ledger {
 impl Ledger {
     /// Nothing is spent, and nothing may be.
     pub fn new() -> Ledger
-        ensures spent { result.spent ≡ 0 }
-        ensures limit { result.limit ≡ 0 }
+        ensures { result ≡ new_account }
     {
         Ledger { spent: 0, limit: 0 }
     }
@@ -52,8 +52,7 @@ impl Ledger {
     /// Allows as much work more as the budget says, counted from what is spent. What was left before is gone.
     pub fn grant(&mut self, budget: u128)
         requires { self.old.spent + budget ≤ max_account }
-        ensures spent { self.new.spent ≡ self.old.spent }
-        ensures limit { self.new.limit ≡ self.old.spent + budget }
+        ensures { self.new ≡ granted budget self.old }
     {
         self.limit = self.spent + budget;
     }
@@ -61,9 +60,7 @@ impl Ledger {
     /// Pays `n` units. A payment that doesn't fit spends what is left and is refused.
     pub fn pay(&mut self, n: u128) -> Result<(), Exhausted>
         requires { n ≤ max_account }
-        ensures pays { Pays n self.old self.new result }
-        ensures never_falls { self.old.spent ≤ self.new.spent }
-        ensures bounds { IsInBounds self.new }
+        ensures { Pays n self.old self.new result }
     {
         let after = self.spent + n;
         if after > self.limit {

@@ -8,16 +8,19 @@ use Rattle.audit_run.proofs.Some.{words_some, plans_some}
 use Rattle.audit_run.proofs.Between.{begins, next-figures, told}
 use Rattle.audit_run.proofs.executions.audit_plans.Goals as goal
 
-pub new-space-requires-clause-some : goal.new-space-requires-clause-some
-new-space-requires-clause-some c =
+pub new-space-requires : goal.new-space-requires
+new-space-requires c =
     let same : width_of (block_tree c.block.result.now) ≡ width_of (block_tree c.args.b.now.block) =
     ap (λ b. width_of (block_tree b)) c.block.ensures.block in
-    omega (arith, c.width.ensures.width, same, words_some (block_tree c.args.b.now.block) c.block.ensures.bouquet.costing.block)
+    record {
+      some_words = omega (arith, c.width.ensures.width, same, words_some (block_tree c.args.b.now.block) c.block.ensures.bouquet.costing.block);
+      few_words = search rules;
+    }
 
 pub loop-plan-init : goal.loop-plan-init
 loop-plan-init c = record {
   so_far = begins (bouquet_tree c.args.b.now) c.args.db.now c.args.point.now c.args.plans.now c.new-figures.result c.new-meter.result.account.spent
-      c.new-figures.ensures c.new-meter.ensures.spent;
+      c.new-figures.ensures (ap (λ meter. meter.account.spent) c.new-meter.ensures);
   unchanged = search rules;
   within = search rules;
   context = search rules;

@@ -20,8 +20,8 @@ loop-place-preserved c =
           (counted_next (λ e. int_le e.0 to) entries (pos 0, 0) c.loop-place.end at (entries_rise_to entries to c.requires) there c.loop-place.invariant.1),
     )
 
-pub returns-clause-range : goal.returns-clause-range
-returns-clause-range c =
+pub returns : goal.returns
+returns c =
     let entries = c.args.entries.now in
     let so = c.loop-place.invariant in
     let whole : c.loop-place.place ≡ length entries = search rules in
@@ -31,6 +31,7 @@ returns-clause-range c =
     (subst (λ w. IsCounted (λ i. is_entry_below w (get_or entries i (pos 0, 0))) c.loop-place.next c.loop-place.place) from so.0) in
     let end = subst (λ n. IsCounted (λ i. int_le (get_or entries i (pos 0, 0)).0 c.args.to) c.loop-place.end n) whole
     (subst (λ w. IsCounted (λ i. int_le (get_or entries i (pos 0, 0)).0 w) c.loop-place.end c.loop-place.place) to so.1) in
-    between_words entries c.args.from c.args.to c.loop-place.next c.loop-place.end next.most end.most
+    let range = between_words entries c.args.from c.args.to c.loop-place.next c.loop-place.end next.most end.most
     (point_of_all (is_entry_below c.args.from) entries (pos 0, 0) c.loop-place.next next)
-    (point_of_all (λ e. int_le e.0 c.args.to) entries (pos 0, 0) c.loop-place.end end)
+    (point_of_all (λ e. int_le e.0 c.args.to) entries (pos 0, 0) c.loop-place.end end) in
+    record { placed = search rules; range = range }

@@ -19,11 +19,8 @@ left c =
     left_step c.args.self.now cursor.next cursor.end entry (omega (arith, c.if-cursor.false)) c.requires.end
     ∙ ap (λ e. e ∷ take (cursor.end - (cursor.next + 1)) (drop (cursor.next + 1) c.args.self.now)) (sym read)
 
-pub returns-clause-row : goal.returns-clause-row
-returns-clause-row c = rw (left c) refl
-
-pub returns-clause-left : goal.returns-clause-left
-returns-clause-left c = rw (left c) refl
+pub returns-clause-moves : goal.returns-clause-moves
+returns-clause-moves c = record { row = rw (left c) refl; left = rw (left c) refl; unchanged = tt; placed = search rules }
 
 pub returns-clause-pays : goal.returns-clause-pays
 returns-clause-pays c = rw (left c) (search rules)

@@ -51,5 +51,6 @@ returns-clause-created c =
     let free : has_text c.self.inside.index_names c.args.name.now ≡ false = ap (λ db. has_text db.index_names c.args.name.now) c.self.view_is ∙ not_taken c.args.self.now.index_names c.args.name.now due.0 in
     let names : c.add.new.self ≡ c.self.inside.index_names ++ c.args.name.now ∷ [] =
     c.in_ok-add.ensures.texts ∙ ap (λ b. if b then c.self.inside.index_names else c.self.inside.index_names ++ c.args.name.now ∷ []) free in
-    (λ i. record { tables = (ap (map (stored_table c.self.inside.texts)) tables_now ∙ (done c).1) i; texts = c.self.inside.texts; index_names = names i })
-    ∙ ap (λ db. with_index db c.args.name.now c.args.table c.args.column) c.self.view_is
+    let made = (λ i. record { tables = (ap (map (stored_table c.self.inside.texts)) tables_now ∙ (done c).1) i; texts = c.self.inside.texts; index_names = names i })
+    ∙ ap (λ db. with_index db c.args.name.now c.args.table c.args.column) c.self.view_is in
+    record { made = made; unchanged = tt }

@@ -5,10 +5,10 @@ use Rattle.db_catalog.proofs.OfIndexes.{index_at-below, first_row-below}
 use Rattle.db_catalog.proofs.Tables.{IfOk-map}
 use Rattle.db_catalog.proofs.metered.Metered.next.Goals as goal
 
-pub returns-clause-there : goal.returns-clause-there
-returns-clause-there c =
+pub returns-clause-gives : goal.returns-clause-gives
+returns-clause-gives c =
     let db = c.self.inside.database.now in
     let rows = length (table_at db c.args.table).rows in
     let below = first_row-below _ c.args.cursor.now rows (index_at-below db c.args.table c.args.column) in
-    rw (← c.self.view_is) (IfOk-map c.next.result (λ _ is. subst (λ o. IfSome o (λ i. i < rows)) (sym is) below)
-    (rw c.index.ensures.entries at c.next.ensures.row))
+    let moves = rw c.index.ensures.entries at c.next.ensures.moves in
+    rw (← c.self.view_is) (record { moves = moves; there = IfOk-map c.next.result (λ _ is. subst (λ o. IfSome o (λ i. i < rows)) (sym is) below) moves.row })

@@ -10,5 +10,5 @@ invariant_of-self-2 c =
     let database = c.self.inside.database in
     let table = c.in-Some.table in
     let column = c.in-Some-column_of.column in
-    is_grown database c.create_index.new.self (with_index database c.bytes-2.result.now table column) c.self.inside.bouquets c.in_ok-create_index.ensures.created
+    is_grown database c.create_index.new.self (with_index database c.bytes-2.result.now table column) c.self.inside.bouquets c.in_ok-create_index.ensures.created.made
     (fits_with_index database c.bytes-2.result.now table column) (grows_with_index database c.bytes-2.result.now table column) c.self.invariant

@@ -9,4 +9,4 @@ pub invariant_of-self-2 : goal.invariant_of-self-2
 invariant_of-self-2 c =
     let database = c.self.inside.database in
     let table = new_table c.args.table.now.name c.args.table.now.columns in
-    is_grown database c.create_table.new.self (with_table database table) c.self.inside.bouquets (rw (← c.bytes.ensures, ← c.as_slice.ensures) c.in_ok-create_table.ensures.created) (fits_with_table database table) (grows_with_table database table) c.self.invariant
+    is_grown database c.create_table.new.self (with_table database table) c.self.inside.bouquets (rw (← c.bytes.ensures, ← c.as_slice.ensures) c.in_ok-create_table.ensures.created.made) (fits_with_table database table) (grows_with_table database table) c.self.invariant
