@@ -40,16 +40,10 @@ pub const ADVANCE: u128 = 1;
 
 /// Each constant is the charge that the definitions state.
 pub fn charges_are_as_stated()
-    ensures open { OPEN ≡ open_charge }
-    ensures page { PAGE ≡ page_charge }
-    ensures row { ROW ≡ row_charge }
-    ensures emit { EMIT ≡ emit_charge }
-    ensures node { NODE ≡ node_charge }
-    ensures entry { ENTRY ≡ entry_charge }
-    ensures fetch { FETCH ≡ fetch_charge }
-    ensures build { BUILD ≡ build_charge }
-    ensures pair { PAIR ≡ pair_charge }
-    ensures hash_in { HASH_IN ≡ hash_in_charge }
-    ensures probe { PROBE ≡ probe_charge }
-    ensures advance { ADVANCE ≡ advance_charge }
+    ensures node { (OPEN ≡ open_charge) × (EMIT ≡ emit_charge) }
+    ensures scan { (PAGE ≡ page_charge) × (ROW ≡ row_charge) }
+    ensures index { (NODE ≡ node_charge) × (ENTRY ≡ entry_charge) × (FETCH ≡ fetch_charge) }
+    ensures nested_loop { (BUILD ≡ build_charge) × (PAIR ≡ pair_charge) }
+    ensures hash { (HASH_IN ≡ hash_in_charge) × (PROBE ≡ probe_charge) }
+    ensures merge { ADVANCE ≡ advance_charge }
 {}
