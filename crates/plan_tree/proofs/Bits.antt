@@ -120,6 +120,14 @@ same-relation a b same = by (nat_eq a b) refl
         let one : 1 ≡ 0 = sym (bit_at-pow_same a) ∙ ap (λ n. bit_at n a) same ∙ bit_at-pow_other b a (λ is. grind arith) in
         absurd (omega (arith, one))
 
+-- the set of one relation has no other
+pub relation-alone : (relation other : ℕ) → set_of (2 ^ relation) other ≡ true → other ≡ relation
+relation-alone relation other is = by (nat_eq other relation) refl (leaf-is-bit (Scan relation) other ∙ is)
+  where
+    by : (t : Bool) → nat_eq other relation ≡ t → (t || false) ≡ true → other ≡ relation
+    by true e some = grind arith
+    by false e some = cc
+
 one-place : (right relation : ℕ) → right ≡ 2 ^ relation → right < 256 → trailing_zeros w8 right ≡ relation
 one-place right relation is small = by (nat_eq (trailing_zeros w8 right) relation) refl
   where

@@ -12,19 +12,10 @@ range-more a (suc n) =
     ap (λ (xs : List ℕ). a ∷ xs) (range-more (a + 1) n ∙ ap (λ (x : ℕ). range_with_len (a + 1) n ++ x ∷ []) last)
 
 -- one more piece
-pieces-more : {A : Type 0} (f : ℕ → List A) (before : List A) (n : ℕ)
-    → (before ++ flat_map f (range_with_len 0 n)) ++ f n ≡ before ++ flat_map f (range_with_len 0 (n + 1))
-pieces-more f before n =
+pub pieces-more : {A : Type 0} (f : ℕ → List A) (n : ℕ) → flat_map f (range_with_len 0 n) ++ f n ≡ flat_map f (range_with_len 0 (n + 1))
+pieces-more f n =
     let next : n + 1 ≡ suc n = omega arith in
     let last : 0 + n ≡ n = omega arith in
     let more : range_with_len 0 (n + 1) ≡ range_with_len 0 n ++ n ∷ [] =
     ap (range_with_len 0) next ∙ range-more 0 n ∙ ap (λ (x : ℕ). range_with_len 0 n ++ x ∷ []) last in
-    flat_map_more f before (range_with_len 0 n) n ∙ ap (λ (xs : List ℕ). before ++ flat_map f xs) (sym more)
-
--- a loop's step: what is there so far, with one more piece behind it
-pub put-more : {A : Type 0} (f : ℕ → List A) (before now next piece : List A) (n : ℕ)
-    → now ≡ before ++ flat_map f (range_with_len 0 n) → next ≡ now ++ piece → piece ≡ f n
-    → next ≡ before ++ flat_map f (range_with_len 0 (n + 1))
-put-more f before now next piece n so is of =
-    is ∙ ap (λ (xs : List _). xs ++ piece) so ∙ ap (λ (xs : List _). (before ++ flat_map f (range_with_len 0 n)) ++ xs) of
-    ∙ pieces-more f before n
+    flat_map_more f [] (range_with_len 0 n) n ∙ ap (λ (xs : List ℕ). flat_map f xs) (sym more)

@@ -1,28 +1,107 @@
 -- The list of a set's outermost nodes has each node that may stand over the set, and no other.
-use Rattle.std.proofs.Common.{◌≡◌, inl, inr, ℕ, ◌+◌, ◌-◌, ◌^◌, ◌<◌, max, Bool, true, false, ◌&&◌, List, [], ◌∷◌, ◌++◌, length, bit_and, nat_eq, nat_le, refl, subst, arith}
+use Rattle.std.proofs.Common.{◌≡◌, ◌↔◌, inl, inr, ℕ, ◌+◌, ◌-◌, ◌^◌, ◌<◌, max, Bool, true, false, ◌&&◌, ◌||◌, not, List, [], ◌∷◌, ◌++◌, IsTrue, filter, length, bit_and, nat_eq, nat_le, nat_lt, refl, sym, ap, subst, ◌∙◌, if◌then◌else◌, arith}
 use Rattle.std.specs.List.{flat_map, list_any, range_with_len}
-use Rattle.std.proofs.lemmas.Bool.{and_parts, and_from, eqb-true, eq-eqb, leb-true, le-leb}
-use Rattle.query_block.specs.Blocks.{RelationTree, BlockTree, relation_at}
+use Rattle.std.proofs.lemmas.Bool.{and_parts, and_from, false≢true, eqb-true, eq-eqb, leb-true, le-leb, ltb-true, lt-ltb}
+use Rattle.std.proofs.lemmas.List.{append_assoc}
+use Rattle.std.proofs.lemmas.List.Elements.{filter-append}
+use Rattle.query_block.specs.declared.edge.Edge.{Edge}
+use Rattle.query_block.specs.Blocks.{BlockTree, relation_at}
 use Rattle.plan_tree.specs.declared.roots.Root.{Root}
 use Rattle.plan_tree.specs.declared.roots.Root.TheVariants as root
-use Rattle.plan_tree.specs.Enumerated.{is_indexed, has_usable}
-use Rattle.plan_tree.specs.Roots.{IsSplit, IsCrossed, IsLookedUp, Stands}
-use Rattle.plan_tree.specs.AllPlans.{one_where, is_split, is_split_by, is_looked_up, end_of_columns, scans_of, column_scans_of, index_scans_of, nests_of, hashes_by, merges_by, loops_from, loops_by, roots_of}
-use Rattle.plan_tree.proofs.Members.{IsIn, in-left, in-right, of-either, in-flat, of-flat, in-range, of-range}
+use Rattle.plan_tree.specs.Enumerated.{edge_at, is_indexed, has_usable, IsScannable}
+use Rattle.plan_tree.specs.Sets.{set_of, is_between}
+use Rattle.plan_tree.specs.Roots.{IsSplit, IsCrossed, IsLookedUp, Stands, is_split, is_crossed, is_scannable, is_looked_up, is_joined, stands}
+use Rattle.plan_tree.specs.AllPlans.{by_each, one_each, end_of_columns, far_end, scans_of, column_scans, index_scans_of, nests_of, joins_by, index_loop_by, candidates, standing, roots_of}
+use Rattle.plan_tree.proofs.Bits.{relation-alone}
+use Rattle.plan_tree.proofs.RangeLists.{pieces-more}
+use Rattle.plan_tree.proofs.Members.{IsIn, in-left, in-right, of-flat, in-flat, in-range, of-range, in-filter, of-filter}
 
-pub of-where : (holds : Bool) (node one : Root) → IsIn one (one_where holds node) → (holds ≡ true) × (node ≡ one)
-of-where true node one (inl same) = (refl, same)
-of-where true node one (inr none) = absurd none
-of-where false node one none = absurd none
+-- ---- the tests say whether a node may stand over a set
 
-in-where : (holds : Bool) (node : Root) → holds ≡ true → IsIn node (one_where holds node)
-in-where true node is = inl refl
-in-where false node is = cc
+pub of-split : (left set : ℕ) → is_split left set ≡ true → IsSplit left set
+of-split left set is =
+    let parts = and_parts (nat_le 1 left && nat_lt left set) _ is in
+    let first = and_parts (nat_le 1 left) _ parts.0 in
+    record { some = leb-true 1 left first.0; less = ltb-true left set first.1; apart = eqb-true (bit_and left (set - left)) 0 parts.1 }
+
+pub to-split : (left set : ℕ) → IsSplit left set → is_split left set ≡ true
+to-split left set split =
+    and_from (nat_le 1 left && nat_lt left set) _
+    (and_from (nat_le 1 left) _ (le-leb 1 left split.some) (lt-ltb left set split.less)) (eq-eqb (bit_and left (set - left)) 0 split.apart)
+
+of-crossed : (edges : List Edge) (edge left right : ℕ) → is_crossed edges edge left right ≡ true → IsCrossed edges edge left right
+of-crossed edges edge left right is =
+    let parts = and_parts (nat_lt edge (length edges)) _ is in
+    record { exists = ltb-true edge (length edges) parts.0; crosses = parts.1 }
+
+to-crossed : (edges : List Edge) (edge left right : ℕ) → IsCrossed edges edge left right → is_crossed edges edge left right ≡ true
+to-crossed edges edge left right crossed =
+    and_from (nat_lt edge (length edges)) _ (lt-ltb edge (length edges) crossed.exists) crossed.crosses
+
+module _ (block : BlockTree) where
+  abbrev relations : ℕ
+  relations = length block.relations
+
+  of-joined : (set edge left : ℕ) → is_joined block set edge left ≡ true → IsSplit left set × IsCrossed block.edges edge left (set - left)
+  of-joined set edge left is =
+      let parts = and_parts (is_split left set) _ is in
+      (of-split left set parts.0, of-crossed block.edges edge left (set - left) parts.1)
+
+  to-joined : (set edge left : ℕ) → IsSplit left set → IsCrossed block.edges edge left (set - left) → is_joined block set edge left ≡ true
+  to-joined set edge left split crossed =
+      and_from (is_split left set) _ (to-split left set split) (to-crossed block.edges edge left (set - left) crossed)
+
+  of-scannable : (relation column : ℕ) → is_scannable block relation column ≡ true → IsScannable block relation column
+  of-scannable relation column is =
+      let tree = relation_at block.relations relation in
+      let parts = and_parts (nat_lt relation relations && is_indexed tree column) _ is in
+      let first = and_parts (nat_lt relation relations) _ parts.0 in
+      record { exists = ltb-true relation relations first.0; indexed = first.1; usable = parts.1 }
+
+  to-scannable : (relation column : ℕ) → IsScannable block relation column → is_scannable block relation column ≡ true
+  to-scannable relation column is =
+      let tree = relation_at block.relations relation in
+      and_from (nat_lt relation relations && is_indexed tree column) _
+      (and_from (nat_lt relation relations) _ (lt-ltb relation relations is.exists) is.indexed) is.usable
+
+  of-look : (edge right relation : ℕ) → is_looked_up block edge right relation ≡ true → IsLookedUp block edge right relation
+  of-look edge right relation is =
+      let parts = and_parts (nat_lt relation relations && nat_eq right (2 ^ relation)) _ is in
+      let first = and_parts (nat_lt relation relations) _ parts.0 in
+      record { one = eqb-true right (2 ^ relation) first.1; exists = ltb-true relation relations first.0; indexed = parts.1 }
+
+  to-look : (edge right relation : ℕ) → IsLookedUp block edge right relation → is_looked_up block edge right relation ≡ true
+  to-look edge right relation look =
+      and_from (nat_lt relation relations && nat_eq right (2 ^ relation)) _
+      (and_from (nat_lt relation relations) _ (lt-ltb relation relations look.exists) (eq-eqb right (2 ^ relation) look.one)) look.indexed
+
+  pub of-stands : (set : ℕ) (node : Root) → stands block set node ≡ true → Stands block node set
+  of-stands set (root.Scan relation) is =
+      let parts = and_parts (nat_lt relation relations) _ is in
+      (ltb-true relation relations parts.0, eqb-true set (2 ^ relation) parts.1)
+  of-stands set (root.IndexScan relation column) is =
+      let parts = and_parts (is_scannable block relation column) _ is in
+      (of-scannable relation column parts.0, eqb-true set (2 ^ relation) parts.1)
+  of-stands set (root.Nest left) is = of-split left set is
+  of-stands set (root.Hash edge left) is = of-joined set edge left is
+  of-stands set (root.Merge edge left) is = of-joined set edge left is
+  of-stands set (root.IndexLoop edge left relation) is =
+      let parts = and_parts (is_joined block set edge left) _ is in
+      let sides = of-joined set edge left parts.0 in
+      (sides.0, sides.1, of-look edge (set - left) relation parts.1)
+
+  pub to-stands : (set : ℕ) (node : Root) → Stands block node set → stands block set node ≡ true
+  to-stands set (root.Scan relation) (below, alone) =
+      and_from (nat_lt relation relations) _ (lt-ltb relation relations below) (eq-eqb set (2 ^ relation) alone)
+  to-stands set (root.IndexScan relation column) (is, alone) =
+      and_from (is_scannable block relation column) _ (to-scannable relation column is) (eq-eqb set (2 ^ relation) alone)
+  to-stands set (root.Nest left) split = to-split left set split
+  to-stands set (root.Hash edge left) (split, crossed) = to-joined set edge left split crossed
+  to-stands set (root.Merge edge left) (split, crossed) = to-joined set edge left split crossed
+  to-stands set (root.IndexLoop edge left relation) (split, crossed, look) =
+      and_from (is_joined block set edge left) _ (to-joined set edge left split crossed) (to-look edge (set - left) relation look)
 
 -- ---- by each number below an end
-
-abbrev pub by_each : (ℕ → List Root) → (end : ℕ) → List Root
-by_each nodes end = flat_map nodes (range_with_len 0 end)
 
 pub of-each : (nodes : ℕ → List Root) (end : ℕ) (node : Root) → IsIn node (by_each nodes end) → (i : ℕ) × (i < end) × IsIn node (nodes i)
 of-each nodes end node is =
@@ -33,26 +112,17 @@ of-each nodes end node is =
 in-each : (nodes : ℕ → List Root) (end i : ℕ) (node : Root) → i < end → IsIn node (nodes i) → IsIn node (by_each nodes end)
 in-each nodes end i node below is = in-flat nodes i node (range_with_len 0 end) (in-range i 0 end (omega arith) (omega (arith, below))) is
 
-of-picks : (holds : ℕ → Bool) (make : ℕ → Root) (end : ℕ) (node : Root) → IsIn node (by_each (λ i. one_where (holds i) (make i)) end)
-    → (i : ℕ) × (i < end) × (holds i ≡ true) × (make i ≡ node)
-of-picks holds make end node is =
-    let found = of-each (λ i. one_where (holds i) (make i)) end node is in
-    let picked = of-where (holds found.0) (make found.0) node found.2 in
-    (found.0, found.1, picked.0, picked.1)
+in-one_each : (make : ℕ → Root) (end i : ℕ) → i < end → IsIn (make i) (one_each make end)
+in-one_each make end i below = in-each (λ j. make j ∷ []) end i (make i) below (inl refl)
 
-in-picks : (holds : ℕ → Bool) (make : ℕ → Root) (end i : ℕ) → i < end → holds i ≡ true
-    → IsIn (make i) (by_each (λ j. one_where (holds j) (make j)) end)
-in-picks holds make end i below is = in-each (λ j. one_where (holds j) (make j)) end i (make i) below (in-where (holds i) (make i) is)
+pub of-one : (node other : Root) → IsIn node (other ∷ []) → other ≡ node
+of-one node other (inl same) = same
+of-one node other (inr none) = absurd none
 
--- ---- what the tests say
-
-of-split : (set left : ℕ) → left < set → is_split set left ≡ true → IsSplit left set
-of-split set left less is =
-    let parts = and_parts (nat_le 1 left) (nat_eq (bit_and left (set - left)) 0) is in
-    record { some = leb-true 1 left parts.0; less = less; apart = eqb-true (bit_and left (set - left)) 0 parts.1 }
-
-to-split : (set left : ℕ) → IsSplit left set → is_split set left ≡ true
-to-split set left split = and_from (nat_le 1 left) _ (le-leb 1 left split.some) (eq-eqb (bit_and left (set - left)) 0 split.apart)
+pub of-one_each : (make : ℕ → Root) (end : ℕ) (node : Root) → IsIn node (one_each make end) → (i : ℕ) × (make i ≡ node)
+of-one_each make end node is =
+    let found = of-each (λ i. make i ∷ []) end node is in
+    (found.0, of-one node (make found.0) found.2)
 
 indexed-below : (indexes : List ℕ) (column : ℕ) → list_any (λ other. nat_eq other column) indexes ≡ true → column < end_of_columns indexes
 indexed-below [] column indexed = grind arith
@@ -64,204 +134,147 @@ indexed-below (index ∷ indexes) column indexed = by (nat_eq index column) refl
     by true same is more = let one : index ≡ column = eqb-true index column same in omega (arith, one)
     by false other is more = let rest : column < end_of_columns indexes = more (grind (arith, is, other)) in omega (arith, rest)
 
+-- no relation is in both sides
+not-both : (left right relation other : ℕ) → bit_and left right ≡ 0 → right ≡ 2 ^ relation → other ≡ relation → set_of left other ≡ true → ⊥
+not-both left right relation other apart one same is =
+    let none : bit_and left (2 ^ other) ≡ 0 = ap (λ n. bit_and left (2 ^ n)) same ∙ sym (ap (bit_and left) one) ∙ apart in
+    false≢true (sym (ap (λ n. not (nat_eq n 0)) none) ∙ is)
+
+-- where the right side is one relation, it is the far end of an edge that crosses the sides
+far-end : (edge : Edge) (left right relation : ℕ) → bit_and left right ≡ 0 → right ≡ 2 ^ relation
+    → is_between (set_of left) (set_of right) edge ≡ true → relation ≡ far_end edge (set_of left)
+far-end edge left right relation apart one crosses =
+    by (set_of left edge.left) (set_of right edge.right) (set_of left edge.right) (set_of right edge.left) refl refl refl crosses
+  where
+    alone : (other : ℕ) → set_of right other ≡ true → other ≡ relation
+    alone other is = relation-alone relation other (subst (λ set. set_of set other ≡ true) one is)
+
+    by : (b c d e : Bool) → set_of left edge.left ≡ b → set_of right edge.right ≡ c → set_of right edge.left ≡ e
+        → ((b && c) || (d && e)) ≡ true → relation ≡ (if b then edge.right else edge.left)
+    by true true d e near far other is = sym (alone edge.right far)
+    by true false true true near far other is = absurd (not-both left right relation edge.left apart one (alone edge.left other) near)
+    by true false true false near far other is = absurd (false≢true is)
+    by true false false e near far other is = absurd (false≢true is)
+    by false c true true near far other is = sym (alone edge.left other)
+    by false c true false near far other is = absurd (false≢true is)
+    by false c false e near far other is = absurd (false≢true is)
+
+-- ---- a node that may stand over a set is tried
+
 module _ (block : BlockTree) (set : ℕ) where
-  abbrev pub edges : ℕ
-  edges = length block.edges
+  abbrev pub hashes : List Root
+  hashes = joins_by block (λ edge left. root.Hash edge left) set
 
-  abbrev pub relations : ℕ
-  relations = length block.relations
+  abbrev pub merges : List Root
+  merges = joins_by block (λ edge left. root.Merge edge left) set
 
-  abbrev pub tree : ℕ → RelationTree
-  tree relation = relation_at block.relations relation
-
-  abbrev pub scanned : (relation column : ℕ) → Bool
-  scanned relation column = nat_eq set (2 ^ relation) && is_indexed (tree relation) column && has_usable (tree relation) column
-
-  abbrev pub looked : (edge left relation : ℕ) → Bool
-  looked edge left relation = is_split_by block set edge left && is_looked_up block set edge left relation
-
-  -- ---- a listed node may stand over the set
-
-  of-crossing : (edge left : ℕ) → edge < edges → left < set → is_split_by block set edge left ≡ true
-      → IsSplit left set × IsCrossed block.edges edge left (set - left)
-  of-crossing edge left exists less is =
-      let parts = and_parts (is_split set left) _ is in
-      (of-split set left less parts.0, record { exists = exists; crosses = parts.1 })
-
-  pub of-scans : (node : Root) → IsIn node (scans_of block set)
-      → (relation : ℕ) × Stands block (root.Scan relation) set × (root.Scan relation ≡ node)
-  of-scans node is =
-      let found = of-picks (λ relation. nat_eq set (2 ^ relation)) (λ relation. root.Scan relation) relations node is in
-      (found.0, (found.1, eqb-true set (2 ^ found.0) found.2), found.3)
-
-  pub of-column_scans : (relation : ℕ) (node : Root) → relation < relations → IsIn node (column_scans_of block set relation)
-      → (column : ℕ) × Stands block (root.IndexScan relation column) set × (root.IndexScan relation column ≡ node)
-  of-column_scans relation node below is =
-      let found = of-picks (scanned relation) (λ column. root.IndexScan relation column) (end_of_columns (tree relation).indexes) node is in
-      let both = and_parts (nat_eq set (2 ^ relation) && is_indexed (tree relation) found.0) _ found.2 in
-      let first = and_parts (nat_eq set (2 ^ relation)) _ both.0 in
-      (found.0, (record { exists = below; indexed = first.1; usable = both.1 }, eqb-true set (2 ^ relation) first.0), found.3)
-
-  pub of-nests : (node : Root) → IsIn node (nests_of set) → (left : ℕ) × Stands block (root.Nest left) set × (root.Nest left ≡ node)
-  of-nests node is =
-      let found = of-picks (is_split set) (λ left. root.Nest left) set node is in
-      (found.0, of-split set found.0 found.1 found.2, found.3)
-
-  pub of-hashes : (edge : ℕ) (node : Root) → edge < edges → IsIn node (hashes_by block set edge)
-      → (left : ℕ) × Stands block (root.Hash edge left) set × (root.Hash edge left ≡ node)
-  of-hashes edge node exists is =
-      let found = of-picks (is_split_by block set edge) (λ left. root.Hash edge left) set node is in
-      (found.0, of-crossing edge found.0 exists found.1 found.2, found.3)
-
-  pub of-merges : (edge : ℕ) (node : Root) → edge < edges → IsIn node (merges_by block set edge)
-      → (left : ℕ) × Stands block (root.Merge edge left) set × (root.Merge edge left ≡ node)
-  of-merges edge node exists is =
-      let found = of-picks (is_split_by block set edge) (λ left. root.Merge edge left) set node is in
-      (found.0, of-crossing edge found.0 exists found.1 found.2, found.3)
-
-  pub of-loops : (edge left : ℕ) (node : Root) → edge < edges → left < set → IsIn node (loops_from block set edge left)
-      → (relation : ℕ) × Stands block (root.IndexLoop edge left relation) set × (root.IndexLoop edge left relation ≡ node)
-  of-loops edge left node exists less is =
-      let found = of-picks (looked edge left) (λ relation. root.IndexLoop edge left relation) relations node is in
-      let parts = and_parts (is_split_by block set edge left) _ found.2 in
-      let looks = and_parts (nat_eq (set - left) (2 ^ found.0)) _ parts.1 in
-      let crosses = of-crossing edge left exists less parts.0 in (
-        found.0,
-        (crosses.0, crosses.1, record { one = eqb-true (set - left) (2 ^ found.0) looks.0; exists = found.1; indexed = looks.1 }),
-        found.3,
-      )
-
-  pub looked-alone : (edge left relation : ℕ) → looked edge left relation ≡ true → set - left ≡ 2 ^ relation
-  looked-alone edge left relation is =
-      let look = and_parts (is_split_by block set edge left) _ is in
-      eqb-true (set - left) (2 ^ relation) (and_parts (nat_eq (set - left) (2 ^ relation)) _ look.1).0
-
-  standing : (one node : Root) → Stands block one set → one ≡ node → Stands block node set
-  standing one node stands same = subst (λ other. Stands block other set) same stands
-
-  of-index_scans : (node : Root) → IsIn node (index_scans_of block set) → Stands block node set
-  of-index_scans node is =
-      let each = of-each (column_scans_of block set) relations node is in
-      let found = of-column_scans each.0 node each.1 each.2 in
-      standing _ node found.1 found.2
-
-  of-hash_joins : (node : Root) → IsIn node (by_each (hashes_by block set) edges) → Stands block node set
-  of-hash_joins node is =
-      let each = of-each (hashes_by block set) edges node is in
-      let found = of-hashes each.0 node each.1 each.2 in
-      standing _ node found.1 found.2
-
-  of-merge_joins : (node : Root) → IsIn node (by_each (merges_by block set) edges) → Stands block node set
-  of-merge_joins node is =
-      let each = of-each (merges_by block set) edges node is in
-      let found = of-merges each.0 node each.1 each.2 in
-      standing _ node found.1 found.2
-
-  of-index_loops : (node : Root) → IsIn node (by_each (loops_by block set) edges) → Stands block node set
-  of-index_loops node is =
-      let each = of-each (loops_by block set) edges node is in
-      let sides = of-each (loops_from block set each.0) set node each.2 in
-      let found = of-loops each.0 sides.0 node each.1 sides.1 sides.2 in
-      standing _ node found.1 found.2
+  abbrev pub index_loops : List Root
+  index_loops = joins_by block (index_loop_by block) set
 
   -- the kinds one after another
   abbrev pub until_index_scans : List Root
-  until_index_scans = scans_of block set ++ index_scans_of block set
+  until_index_scans = scans_of block ++ index_scans_of block
 
   abbrev pub until_nests : List Root
   until_nests = until_index_scans ++ nests_of set
 
   abbrev pub until_hashes : List Root
-  until_hashes = until_nests ++ by_each (hashes_by block set) edges
+  until_hashes = until_nests ++ hashes
 
   abbrev pub until_merges : List Root
-  until_merges = until_hashes ++ by_each (merges_by block set) edges
+  until_merges = until_hashes ++ merges
+
+  in-joins : (join : (edge left : ℕ) → Root) (edge left : ℕ) → IsSplit left set → edge < length block.edges
+      → IsIn (join edge left) (joins_by block join set)
+  in-joins join edge left split exists =
+      in-each (λ other. one_each (join other) set) (length block.edges) edge (join edge left) exists (in-one_each (join edge) set left split.less)
+
+  from-hashes : (node : Root) → IsIn node until_hashes → IsIn node (candidates block set)
+  unfolding candidates
+  from-hashes node is = in-left node until_merges index_loops (in-left node until_hashes merges is)
+
+  from-index_scans : (node : Root) → IsIn node until_index_scans → IsIn node (candidates block set)
+  from-index_scans node is = from-hashes node (in-left node until_nests hashes (in-left node until_index_scans (nests_of set) is))
+
+  from-merges : (node : Root) → IsIn node merges → IsIn node (candidates block set)
+  unfolding candidates
+  from-merges node is = in-left node until_merges index_loops (in-right node until_hashes merges is)
+
+  from-index_loops : (node : Root) → IsIn node index_loops → IsIn node (candidates block set)
+  unfolding candidates
+  from-index_loops node is = in-right node until_merges index_loops is
+
+  tried : (node : Root) → Stands block node set → IsIn node (candidates block set)
+  tried (root.Scan relation) (below, alone) =
+      let node = root.Scan relation in
+      from-index_scans node
+      (in-left node (scans_of block) (index_scans_of block) (in-one_each (λ one. root.Scan one) (length block.relations) relation below))
+  tried (root.IndexScan relation column) (is, alone) =
+      let node = root.IndexScan relation column in
+      let indexes = (relation_at block.relations relation).indexes in
+      from-index_scans node
+      (in-right node (scans_of block) (index_scans_of block)
+      (in-each (column_scans block) (length block.relations) relation node is.exists
+      (in-one_each (λ one. root.IndexScan relation one) (end_of_columns indexes) column (indexed-below indexes column is.indexed))))
+  tried (root.Nest left) split =
+      let node = root.Nest left in
+      from-hashes node
+      (in-left node until_nests hashes
+      (in-right node until_index_scans (nests_of set) (in-one_each (λ one. root.Nest one) set left split.less)))
+  tried (root.Hash edge left) (split, crossed) =
+      let node = root.Hash edge left in
+      from-hashes node (in-right node until_nests hashes (in-joins (λ e l. root.Hash e l) edge left split crossed.exists))
+  tried (root.Merge edge left) (split, crossed) =
+      from-merges (root.Merge edge left) (in-joins (λ e l. root.Merge e l) edge left split crossed.exists)
+  tried (root.IndexLoop edge left relation) (split, crossed, look) =
+      let far = far-end (edge_at block.edges edge) left (set - left) relation split.apart look.one crossed.crosses in
+      from-index_loops (root.IndexLoop edge left relation)
+      (subst (λ one. IsIn (root.IndexLoop edge left one) index_loops) (sym far) (in-joins (index_loop_by block) edge left split crossed.exists))
+
+  -- ---- the nodes that may stand over a set are those that are listed
 
   pub of-roots : (node : Root) → IsIn node (roots_of block set) → Stands block node set
   unfolding roots_of
-  of-roots node is =
-      elim (of-either node until_merges (by_each (loops_by block set) edges) is) [
-        | inr loop ↦ of-index_loops node loop
-        | inl more ↦ elim (of-either node until_hashes (by_each (merges_by block set) edges) more) [
-          | inr merge ↦ of-merge_joins node merge
-          | inl more ↦ elim (of-either node until_nests (by_each (hashes_by block set) edges) more) [
-            | inr hash ↦ of-hash_joins node hash
-            | inl more ↦ elim (of-either node until_index_scans (nests_of set) more) [
-              | inr nest ↦ let found = of-nests node nest in standing _ node found.1 found.2
-              | inl more ↦ elim (of-either node (scans_of block set) (index_scans_of block set) more) [
-                | inr scan ↦ of-index_scans node scan
-                | inl scan ↦ let found = of-scans node scan in standing _ node found.1 found.2
-              ]
-            ]
-          ]
-        ]
-      ]
-
-  -- ---- a node that may stand over the set is listed
-
-  to-crossing : (edge left : ℕ) → IsSplit left set → IsCrossed block.edges edge left (set - left) → is_split_by block set edge left ≡ true
-  to-crossing edge left split crossed = and_from (is_split set left) _ (to-split set left split) crossed.crosses
-
-  to-look : (edge left relation : ℕ) → IsLookedUp block edge (set - left) relation → is_looked_up block set edge left relation ≡ true
-  to-look edge left relation look = and_from (nat_eq (set - left) (2 ^ relation)) _ (eq-eqb (set - left) (2 ^ relation) look.one) look.indexed
-
-  to-scan : (relation column : ℕ) → Stands block (root.IndexScan relation column) set → scanned relation column ≡ true
-  to-scan relation column (is, alone) =
-      and_from (nat_eq set (2 ^ relation) && is_indexed (tree relation) column) _
-      (and_from (nat_eq set (2 ^ relation)) _ (eq-eqb set (2 ^ relation) alone) is.indexed) is.usable
-
-  from-merges : (node : Root) → IsIn node until_merges → IsIn node (roots_of block set)
-  unfolding roots_of
-  from-merges node is = in-left node until_merges (by_each (loops_by block set) edges) is
-
-  from-nests : (node : Root) → IsIn node until_nests → IsIn node (roots_of block set)
-  from-nests node is =
-      from-merges node
-      (in-left node until_hashes (by_each (merges_by block set) edges)
-      (in-left node until_nests (by_each (hashes_by block set) edges) is))
-
-  from-readings : (node : Root) → IsIn node until_index_scans → IsIn node (roots_of block set)
-  from-readings node is = from-nests node (in-left node until_index_scans (nests_of set) is)
-
-  from-loops : (node : Root) → IsIn node (by_each (loops_by block set) edges) → IsIn node (roots_of block set)
-  unfolding roots_of
-  from-loops node is = in-right node until_merges (by_each (loops_by block set) edges) is
+  of-roots node is = of-stands block set node (of-filter (stands block set) node (candidates block set) is).1
 
   pub in-roots : (node : Root) → Stands block node set → IsIn node (roots_of block set)
-  in-roots (root.Scan relation) (below, alone) =
-      let node = root.Scan relation in
-      from-readings node
-      (in-left node (scans_of block set) (index_scans_of block set)
-      (in-picks (λ one. nat_eq set (2 ^ one)) (λ one. root.Scan one) relations relation below (eq-eqb set (2 ^ relation) alone)))
-  in-roots (root.IndexScan relation column) (is, alone) =
-      let node = root.IndexScan relation column in
-      from-readings node
-      (in-right node (scans_of block set) (index_scans_of block set)
-      (in-each (column_scans_of block set) relations relation node is.exists
-      (in-picks (scanned relation) (λ one. root.IndexScan relation one) (end_of_columns (tree relation).indexes) column
-      (indexed-below (tree relation).indexes column is.indexed) (to-scan relation column (is, alone)))))
-  in-roots (root.Nest left) split =
-      let node = root.Nest left in
-      from-nests node
-      (in-right node until_index_scans (nests_of set)
-      (in-picks (is_split set) (λ one. root.Nest one) set left split.less (to-split set left split)))
-  in-roots (root.Hash edge left) (split, crossed) =
-      let node = root.Hash edge left in
-      from-merges node
-      (in-left node until_hashes (by_each (merges_by block set) edges)
-      (in-right node until_nests (by_each (hashes_by block set) edges)
-      (in-each (hashes_by block set) edges edge node crossed.exists
-      (in-picks (is_split_by block set edge) (λ one. root.Hash edge one) set left split.less (to-crossing edge left split crossed)))))
-  in-roots (root.Merge edge left) (split, crossed) =
-      let node = root.Merge edge left in
-      from-merges node
-      (in-right node until_hashes (by_each (merges_by block set) edges)
-      (in-each (merges_by block set) edges edge node crossed.exists
-      (in-picks (is_split_by block set edge) (λ one. root.Merge edge one) set left split.less (to-crossing edge left split crossed))))
-  in-roots (root.IndexLoop edge left relation) (split, crossed, look) =
-      let node = root.IndexLoop edge left relation in
-      from-loops node
-      (in-each (loops_by block set) edges edge node crossed.exists
-      (in-each (loops_from block set edge) set left node split.less
-      (in-picks (looked edge left) (λ one. root.IndexLoop edge left one) relations relation look.exists
-      (and_from (is_split_by block set edge left) _ (to-crossing edge left split crossed) (to-look edge left relation look)))))
+  unfolding roots_of
+  in-roots node is = in-filter (stands block set) node (candidates block set) (tried node is) (to-stands block set node is)
+
+  -- one node, where a test says that it may stand over the set
+  pub put-one : (node : Root) (is : Bool) → IsTrue is ↔ Stands block node set → standing block set (node ∷ []) ≡ (if is then node ∷ [] else [])
+  put-one node is iff = ap (λ (b : Bool). if b then node ∷ [] else []) (same (stands block set node) is refl iff)
+    where
+      same : (test is : Bool) → stands block set node ≡ test → IsTrue is ↔ Stands block node set → test ≡ is
+      same true true so iff = refl
+      same false false so iff = refl
+      same true false so iff = sym (iff.1 (of-stands block set node so))
+      same false true so iff = sym so ∙ to-stands block set node (iff.0 refl)
+
+  -- ---- the list is put together from pieces
+
+  -- one more piece
+  pub each-more : (nodes : ℕ → List Root) (before now next : List Root) (n : ℕ)
+      → now ≡ before ++ standing block set (by_each nodes n) → next ≡ now ++ standing block set (nodes n)
+      → next ≡ before ++ standing block set (by_each nodes (n + 1))
+  each-more nodes before now next n so is =
+      let test = stands block set in
+      is ∙ ap (λ (xs : List Root). xs ++ filter test (nodes n)) so ∙ append_assoc before (filter test (by_each nodes n)) (filter test (nodes n))
+      ∙ ap (λ (xs : List Root). before ++ xs) (sym (filter-append test (by_each nodes n) (nodes n)) ∙ ap (filter test) (pieces-more nodes n))
+
+  -- one more node
+  pub one-more : (make : ℕ → Root) (before now next : List Root) (node : Root) (n : ℕ)
+      → now ≡ before ++ standing block set (one_each make n) → next ≡ now ++ standing block set (node ∷ []) → node ≡ make n
+      → next ≡ before ++ standing block set (one_each make (n + 1))
+  one-more make before now next node n so is of =
+      each-more (λ i. make i ∷ []) before now next n so (is ∙ ap (λ (one : Root). now ++ standing block set (one ∷ [])) of)
+
+  pub roots-by-kind : roots_of block set ≡ ((((standing block set (scans_of block) ++ standing block set (index_scans_of block))
+      ++ standing block set (nests_of set)) ++ standing block set hashes) ++ standing block set merges) ++ standing block set index_loops
+  unfolding roots_of candidates
+  roots-by-kind =
+      let test = stands block set in
+      let before : (more kinds : List Root) (others : List Root) → filter test kinds ≡ others → filter test (kinds ++ more) ≡ others ++ filter test more =
+      λ more kinds others so. filter-append test kinds more ∙ ap (λ (xs : List Root). xs ++ filter test more) so in
+      before index_loops until_merges _
+      (before merges until_hashes _ (before hashes until_nests _ (before (nests_of set) until_index_scans _ (filter-append test (scans_of block) (index_scans_of block)))))

@@ -1,78 +1,71 @@
 -- All plans of a block, each once, in plan order.
-use Rattle.std.specs.Prelude.{◌≡◌, ◌↔◌, ℕ, zero, suc, ◌+◌, ◌-◌, ◌^◌, ◌++◌, ◌&&◌, Bool, Contains, List, [], ◌∷◌, bit_and, map, max, length, nat_eq, nat_le, slice_index_or, if◌then◌else◌}
+use Rattle.std.specs.Prelude.{◌≡◌, ◌↔◌, ℕ, zero, suc, ◌+◌, ◌-◌, ◌^◌, ◌++◌, Contains, List, [], ◌∷◌, filter, map, max, length, slice_index_or, if◌then◌else◌}
 use Rattle.std.specs.List.{flat_map, range_with_len, AllPairs}
 use Rattle.std.specs.declared.cmp.Ordering.TheVariants.{Less}
+use Rattle.query_block.specs.declared.edge.Edge.{Edge}
 use Rattle.query_block.specs.Blocks.{BlockTree, relation_at}
+use Rattle.query_block.specs.Meaning.{RelationSet}
 use Rattle.plan_tree.specs.declared.roots.Root.{Root}
 use Rattle.plan_tree.specs.declared.roots.Root.TheVariants as root
 use Rattle.plan_tree.specs.Plans.{PlanTree, Scan, IndexScan, Nest, Hash, Merge, IndexLoop}
-use Rattle.plan_tree.specs.Sets.{set_of, is_between}
-use Rattle.plan_tree.specs.Enumerated.{edge_at, column_on, is_indexed, has_usable, IsPlan}
+use Rattle.plan_tree.specs.Sets.{set_of}
+use Rattle.plan_tree.specs.Enumerated.{edge_at, IsPlan}
+use Rattle.plan_tree.specs.Roots.{stands}
 use Rattle.plan_tree.specs.Order.{plan_order_of}
-
--- a node alone where something holds, and else none
-abbrev pub one_where : (holds : Bool) → Root → List Root
-one_where holds node = if holds then node ∷ [] else []
-
--- whether a set without its left side is a right side: neither is empty, and they share no relation
-abbrev pub is_split : (set left : ℕ) → Bool
-is_split set left = nat_le 1 left && nat_eq (bit_and left (set - left)) 0
-
--- whether an edge of the block crosses the two sides
-abbrev pub is_split_by : BlockTree → (set edge left : ℕ) → Bool
-is_split_by block set edge left =
-    is_split set left && is_between (set_of left) (set_of (set - left)) (edge_at block.edges edge)
-
--- whether the right side is one relation, with an index on its column of the edge
-abbrev pub is_looked_up : BlockTree → (set edge left relation : ℕ) → Bool
-is_looked_up block set edge left relation =
-    nat_eq (set - left) (2 ^ relation) && is_indexed (relation_at block.relations relation) (column_on (edge_at block.edges edge) relation)
 
 -- one more than the greatest of some columns; 0 where there is none
 abbrev pub end_of_columns : List ℕ → ℕ
 end_of_columns [] = 0
 end_of_columns (column ∷ more) = max (column + 1) (end_of_columns more)
 
--- the outermost nodes of the plans of a set: of one kind
-abbrev pub scans_of : BlockTree → (set : ℕ) → List Root
-scans_of block set = flat_map (λ relation. one_where (nat_eq set (2 ^ relation)) (root.Scan relation)) (range_with_len 0 (length block.relations))
+-- the relation of an edge that isn't on the left, where the other one is
+abbrev pub far_end : Edge → (left : RelationSet) → ℕ
+far_end edge left = if left edge.left then edge.right else edge.left
 
-abbrev pub column_scans_of : BlockTree → (set relation : ℕ) → List Root
-column_scans_of block set relation =
-    let tree = relation_at block.relations relation in
-    flat_map
-    (λ column. one_where (nat_eq set (2 ^ relation) && is_indexed tree column && has_usable tree column) (root.IndexScan relation column))
-    (range_with_len 0 (end_of_columns tree.indexes))
+-- nodes for each number below an end, one after another
+abbrev pub by_each : (ℕ → List Root) → (end : ℕ) → List Root
+by_each nodes end = flat_map nodes (range_with_len 0 end)
 
-abbrev pub index_scans_of : BlockTree → (set : ℕ) → List Root
-index_scans_of block set = flat_map (column_scans_of block set) (range_with_len 0 (length block.relations))
+-- a node for each number below an end
+abbrev pub one_each : (ℕ → Root) → (end : ℕ) → List Root
+one_each node end = by_each (λ number. node number ∷ []) end
 
+-- the nodes that are tried: scans; index scans of a relation by each column up to the last indexed one, and of all
+abbrev pub scans_of : BlockTree → List Root
+scans_of block = one_each (λ relation. root.Scan relation) (length block.relations)
+
+abbrev pub column_scans : BlockTree → (relation : ℕ) → List Root
+column_scans block relation =
+    one_each (λ column. root.IndexScan relation column) (end_of_columns (relation_at block.relations relation).indexes)
+
+abbrev pub index_scans_of : BlockTree → List Root
+index_scans_of block = by_each (column_scans block) (length block.relations)
+
+-- nested loops with each left side; joins by each edge with each left side
 abbrev pub nests_of : (set : ℕ) → List Root
-nests_of set = flat_map (λ left. one_where (is_split set left) (root.Nest left)) (range_with_len 0 set)
+nests_of set = one_each (λ left. root.Nest left) set
 
--- the same by one edge
-abbrev pub hashes_by : BlockTree → (set edge : ℕ) → List Root
-hashes_by block set edge = flat_map (λ left. one_where (is_split_by block set edge left) (root.Hash edge left)) (range_with_len 0 set)
+abbrev pub joins_by : BlockTree → (join : (edge left : ℕ) → Root) → (set : ℕ) → List Root
+joins_by block join set = by_each (λ edge. one_each (join edge) set) (length block.edges)
 
-abbrev pub merges_by : BlockTree → (set edge : ℕ) → List Root
-merges_by block set edge = flat_map (λ left. one_where (is_split_by block set edge left) (root.Merge edge left)) (range_with_len 0 set)
+abbrev pub index_loop_by : BlockTree → (edge left : ℕ) → Root
+index_loop_by block edge left = root.IndexLoop edge left (far_end (edge_at block.edges edge) (set_of left))
 
--- the same by one edge with one left side
-abbrev pub loops_from : BlockTree → (set edge left : ℕ) → List Root
-loops_from block set edge left =
-    flat_map
-    (λ relation. one_where (is_split_by block set edge left && is_looked_up block set edge left relation) (root.IndexLoop edge left relation))
-    (range_with_len 0 (length block.relations))
+-- all of them for a set, in plan order: by their kinds, then by the edge, then by the left side
+unfoldable pub candidates : BlockTree → (set : ℕ) → List Root
+candidates block set =
+    scans_of block ++ index_scans_of block ++ nests_of set
+    ++ joins_by block (λ edge left. root.Hash edge left) set
+    ++ joins_by block (λ edge left. root.Merge edge left) set
+    ++ joins_by block (index_loop_by block) set
 
-abbrev pub loops_by : BlockTree → (set edge : ℕ) → List Root
-loops_by block set edge = flat_map (loops_from block set edge) (range_with_len 0 set)
+-- those of some nodes that may stand over a set
+abbrev pub standing : BlockTree → (set : ℕ) → List Root → List Root
+standing block set nodes = filter (stands block set) nodes
 
--- the outermost nodes of the plans of a set, in plan order: by their kinds, then by the edge, then by the left side
+-- the outermost nodes of the plans of a set, in plan order
 unfoldable pub roots_of : BlockTree → (set : ℕ) → List Root
-roots_of block set =
-    let edges = range_with_len 0 (length block.edges) in
-    scans_of block set ++ index_scans_of block set ++ nests_of set
-    ++ flat_map (hashes_by block set) edges ++ flat_map (merges_by block set) edges ++ flat_map (loops_by block set) edges
+roots_of block set = standing block set (candidates block set)
 
 -- each left plan with each right plan
 abbrev pub pairs_by : (PlanTree → PlanTree → PlanTree) → (lefts rights : List PlanTree) → List PlanTree

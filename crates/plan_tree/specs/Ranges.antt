@@ -1,5 +1,6 @@
 -- Ranges of words, and in which rows a column has words of a range.
-use Rattle.std.specs.Prelude.{◌≡◌, ◌≢◌, ℕ, ℤ, ◌&&◌, ◌||◌, not, Bool, List, int_le}
+use Rattle.std.specs.Prelude.{◌≡◌, ◌≢◌, ℕ, ℤ, ◌&&◌, ◌||◌, not, All, Bool, List, filter, int_le, FitsSigned}
+use Rattle.std.specs.Int.{w64}
 use Rattle.sql_values.specs.declared.column.ColumnType.{ColumnType}
 use Rattle.sql_values.specs.declared.op.Op.{Op}
 use Rattle.sql_values.specs.declared.op.Op.TheVariants.{Eq, Ne, Lt, Le, Gt, Ge}
@@ -9,7 +10,7 @@ use Rattle.sql_values.specs.Words.{word_of}
 use Rattle.sql_values.specs.Stored.{ValueRow}
 use Rattle.query_block.specs.Conditions.{FilterTree}
 use Rattle.query_block.specs.Truth.{value_at, truth_of}
-use Rattle.query_block.specs.Blocks.{kind_at, holds_texts, is_text}
+use Rattle.query_block.specs.Blocks.{kind_at, holds_texts, is_text, FitsColumns}
 use Rattle.query_block.specs.Picked.{IsStored, Picks}
 use Rattle.query_block.specs.Meaning.{is_true, meets_filter}
 use Rattle.plan_tree.specs.Usable.{is_usable}
@@ -47,6 +48,21 @@ NarrowsTo texts columns column old new conjunct =
     (row : ValueRow) → IsStored texts (kind_at columns column) (value_at row column)
     → is_in new (word_of texts (value_at row column)) ≡ (is_in old (word_of texts (value_at row column)) && passes columns column conjunct row)
 
+-- so it is in columns that fit the conjunct
+abbrev pub NarrowsBy : List (List ℕ) → (column : ℕ) → (old new : WordRange) → FilterTree → Type 0
+NarrowsBy texts column old new conjunct =
+    (columns : List ColumnType) → FitsColumns columns conjunct → NarrowsTo texts columns column old new conjunct
+
+-- of the words of 64 bits a new range has those of the old one that pass a test
+abbrev pub NarrowsWords : (old new : WordRange) → (ℤ → Bool) → Type 0
+NarrowsWords old new test = (word : ℤ) → FitsSigned w64 word → is_in new word ≡ (is_in old word && test word)
+
 -- a range has exactly the words of a column in rows that meet these conjuncts
 abbrev pub Finds : List (List ℕ) → List ColumnType → (column : ℕ) → WordRange → List FilterTree → Type 0
 Finds texts columns column range conjuncts = Picks texts columns column range.from range.to (meets_filter conjuncts)
+
+-- so it is, in columns that fit some conjuncts, of those that an index on the column can use
+abbrev pub FindsUsable : List (List ℕ) → (column : ℕ) → WordRange → List FilterTree → Type 0
+FindsUsable texts column range conjuncts =
+    (columns : List ColumnType) → All (FitsColumns columns) conjuncts
+    → Finds texts columns column range (filter (is_usable columns column) conjuncts)

@@ -1,9 +1,11 @@
 -- What each private function of the reader returns: the value at the front of a text and what follows it, or none. No
 -- public clause cites this file; the proofs tie it to the texts of plans in both directions.
 use Rattle.std.specs.Prelude.{ℕ, zero, suc, ◌≡◌, ◌+◌, ◌-◌, ◌*◌, ◌&&◌, Bool, List, [], ◌∷◌, Option, Some, None, option_and_then, Result, Ok, Err, length, nat_le, nat_eq, if◌then◌else◌}
+use Rattle.std.specs.Borrow.{Bor}
+use Rattle.plan_tree.specs.declared.plan.Plan.{Plan}
 use Rattle.plan_tree.specs.declared.read.PlanFault.{PlanFault}
 use Rattle.plan_tree.specs.declared.read.PlanFault.TheVariants as faults
-use Rattle.plan_tree.specs.Plans.{leaves_of, PlanTree, Scan, IndexScan, Nest, Hash, Merge, IndexLoop}
+use Rattle.plan_tree.specs.Plans.{leaves_of, plan_tree, PlanTree, Scan, IndexScan, Nest, Hash, Merge, IndexLoop}
 
 -- what a function returned, seen by view, is what reading gives, unless memory ran out
 abbrev pub FailsRead : {Y : Type 0} → PlanFault → Option Y → Type 0
@@ -13,6 +15,10 @@ FailsRead faults.NoMemory read = Unit {0}
 abbrev pub GivesRead : {X Y : Type 0} → (X → Y) → Result X PlanFault → Option Y → Type 0
 GivesRead view (Ok x) read = read ≡ Some (view x)
 GivesRead view (Err fault) read = FailsRead fault read
+
+-- the same of a plan and what follows it
+abbrev pub GivesPlan : Result (Plan × Bor (List ℕ)) PlanFault → Option (PlanTree × List ℕ) → Type 0
+GivesPlan result read = GivesRead (λ found. (plan_tree found.0, found.1.now)) result read
 
 -- reading from the front of a text: a value and what follows it
 abbrev pub TextReader : Type 0 → Type 0

@@ -5,11 +5,12 @@ ghost use Rattle.std.specs.List.{flat_map};
 ghost use Rattle.query_block.specs.Blocks.{block_tree, BlockTree};
 ghost use Rattle.plan_tree.specs.Plans.{plan_tree, PlanTree, IndexLoop as IndexLoopTree};
 ghost use Rattle.plan_tree.specs.AllPlans.{pairs_by, plans_at, plans_of, plans_over, trees_of, AreAllPlans};
-ghost use Rattle.plan_tree.specs.Listing.{joined_by, plan_count, HasLeftOf, IsLeftOf};
+ghost use Rattle.plan_tree.specs.Listing.{joined_by, lists_of, plan_count, trees, Adds, CountsFor, HasLeftOf, IsLeftOf};
 
 use crate::copies::copy;
 use crate::plan::Plan;
 use crate::roots::{Root, roots_of};
+use crate::subset::Subset;
 use query_block::Block;
 use std::alloc::{AllocError, Global};
 
@@ -46,8 +47,7 @@ fn count_pairs(counts: &[u128], set: u8, left: u8) -> u128
 fn count_with(counts: &[u128], set: u8, root: Root) -> u128
     requires length { length counts.now ≡ set }
     requires left { HasLeftOf root set }
-    ensures { (lists : List (List PlanTree)) → counts.now ≡ map plan_count lists
-        → result ≡ plan_count (trees_of (plans_at lists) set root) }
+    ensures { CountsFor counts.now result (λ plans. trees_of plans set root) }
 {
     match root {
         Root::Scan(_) => 1,
@@ -63,8 +63,7 @@ fn count_with(counts: &[u128], set: u8, root: Root) -> u128
 fn count_over(counts: &[u128], set: u8, roots: &[Root]) -> u128
     requires length { length counts.now ≡ set }
     requires left { All (λ root. HasLeftOf root set) roots.now }
-    ensures { (lists : List (List PlanTree)) → counts.now ≡ map plan_count lists
-        → result ≡ plan_count (flat_map (trees_of (plans_at lists) set) roots.now) }
+    ensures { CountsFor counts.now result (λ plans. flat_map (trees_of plans set) roots.now) }
 {
     let mut count = 0u128;
     for root in roots {
@@ -88,7 +87,7 @@ fn count_plans(alloc: Global, block: &Block) -> Result<u128, AllocError>
     let end = set_count(block);
     let mut counts = Vec::new(alloc);
     for set in 0..end {
-        let roots = roots_of(alloc, block, set)?;
+        let roots = roots_of(alloc, block, Subset::new(set))?;
         let count = count_over(&counts, set, &roots);
         counts.push(count)?;
     }
@@ -117,9 +116,8 @@ fn put_with(
     rights: &[Plan],
     into: &mut Vec<Plan>,
 ) -> Result<(), AllocError>
-    ensures { OnOk result (map plan_tree into.new.items
-        ≡ map plan_tree into.old.items
-        ++ map (joined_by root (plan_tree left.now)) (map plan_tree rights.now)) }
+    ensures { OnOk result (Adds into.old into.new
+        (map (joined_by root (plan_tree left.now)) (trees rights.now))) }
 {
     for right in rights {
         into.push(join_of(alloc, root, left, right)?)?;
@@ -135,9 +133,8 @@ fn put_pairs(
     rights: &[Plan],
     into: &mut Vec<Plan>,
 ) -> Result<(), AllocError>
-    ensures { OnOk result (map plan_tree into.new.items
-        ≡ map plan_tree into.old.items
-        ++ pairs_by (joined_by root) (map plan_tree lefts.now) (map plan_tree rights.now)) }
+    ensures { OnOk result (Adds into.old into.new
+        (pairs_by (joined_by root) (trees lefts.now) (trees rights.now))) }
 {
     for left in lefts {
         put_with(alloc, root, left, rights, into)?;
@@ -162,9 +159,8 @@ fn put_look_ups(
     relation: u8,
     into: &mut Vec<Plan>,
 ) -> Result<(), AllocError>
-    ensures { OnOk result (map plan_tree into.new.items
-        ≡ map plan_tree into.old.items
-        ++ map (λ left. IndexLoopTree edge left relation) (map plan_tree lefts.now)) }
+    ensures { OnOk result (Adds into.old into.new
+        (map (λ left. IndexLoopTree edge left relation) (trees lefts.now))) }
 {
     for left in lefts {
         into.push(look_up_of(alloc, edge, left, relation)?)?;
@@ -183,10 +179,8 @@ fn put_joins(
 ) -> Result<(), AllocError>
     requires length { length lists.now ≡ set }
     requires left { IsLeftOf left set }
-    ensures { let plans = plans_at (map (λ list. map plan_tree list.items) lists.now) in
-        OnOk result (map plan_tree into.new.items
-        ≡ map plan_tree into.old.items
-        ++ pairs_by (joined_by root) (plans left) (plans (set - left))) }
+    ensures { let plans = plans_at (lists_of lists.now) in OnOk result (Adds into.old into.new
+        (pairs_by (joined_by root) (plans left) (plans (set - left)))) }
 {
     put_pairs(
         alloc,
@@ -207,9 +201,8 @@ fn put_trees(
 ) -> Result<(), AllocError>
     requires length { length lists.now ≡ set }
     requires left { HasLeftOf root set }
-    ensures { OnOk result (map plan_tree into.new.items
-        ≡ map plan_tree into.old.items
-        ++ trees_of (plans_at (map (λ list. map plan_tree list.items) lists.now)) set root) }
+    ensures { OnOk result (Adds into.old into.new
+        (trees_of (plans_at (lists_of lists.now)) set root)) }
 {
     match root {
         Root::Scan(relation) => into.push(Plan::Scan(relation))?,
@@ -233,9 +226,9 @@ fn plans_over(
 ) -> Result<Vec<Plan>, AllocError>
     requires { length lists.now ≡ set }
     ensures { IfOk result (λ plans. map plan_tree plans.items
-        ≡ plans_over (block_tree block.now) (map (λ list. map plan_tree list.items) lists.now) set) }
+        ≡ plans_over (block_tree block.now) (lists_of lists.now) set) }
 {
-    let roots = roots_of(alloc, block, set)?;
+    let roots = roots_of(alloc, block, Subset::new(set))?;
     let mut plans = Vec::new(alloc);
     for root in &roots {
         put_trees(alloc, lists, set, *root, &mut plans)?;
@@ -261,7 +254,6 @@ fn list_plans(alloc: Global, block: &Block) -> Result<Vec<Plan>, AllocError>
 /// plan is made; the other error is want of memory.
 pub fn all_plans(alloc: Global, block: &Block, limit: u64) -> Result<Vec<Plan>, AllFault>
     ensures plans { IfOk result (λ plans. map plan_tree plans.items ≡ plans_of (block_tree block.now)) }
-    ensures all { IfOk result (λ plans. AreAllPlans (block_tree block.now) (map plan_tree plans.items)) }
     ensures few { OnOk result (length (plans_of (block_tree block.now)) ≤ limit) }
     ensures many { IfErr result (λ fault. fault ≡ AllFault.TooMany →
         limit < length (plans_of (block_tree block.now))) }

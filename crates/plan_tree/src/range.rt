@@ -1,7 +1,6 @@
 // The words of a column that an index on it has to look for: those that meet each conjunct of a filter that the index can
 // use. Of texts only one word is looked for.
-ghost use Rattle.std.specs.Prelude.{◌≡◌, ◌&&◌, ◌||◌, ℤ, List, All, true, not, map, filter, int_le, int_lt, FitsSigned};
-ghost use Rattle.std.specs.Int.{w64};
+ghost use Rattle.std.specs.Prelude.{◌≡◌, ◌&&◌, ◌||◌, ℤ, true, not, map, int_le, int_lt};
 ghost use Rattle.std.specs.Ordering.{int_cmp};
 ghost use Rattle.sql_values.specs.declared.column.ColumnType.{ColumnType};
 ghost use Rattle.sql_values.specs.declared.column.ColumnType.TheVariants.{Integer};
@@ -9,11 +8,11 @@ ghost use Rattle.sql_values.specs.declared.value.Value.{Value};
 ghost use Rattle.sql_values.specs.declared.value.Value.TheVariants as value;
 ghost use Rattle.sql_values.specs.declared.op.Op.TheVariants.{Eq, Le, Ge};
 ghost use Rattle.sql_values.specs.Truth.{comparison, holds};
-ghost use Rattle.query_block.specs.Blocks.{AreOperands, FitsColumns, holds_texts};
+ghost use Rattle.query_block.specs.Blocks.{holds_texts};
 ghost use Rattle.query_block.specs.Conditions.{filter_tree, Compare, Between};
 ghost use Rattle.query_block.specs.Meaning.{is_true};
-ghost use Rattle.plan_tree.specs.Usable.{is_range, is_usable};
-ghost use Rattle.plan_tree.specs.Ranges.{is_in, IsLiteralOf, Narrows, NarrowsTo, Finds};
+ghost use Rattle.plan_tree.specs.Usable.{is_range};
+ghost use Rattle.plan_tree.specs.Ranges.{is_in, FindsUsable, IsLiteralOf, Narrows, NarrowsBy, NarrowsWords};
 
 use query_block::{Condition, Operand};
 use sql_values::{ColumnType, Op, Texts, Value};
@@ -65,7 +64,7 @@ fn up_to(range: WordRange, word: i64) -> WordRange
 
 // Those past this word.
 fn past(range: WordRange, word: i64) -> WordRange
-    ensures { (w : ℤ) → FitsSigned w64 w → is_in result w ≡ (is_in range w && int_lt word w) }
+    ensures { NarrowsWords range result (λ w. int_lt word w) }
 {
     if word == i64::MAX {
         return NO_WORD;
@@ -75,7 +74,7 @@ fn past(range: WordRange, word: i64) -> WordRange
 
 // Those before this word.
 fn before(range: WordRange, word: i64) -> WordRange
-    ensures { (w : ℤ) → FitsSigned w64 w → is_in result w ≡ (is_in range w && int_lt w word) }
+    ensures { NarrowsWords range result (λ w. int_lt w word) }
 {
     if word == i64::MIN {
         return NO_WORD;
@@ -85,8 +84,8 @@ fn before(range: WordRange, word: i64) -> WordRange
 
 // Those that stand in this relation to a word. Nothing is left out where no range meets the operator.
 fn by_word(range: WordRange, op: Op, word: i64) -> WordRange
-    ensures { (w : ℤ) → FitsSigned w64 w
-        → is_in result w ≡ (is_in range w && (not (is_range Integer op) || holds op (int_cmp w word))) }
+    ensures { NarrowsWords range result
+        (λ w. not (is_range Integer op) || holds op (int_cmp w word)) }
 {
     match op {
         Op::Eq => up_to(from_on(range, word), word),
@@ -160,8 +159,7 @@ fn by_compare(
     right: &Operand,
     texts: &Texts,
 ) -> WordRange
-    ensures { (columns : List ColumnType) → AreOperands columns left.now right.now
-        → NarrowsTo texts.now columns column range result (Compare op left.now right.now) }
+    ensures { NarrowsBy texts.now column range result (Compare op left.now right.now) }
 {
     match left {
         Operand::Column(of) => match right {
@@ -194,9 +192,7 @@ fn by_between(
     high: &Operand,
     texts: &Texts,
 ) -> WordRange
-    ensures { (columns : List ColumnType) → AreOperands columns of.now low.now
-        → AreOperands columns of.now high.now
-        → NarrowsTo texts.now columns column range result (Between of.now low.now high.now) }
+    ensures { NarrowsBy texts.now column range result (Between of.now low.now high.now) }
 {
     match of {
         Operand::Literal(_) => range,
@@ -217,8 +213,7 @@ fn by_between(
 
 // The words of the rows that meet a conjunct, where an index on the column can use it.
 fn narrowed(range: WordRange, column: u8, conjunct: &Condition, texts: &Texts) -> WordRange
-    ensures { (columns : List ColumnType) → FitsColumns columns (filter_tree conjunct.now)
-        → NarrowsTo texts.now columns column range result (filter_tree conjunct.now) }
+    ensures { NarrowsBy texts.now column range result (filter_tree conjunct.now) }
 {
     match conjunct {
         Condition::Compare(op, left, right) => by_compare(range, column, *op, left, right, texts),
@@ -233,9 +228,7 @@ fn narrowed(range: WordRange, column: u8, conjunct: &Condition, texts: &Texts) -
 
 /// The words of a column in the rows that meet each conjunct of a filter that an index on the column can use.
 pub fn range_of(column: u8, conjuncts: &[Condition], texts: &Texts) -> WordRange
-    ensures { (columns : List ColumnType) → All (FitsColumns columns) (map filter_tree conjuncts.now)
-        → Finds texts.now columns column result
-        (filter (is_usable columns column) (map filter_tree conjuncts.now)) }
+    ensures { FindsUsable texts.now column result (map filter_tree conjuncts.now) }
 {
     let mut range = EVERY_WORD;
     for conjunct in conjuncts {

@@ -2,7 +2,7 @@
 // be read, and returns what it has read with what follows. Nothing of the text is copied.
 ghost use Rattle.std.specs.Prelude.{◌≡◌, ◌≤◌, IfOk, IfSome, IsErrOf, option_map};
 ghost use Rattle.plan_tree.specs.Plans.{plan_tree, PlanTree, Hash, Merge, IndexLoop};
-ghost use Rattle.plan_tree.specs.Reader.{GivesRead, after, digit_at, column_number_at, scan_at, index_scan_at, closed_at, sides_at, nest_at, join_at, plan_node_of, plan_node_at, plan_tree_at, is_whole};
+ghost use Rattle.plan_tree.specs.Reader.{GivesPlan, GivesRead, after, digit_at, column_number_at, scan_at, index_scan_at, closed_at, sides_at, nest_at, join_at, plan_node_of, plan_node_at, plan_tree_at, is_whole};
 ghost use Rattle.plan_tree.specs.Reading.{HasText};
 
 use crate::leaves::leaf_count;
@@ -157,7 +157,7 @@ fn sides<'s>(
 #[cycle(plan)]
 #[tactic(auto, unfolding(crate::specs::Reader::nest_at))]
 fn nest<'s>(alloc: Global, levels: u8, bytes: &'s [u8]) -> Result<(Plan, &'s [u8]), PlanFault>
-    ensures { GivesRead (λ found. (plan_tree found.0, found.1.now)) result
+    ensures { GivesPlan result
         (nest_at (plan_tree_at levels) bytes.now) }
 {
     let ((left, right), rest) = sides(alloc, levels, bytes)?;
@@ -168,7 +168,7 @@ fn nest<'s>(alloc: Global, levels: u8, bytes: &'s [u8]) -> Result<(Plan, &'s [u8
 #[cycle(plan)]
 #[tactic(auto, unfolding(crate::specs::Reader::join_at))]
 fn hash<'s>(alloc: Global, levels: u8, bytes: &'s [u8]) -> Result<(Plan, &'s [u8]), PlanFault>
-    ensures { GivesRead (λ found. (plan_tree found.0, found.1.now)) result
+    ensures { GivesPlan result
         (join_at Hash (plan_tree_at levels) (plan_tree_at levels) bytes.now) }
 {
     let (edge, rest) = edge_at(bytes)?;
@@ -180,7 +180,7 @@ fn hash<'s>(alloc: Global, levels: u8, bytes: &'s [u8]) -> Result<(Plan, &'s [u8
 #[cycle(plan)]
 #[tactic(auto, unfolding(crate::specs::Reader::join_at))]
 fn merge<'s>(alloc: Global, levels: u8, bytes: &'s [u8]) -> Result<(Plan, &'s [u8]), PlanFault>
-    ensures { GivesRead (λ found. (plan_tree found.0, found.1.now)) result
+    ensures { GivesPlan result
         (join_at Merge (plan_tree_at levels) (plan_tree_at levels) bytes.now) }
 {
     let (edge, rest) = edge_at(bytes)?;
@@ -192,7 +192,7 @@ fn merge<'s>(alloc: Global, levels: u8, bytes: &'s [u8]) -> Result<(Plan, &'s [u
 #[cycle(plan)]
 #[tactic(auto, unfolding(crate::specs::Reader::join_at, crate::specs::Reader::sides_at))]
 fn index_loop<'s>(alloc: Global, levels: u8, bytes: &'s [u8]) -> Result<(Plan, &'s [u8]), PlanFault>
-    ensures { GivesRead (λ found. (plan_tree found.0, found.1.now)) result
+    ensures { GivesPlan result
         (join_at IndexLoop (plan_tree_at levels) (digit_at 5) bytes.now) }
 {
     let (edge, rest) = edge_at(bytes)?;
@@ -211,7 +211,7 @@ fn node_of<'s>(
     letter: u8,
     bytes: &'s [u8],
 ) -> Result<(Plan, &'s [u8]), PlanFault>
-    ensures { GivesRead (λ found. (plan_tree found.0, found.1.now)) result
+    ensures { GivesPlan result
         (plan_node_of (plan_tree_at levels) letter bytes.now) }
 {
     match letter {
@@ -229,7 +229,7 @@ fn node_of<'s>(
 #[cycle(plan)]
 #[tactic(auto, unfolding(crate::specs::Reader::plan_tree_at, crate::specs::Reader::plan_node_at))]
 fn plan_at<'s>(alloc: Global, levels: u8, bytes: &'s [u8]) -> Result<(Plan, &'s [u8]), PlanFault>
-    ensures { GivesRead (λ found. (plan_tree found.0, found.1.now)) result
+    ensures { GivesPlan result
         (plan_tree_at levels bytes.now) }
 {
     if levels == 0 {

@@ -1,11 +1,14 @@
 // The outermost nodes of plans, and those of all plans of a set of relations.
-ghost use Rattle.std.specs.Prelude.{◌≡◌, ◌<◌, ◌≤◌, ◌++◌, ◌&&◌, ◌^◌, IfOk, OnOk, length, nat_eq};
-ghost use Rattle.std.specs.List.{flat_map, range_with_len};
-ghost use Rattle.query_block.specs.Blocks.{block_tree, relation_at};
-ghost use Rattle.plan_tree.specs.Enumerated.{has_usable, is_indexed};
-ghost use Rattle.plan_tree.specs.AllPlans.{column_scans_of, end_of_columns, hashes_by, index_scans_of, is_looked_up, is_split, is_split_by, loops_by, loops_from, merges_by, nests_of, one_where, roots_of, scans_of};
+ghost use Rattle.std.specs.Prelude.{◌≡◌, ◌↔◌, ◌<◌, ◌≤◌, ◌∷◌, [], IfOk, IsTrue, OnOk, length};
+ghost use Rattle.query_block.specs.Blocks.{block_tree};
+ghost use Rattle.plan_tree.specs.Roots.{IsLookedUp, Stands};
+ghost use Rattle.plan_tree.specs.declared.roots.Root.TheVariants as root;
+ghost use Rattle.plan_tree.specs.AllPlans.{column_scans, end_of_columns, far_end, index_scans_of, nests_of, roots_of, scans_of};
+ghost use Rattle.plan_tree.specs.Enumerated.{edge_at};
+ghost use Rattle.plan_tree.specs.Sets.{set_of};
+ghost use Rattle.plan_tree.specs.Listing.{join_by, joins_at, joins_of, Puts};
 
-use crate::rules::{has_usable_on, is_indexed};
+use crate::rules::{is_indexed, is_scannable};
 use crate::subset::{Subset, column_of_edge, is_crossed};
 use query_block::Block;
 use std::alloc::{AllocError, Global};
@@ -28,43 +31,68 @@ pub enum Root {
     IndexLoop(u8, u8, u8),
 }
 
-// Puts a node at the end where it holds.
-fn push_where(into: &mut Vec<Root>, holds: bool, node: Root) -> Result<(), AllocError>
-    ensures { OnOk result (into.new.items ≡ into.old.items ++ one_where holds node) }
+/// The kinds of joins by an edge.
+#[derive(Clone, Copy, PartialEq, Eq)]
+pub(crate) enum EdgeJoin {
+    Hash,
+    Merge,
+    IndexLoop,
+}
+
+// Whether the block has a relation of this number, and the set is that relation alone.
+fn is_alone(block: &Block, set: Subset, relation: u8) -> bool
+    ensures { IsTrue result ↔ Stands (block_tree block.now) (root.Scan relation) set }
 {
-    if holds {
+    (relation as usize) < block.relations().len() && set.number() == Subset::one(relation).number()
+}
+
+// Whether the set has two sides, and the edge exists and crosses them.
+fn is_joined(block: &Block, set: Subset, edge: u8, left: Subset) -> bool
+    ensures { IsTrue result ↔ Stands (block_tree block.now) (root.Hash edge left) set }
+{
+    left.splits(set)
+        && (edge as usize) < block.edges().len()
+        && is_crossed(block, edge, left, set.without(left))
+}
+
+// Whether the right side is one relation of the block, with an index on its column of the edge.
+fn is_looked_up(block: &Block, edge: u8, right: Subset, relation: u8) -> bool
+    requires { edge < length block.now.edges }
+    ensures { IsTrue result ↔ IsLookedUp (block_tree block.now) edge right relation }
+{
+    is_alone(block, right, relation)
+        && is_indexed(block, relation, column_of_edge(block, edge, relation))
+}
+
+// Whether a node may be the outermost one of a plan of the set.
+fn stands(block: &Block, set: Subset, node: Root) -> bool
+    ensures { IsTrue result ↔ Stands (block_tree block.now) node set }
+{
+    match node {
+        Root::Scan(relation) => is_alone(block, set, relation),
+        Root::IndexScan(relation, column) => {
+            is_alone(block, set, relation) && is_scannable(block, relation, column)
+        }
+        Root::Nest(left) => Subset::new(left).splits(set),
+        Root::Hash(edge, left) | Root::Merge(edge, left) => {
+            is_joined(block, set, edge, Subset::new(left))
+        }
+        Root::IndexLoop(edge, left, relation) => {
+            let left = Subset::new(left);
+            is_joined(block, set, edge, left)
+                && is_looked_up(block, edge, set.without(left), relation)
+        }
+    }
+}
+
+// Puts a node at the end where it may stand over the set.
+fn put(block: &Block, set: Subset, node: Root, into: &mut Vec<Root>) -> Result<(), AllocError>
+    ensures { OnOk result (Puts (block_tree block.now) set into.old into.new (λ _. node ∷ [])) }
+{
+    if stands(block, set, node) {
         into.push(node)?;
     }
     Ok(())
-}
-
-// Whether a set without its left side is a right side.
-fn is_split(set: u8, left: u8) -> bool
-    requires { left ≤ set }
-    ensures { result ≡ is_split set left }
-{
-    left != 0 && left & (set - left) == 0
-}
-
-// Whether an edge crosses the two sides.
-fn is_split_by(block: &Block, set: u8, edge: u8, left: u8) -> bool
-    requires edge { edge < length block.now.edges }
-    requires left { left ≤ set }
-    ensures { result ≡ is_split_by (block_tree block.now) set edge left }
-{
-    is_split(set, left) && is_crossed(block, edge, Subset::new(left), Subset::new(set - left))
-}
-
-// Whether the right side is one relation, with an index on its column of the edge.
-fn is_looked_up(block: &Block, set: u8, edge: u8, left: u8, relation: u8) -> bool
-    requires edge { edge < length block.now.edges }
-    requires left { left ≤ set }
-    requires relation { relation < length block.now.relations }
-    requires few { relation < 8 }
-    ensures { result ≡ is_looked_up (block_tree block.now) set edge left relation }
-{
-    set - left == Subset::one(relation).number()
-        && is_indexed(block, relation, column_of_edge(block, edge, relation))
 }
 
 // One more than the greatest of some columns; 0 where there is none.
@@ -80,61 +108,36 @@ fn end_of_columns(columns: &[u8]) -> usize
 }
 
 // Puts the scans at the end.
-fn put_scans(block: &Block, set: u8, into: &mut Vec<Root>) -> Result<(), AllocError>
-    ensures { OnOk result (into.new.items ≡ into.old.items ++ scans_of (block_tree block.now) set) }
+fn put_scans(block: &Block, set: Subset, into: &mut Vec<Root>) -> Result<(), AllocError>
+    ensures { OnOk result (Puts (block_tree block.now) set into.old into.new scans_of) }
 {
     for relation in 0..block.relations().len() {
-        let relation = relation as u8;
-        push_where(
-            into,
-            set == Subset::one(relation).number(),
-            Root::Scan(relation),
-        )?;
+        put(block, set, Root::Scan(relation as u8), into)?;
     }
     Ok(())
-}
-
-// Whether the set is one relation, with an index on a column by which some conjunct finds rows.
-fn is_found(block: &Block, set: u8, relation: u8, column: u8) -> bool
-    requires relation { relation < length block.now.relations }
-    requires few { relation < 8 }
-    ensures { let tree = relation_at (block_tree block.now).relations relation in result
-        ≡ (nat_eq set (2 ^ relation) && is_indexed tree column && has_usable tree column) }
-{
-    if set != Subset::one(relation).number() || !is_indexed(block, relation, column) {
-        return false;
-    }
-    has_usable_on(block, relation, column)
 }
 
 // Puts the index scans of one relation at the end.
 fn put_column_scans(
     block: &Block,
-    set: u8,
+    set: Subset,
     relation: u8,
     into: &mut Vec<Root>,
 ) -> Result<(), AllocError>
-    requires relation { relation < length block.now.relations }
-    requires few { relation < 8 }
-    ensures { OnOk result (into.new.items
-        ≡ into.old.items ++ column_scans_of (block_tree block.now) set relation) }
+    requires { relation < length block.now.relations }
+    ensures { OnOk result
+        (Puts (block_tree block.now) set into.old into.new (λ b. column_scans b relation)) }
 {
     let end = end_of_columns(block.relations()[relation as usize].indexes.as_slice());
     for column in 0..end {
-        let column = column as u8;
-        push_where(
-            into,
-            is_found(block, set, relation, column),
-            Root::IndexScan(relation, column),
-        )?;
+        put(block, set, Root::IndexScan(relation, column as u8), into)?;
     }
     Ok(())
 }
 
 // Puts the index scans at the end.
-fn put_index_scans(block: &Block, set: u8, into: &mut Vec<Root>) -> Result<(), AllocError>
-    ensures { OnOk result (into.new.items
-        ≡ into.old.items ++ index_scans_of (block_tree block.now) set) }
+fn put_index_scans(block: &Block, set: Subset, into: &mut Vec<Root>) -> Result<(), AllocError>
+    ensures { OnOk result (Puts (block_tree block.now) set into.old into.new index_scans_of) }
 {
     for relation in 0..block.relations().len() {
         put_column_scans(block, set, relation as u8, into)?;
@@ -143,110 +146,86 @@ fn put_index_scans(block: &Block, set: u8, into: &mut Vec<Root>) -> Result<(), A
 }
 
 // Puts the nested loops at the end.
-fn put_nests(set: u8, into: &mut Vec<Root>) -> Result<(), AllocError>
-    ensures { OnOk result (into.new.items ≡ into.old.items ++ nests_of set) }
+fn put_nests(block: &Block, set: Subset, into: &mut Vec<Root>) -> Result<(), AllocError>
+    ensures { OnOk result (Puts (block_tree block.now) set into.old into.new (λ _. nests_of set)) }
 {
-    for left in 0..set {
-        push_where(into, is_split(set, left), Root::Nest(left))?;
+    for left in 0..set.number() {
+        put(block, set, Root::Nest(left), into)?;
     }
     Ok(())
 }
 
-// Puts the hash joins by an edge at the end.
-fn put_hashes(block: &Block, set: u8, edge: u8, into: &mut Vec<Root>) -> Result<(), AllocError>
+// The relation of an edge that isn't on the left, where the other one is.
+fn far_end(block: &Block, edge: u8, left: Subset) -> u8
     requires { edge < length block.now.edges }
-    ensures { OnOk result (into.new.items
-        ≡ into.old.items ++ hashes_by (block_tree block.now) set edge) }
+    ensures { result ≡ far_end (edge_at block.now.edges edge) (set_of left) }
 {
-    for left in 0..set {
-        push_where(
-            into,
-            is_split_by(block, set, edge, left),
-            Root::Hash(edge, left),
-        )?;
+    let edge = block.edges()[edge as usize];
+    if left.has(edge.left) {
+        edge.right
+    } else {
+        edge.left
     }
-    Ok(())
 }
 
-// Puts the merge joins by an edge at the end.
-fn put_merges(block: &Block, set: u8, edge: u8, into: &mut Vec<Root>) -> Result<(), AllocError>
+// The join of a kind by an edge with a left side.
+fn join_by(block: &Block, kind: EdgeJoin, edge: u8, left: u8) -> Root
     requires { edge < length block.now.edges }
-    ensures { OnOk result (into.new.items
-        ≡ into.old.items ++ merges_by (block_tree block.now) set edge) }
+    ensures { result ≡ join_by (block_tree block.now) kind edge left }
 {
-    for left in 0..set {
-        push_where(
-            into,
-            is_split_by(block, set, edge, left),
-            Root::Merge(edge, left),
-        )?;
+    match kind {
+        EdgeJoin::Hash => Root::Hash(edge, left),
+        EdgeJoin::Merge => Root::Merge(edge, left),
+        EdgeJoin::IndexLoop => {
+            Root::IndexLoop(edge, left, far_end(block, edge, Subset::new(left)))
+        }
     }
-    Ok(())
 }
 
-// Puts the index loops by an edge with a left side at the end.
-fn put_loops_from(
+// Puts the joins of a kind by an edge at the end.
+fn put_joins(
     block: &Block,
-    set: u8,
+    set: Subset,
+    kind: EdgeJoin,
     edge: u8,
-    left: u8,
     into: &mut Vec<Root>,
 ) -> Result<(), AllocError>
-    requires edge { edge < length block.now.edges }
-    requires left { left ≤ set }
-    ensures { OnOk result (into.new.items
-        ≡ into.old.items ++ loops_from (block_tree block.now) set edge left) }
-{
-    let crosses = is_split_by(block, set, edge, left);
-    for relation in 0..block.relations().len() {
-        let relation = relation as u8;
-        let holds = crosses && is_looked_up(block, set, edge, left, relation);
-        push_where(into, holds, Root::IndexLoop(edge, left, relation))?;
-    }
-    Ok(())
-}
-
-// Puts the index loops by an edge at the end.
-fn put_loops(block: &Block, set: u8, edge: u8, into: &mut Vec<Root>) -> Result<(), AllocError>
     requires { edge < length block.now.edges }
-    ensures { OnOk result (into.new.items
-        ≡ into.old.items ++ loops_by (block_tree block.now) set edge) }
+    ensures { OnOk result
+        (Puts (block_tree block.now) set into.old into.new (λ b. joins_at b kind set edge)) }
 {
-    for left in 0..set {
-        put_loops_from(block, set, edge, left, into)?;
+    for left in 0..set.number() {
+        put(block, set, join_by(block, kind, edge, left), into)?;
     }
     Ok(())
 }
 
-// Puts the joins by edges at the end, one kind after another.
-fn put_edge_joins(block: &Block, set: u8, into: &mut Vec<Root>) -> Result<(), AllocError>
-    ensures { OnOk result (into.new.items
-        ≡ ((into.old.items
-        ++ flat_map (hashes_by (block_tree block.now) set) (range_with_len 0 (length block.now.edges)))
-        ++ flat_map (merges_by (block_tree block.now) set) (range_with_len 0 (length block.now.edges)))
-        ++ flat_map (loops_by (block_tree block.now) set) (range_with_len 0 (length block.now.edges))) }
+// Puts the joins of a kind by each edge at the end.
+fn put_edge_joins(
+    block: &Block,
+    set: Subset,
+    kind: EdgeJoin,
+    into: &mut Vec<Root>,
+) -> Result<(), AllocError>
+    ensures { OnOk result
+        (Puts (block_tree block.now) set into.old into.new (λ b. joins_of b kind set)) }
 {
-    let edges = block.edges().len();
-    for edge in 0..edges {
-        put_hashes(block, set, edge as u8, into)?;
-    }
-    for edge in 0..edges {
-        put_merges(block, set, edge as u8, into)?;
-    }
-    for edge in 0..edges {
-        put_loops(block, set, edge as u8, into)?;
+    for edge in 0..block.edges().len() {
+        put_joins(block, set, kind, edge as u8, into)?;
     }
     Ok(())
 }
 
 /// The outermost nodes of the plans of a set, in plan order. An error is want of memory.
-pub(crate) fn roots_of(alloc: Global, block: &Block, set: u8) -> Result<Vec<Root>, AllocError>
+pub(crate) fn roots_of(alloc: Global, block: &Block, set: Subset) -> Result<Vec<Root>, AllocError>
     ensures { IfOk result (λ roots. roots.items ≡ roots_of (block_tree block.now) set) }
 {
     let mut roots = Vec::new(alloc);
     put_scans(block, set, &mut roots)?;
     put_index_scans(block, set, &mut roots)?;
-    put_nests(set, &mut roots)?;
-    put_edge_joins(block, set, &mut roots)?;
+    put_nests(block, set, &mut roots)?;
+    put_edge_joins(block, set, EdgeJoin::Hash, &mut roots)?;
+    put_edge_joins(block, set, EdgeJoin::Merge, &mut roots)?;
+    put_edge_joins(block, set, EdgeJoin::IndexLoop, &mut roots)?;
     Ok(roots)
 }

@@ -3,7 +3,7 @@
 ghost use Rattle.std.specs.Prelude.{ℕ, ◌≡◌, ◌↔◌, ◌<◌, ◌≤◌, IsTrue, length};
 ghost use Rattle.query_block.specs.Blocks.{block_tree, relation_at};
 ghost use Rattle.plan_tree.specs.Plans.{plan_tree, has_leaf};
-ghost use Rattle.plan_tree.specs.Enumerated.{AreApart, Crosses, IsIndexed, HasUsable, IsLookUp, IsScannable, IsSubPlan, IsPlan};
+ghost use Rattle.plan_tree.specs.Enumerated.{AreApart, Crosses, IsIndexed, HasUsable, IsLookUp, IsScannable, IsSubPlan, IsPlan, JoinsAll};
 ghost use Rattle.plan_tree.specs.Sets.{is_between};
 
 use crate::leaves::{has_leaf, share_leaf};
@@ -40,8 +40,8 @@ pub(crate) fn has_usable_on(block: &Block, relation: u8, column: u8) -> bool
     has_usable(found.columns.as_slice(), column, found.filter.as_slice())
 }
 
-// Whether a relation may be found by the index on a column.
-fn is_scannable(block: &Block, relation: u8, column: u8) -> bool
+/// Whether a relation may be found by the index on a column.
+pub(crate) fn is_scannable(block: &Block, relation: u8, column: u8) -> bool
     ensures { IsTrue result ↔ IsScannable (block_tree block.now) relation column }
 {
     if !is_relation(block, relation) || !is_indexed(block, relation, column) {
@@ -108,8 +108,7 @@ fn is_sub_plan(block: &Block, p: &Plan) -> bool
 // Whether a tree joins all relations of which there are so many.
 fn joins_all(p: &Plan, relations: usize) -> bool
     requires { relations ≤ 8 }
-    ensures { IsTrue result ↔ ((relation : ℕ) → relation < relations
-        → IsTrue (has_leaf (plan_tree p.now) relation)) }
+    ensures { IsTrue result ↔ JoinsAll (plan_tree p.now) relations }
 {
     for relation in 0..relations {
         if !has_leaf(p, relation as u8) {

@@ -58,6 +58,13 @@ impl Subset {
         }
     }
 
+    /// Whether this is the left side of a greater set: what it leaves of that shares no relation with it.
+    pub fn splits(self, whole: Subset) -> bool
+        ensures { IsTrue result ↔ IsSplit self whole }
+    {
+        self.bits != 0 && self.bits < whole.bits && self.bits & (whole.bits - self.bits) == 0
+    }
+
     /// The right side of the set, where this is its left one: the relations that aren't in that.
     pub fn without(self, left: Subset) -> Subset
         requires { IsSplit left self }

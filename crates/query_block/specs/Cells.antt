@@ -7,6 +7,8 @@ use Rattle.sql_values.specs.Stored.{ValueRow, values_of, AreWordsOf}
 use Rattle.query_block.specs.declared.cell.Cell.{Cell}
 use Rattle.query_block.specs.declared.cell.Cell.TheVariants as cell
 use Rattle.query_block.specs.declared.row.Row.{Row}
+use Rattle.query_block.specs.Conditions.{FilterTree}
+use Rattle.query_block.specs.Blocks.{FitsColumns}
 
 -- the text of a code
 abbrev pub text_at : List (List ℕ) → ℤ → List ℕ
@@ -33,3 +35,8 @@ row_values row = values_of row.texts.now row.columns.now row.words.now
 -- the words may stand in a row of these columns
 abbrev pub IsRow : Row → Type 0
 IsRow row = AreWordsOf row.texts.now row.columns.now row.words.now
+
+-- so they may, and a condition fits the columns: its truth on the row may be asked for
+pub record FitsRow (of : Row) (tree : FilterTree) : Type 0 where
+  pub row : IsRow of
+  pub fits : FitsColumns of.columns.now tree

@@ -1,9 +1,9 @@
 // The truth of a condition on a row. It calls itself for a nested condition alone: a chain is a loop, however long.
 ghost use Rattle.std.specs.Prelude.{◌≡◌, All, map};
 ghost use Rattle.sql_values.specs.Stored.{values_of, AreWordsOf};
-ghost use Rattle.query_block.specs.Conditions.{filter_tree, chain};
-ghost use Rattle.query_block.specs.Blocks.{FitsColumns, FitColumns};
-ghost use Rattle.query_block.specs.Cells.{row_values, IsRow};
+ghost use Rattle.query_block.specs.Conditions.{filter_tree, chain, And, Or};
+ghost use Rattle.query_block.specs.Blocks.{FitsColumns};
+ghost use Rattle.query_block.specs.Cells.{row_values, FitsRow};
 ghost use Rattle.query_block.specs.Truth.{truth_of, truth_of_all, truth_of_any};
 ghost use Rattle.query_block.specs.Meaning.{meets_filter};
 
@@ -15,8 +15,7 @@ use sql_values::{ColumnType, Texts, Truth, and, not, or};
 // The truth of a condition.
 #[cycle(truth)]
 fn truth_on(condition: &Condition, row: &Row<'_>) -> Truth
-    requires row { IsRow row.now }
-    requires condition { FitsColumns row.now.columns.now (filter_tree condition.now) }
+    requires { FitsRow row.now (filter_tree condition.now) }
     ensures { result ≡ truth_of (filter_tree condition.now) (row_values row.now) }
 {
     match condition {
@@ -33,8 +32,7 @@ fn truth_on(condition: &Condition, row: &Row<'_>) -> Truth
 // The truth of a AND b AND .., up to the first that is false.
 #[cycle(truth)]
 fn truth_of_all(parts: &[Condition], row: &Row<'_>) -> Truth
-    requires row { IsRow row.now }
-    requires parts { FitColumns row.now.columns.now (chain (map filter_tree parts.now)) }
+    requires { FitsRow row.now (And (chain (map filter_tree parts.now))) }
     ensures { result ≡ truth_of_all (chain (map filter_tree parts.now)) (row_values row.now) }
 {
     let mut found = Truth::True;
@@ -50,8 +48,7 @@ fn truth_of_all(parts: &[Condition], row: &Row<'_>) -> Truth
 // The truth of a OR b OR .., up to the first that is true.
 #[cycle(truth)]
 fn truth_of_any(parts: &[Condition], row: &Row<'_>) -> Truth
-    requires row { IsRow row.now }
-    requires parts { FitColumns row.now.columns.now (chain (map filter_tree parts.now)) }
+    requires { FitsRow row.now (Or (chain (map filter_tree parts.now))) }
     ensures { result ≡ truth_of_any (chain (map filter_tree parts.now)) (row_values row.now) }
 {
     let mut found = Truth::False;

@@ -1,11 +1,11 @@
 // The predicates on operands of a row. Nothing here takes memory or calls itself.
-ghost use Rattle.std.specs.Prelude.{◌≡◌, ◌<◌, All, length};
+ghost use Rattle.std.specs.Prelude.{◌≡◌};
 ghost use Rattle.sql_values.specs.Words.{IsWord, value_of};
-ghost use Rattle.sql_values.specs.Truth.{comparison, truth_and, certain, is_null, AreComparable};
-ghost use Rattle.sql_values.specs.declared.op.Op.TheVariants.{Ge, Le};
-ghost use Rattle.query_block.specs.Blocks.{IsOperand, AreOperands, kind_at};
-ghost use Rattle.query_block.specs.Cells.{cell_value, row_values, IsCell, IsRow};
-ghost use Rattle.query_block.specs.Truth.{operand_value, one_of, value_at};
+ghost use Rattle.sql_values.specs.Truth.{comparison, AreComparable};
+ghost use Rattle.query_block.specs.Blocks.{IsOperand, kind_at};
+ghost use Rattle.query_block.specs.Cells.{cell_value, row_values, FitsRow, IsCell, IsRow};
+ghost use Rattle.query_block.specs.Conditions.{Compare, Between, OneOf, IsNull};
+ghost use Rattle.query_block.specs.Truth.{operand_value, truth_of, value_at};
 
 use crate::cell::{Cell, compare_cells};
 use crate::condition::Operand;
@@ -31,8 +31,7 @@ fn cell_of<'a>(kind: ColumnType, word: i64, texts: &Texts) -> Cell<'a>
 // The cell of a column.
 #[inline(always)]
 fn column_cell<'a>(column: u8, row: &Row<'_>) -> Cell<'a>
-    requires row { IsRow row.now }
-    requires column { column < length row.now.columns.now }
+    requires { FitsRow row.now (IsNull column) }
     ensures is { IsCell row.now.texts.now result }
     ensures value { cell_value row.now.texts.now result ≡ value_at (row_values row.now) column }
 {
@@ -75,22 +74,16 @@ fn compare_with(op: Op, left: Cell<'_>, right: &Operand, row: &Row<'_>) -> Truth
 
 /// Compares two operands (SQL-92, 8.2).
 pub(crate) fn compare(op: Op, left: &Operand, right: &Operand, row: &Row<'_>) -> Truth
-    requires row { IsRow row.now }
-    requires operands { AreOperands row.now.columns.now left.now right.now }
-    ensures { let value = operand_value (row_values row.now) in
-        result ≡ comparison op (value left.now) (value right.now) }
+    requires { FitsRow row.now (Compare op left.now right.now) }
+    ensures { result ≡ truth_of (Compare op left.now right.now) (row_values row.now) }
 {
     compare_with(op, operand_cell(left, row), right, row)
 }
 
 /// Whether an operand lies between two others (SQL-92, 8.3). The upper one is left alone where the lower one decides.
 pub(crate) fn between(of: &Operand, low: &Operand, high: &Operand, row: &Row<'_>) -> Truth
-    requires row { IsRow row.now }
-    requires low { AreOperands row.now.columns.now of.now low.now }
-    requires high { AreOperands row.now.columns.now of.now high.now }
-    ensures { let value = operand_value (row_values row.now) in
-        result ≡ truth_and (comparison Ge (value of.now) (value low.now))
-        (comparison Le (value of.now) (value high.now)) }
+    requires { FitsRow row.now (Between of.now low.now high.now) }
+    ensures { result ≡ truth_of (Between of.now low.now high.now) (row_values row.now) }
 {
     let above = compare(Op::Ge, of, low, row);
     if above == Truth::False {
@@ -101,11 +94,8 @@ pub(crate) fn between(of: &Operand, low: &Operand, high: &Operand, row: &Row<'_>
 
 /// Whether an operand is one of others (SQL-92, 8.4), up to the first that is equal to it.
 pub(crate) fn one_of(of: &Operand, operands: &[Operand], row: &Row<'_>) -> Truth
-    requires row { IsRow row.now }
-    requires of { IsOperand row.now.columns.now of.now }
-    requires operands { All (AreOperands row.now.columns.now of.now) operands.now }
-    ensures { let values = row_values row.now in
-        result ≡ one_of values (operand_value values of.now) operands.now }
+    requires { FitsRow row.now (OneOf of.now operands.now) }
+    ensures { result ≡ truth_of (OneOf of.now operands.now) (row_values row.now) }
 {
     let cell = operand_cell(of, row);
     let mut found = Truth::False;
@@ -120,9 +110,8 @@ pub(crate) fn one_of(of: &Operand, operands: &[Operand], row: &Row<'_>) -> Truth
 
 /// Whether a column is NULL (SQL-92, 8.6).
 pub(crate) fn is_null(column: u8, row: &Row<'_>) -> Truth
-    requires row { IsRow row.now }
-    requires column { column < length row.now.columns.now }
-    ensures { result ≡ certain (is_null (value_at (row_values row.now) column)) }
+    requires { FitsRow row.now (IsNull column) }
+    ensures { result ≡ truth_of (IsNull column) (row_values row.now) }
 {
     match column_cell(column, row) {
         Cell::Null => Truth::True,

@@ -4,7 +4,7 @@ use Rattle.std.proofs.lemmas.List.{get_or_read}
 use Rattle.std.proofs.lemmas.List.Elements.{All-same}
 use Rattle.query_block.specs.Blocks.{block_tree}
 use Rattle.plan_tree.specs.declared.roots.Root.{Root}
-use Rattle.plan_tree.specs.AllPlans.{plans_at, plans_below, trees_of}
+use Rattle.plan_tree.specs.AllPlans.{plans_at, plans_below, roots_of, trees_of}
 use Rattle.plan_tree.specs.Listing.{plan_count, HasLeftOf}
 use Rattle.plan_tree.proofs.LeftSides.{left-sides}
 use Rattle.plan_tree.proofs.PlanCounts.{count-whole, counts-more, length-counts}
@@ -20,7 +20,7 @@ count_over-count-requires-clause-length c =
 
 pub count_over-count-requires-clause-left : goal.count_over-count-requires-clause-left
 count_over-count-requires-clause-left c =
-    All-same (λ node. HasLeftOf node c.loop-set.set) _ _ (c.deref-in-loop-set.ensures.value ∙ c.in_ok-roots.ensures)
+    All-same (λ node. HasLeftOf node c.loop-set.set) _ _ (c.deref-in-loop-set.ensures.value ∙ c.in_ok-roots.ensures ∙ ap (roots_of (block_tree c.args.block.now)) c.new.ensures)
     (left-sides (block_tree c.args.block.now) c.loop-set.set)
 
 pub loop-set-preserved : goal.loop-set-preserved
@@ -30,7 +30,7 @@ loop-set-preserved c =
     counts-more block _ _ c.loop-set.set _ c.loop-set.invariant c.in_ok-push.ensures.items
     (c.count_over-count.ensures below (c.deref.ensures.value ∙ c.loop-set.invariant)
     ∙ ap (λ (roots : List Root). plan_count (flat_map (trees_of (plans_at below) c.loop-set.set) roots))
-    (c.deref-in-loop-set.ensures.value ∙ c.in_ok-roots.ensures))
+    (c.deref-in-loop-set.ensures.value ∙ c.in_ok-roots.ensures ∙ ap (roots_of block) c.new.ensures))
 
 pub index-requires : goal.index-requires
 index-requires c =

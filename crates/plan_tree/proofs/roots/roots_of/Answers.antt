@@ -1,15 +1,16 @@
-use Rattle.std.proofs.Common.{◌≡◌, List, [], ◌++◌}
-use Rattle.plan_tree.specs.AllPlans.{roots_of}
+use Rattle.std.proofs.Common.{◌≡◌, List, [], ◌++◌, sym, ◌∙◌}
+use Rattle.query_block.specs.Blocks.{block_tree}
+use Rattle.plan_tree.proofs.RootLists.{roots-by-kind}
 use Rattle.plan_tree.proofs.roots.roots_of.Goals as goal
 
-one-after-another : {A : Type 0} (none first second third last scans index_scans nests hashes merges loops : List A)
+one-after-another : {A : Type 0} (none first second third fourth fifth last scans index_scans nests hashes merges loops : List A)
     → none ≡ [] → first ≡ none ++ scans → second ≡ first ++ index_scans → third ≡ second ++ nests
-    → last ≡ ((third ++ hashes) ++ merges) ++ loops
+    → fourth ≡ third ++ hashes → fifth ≡ fourth ++ merges → last ≡ fifth ++ loops
     → last ≡ ((((scans ++ index_scans) ++ nests) ++ hashes) ++ merges) ++ loops
-one-after-another none first second third last scans index_scans nests hashes merges loops a b c d e = cc
+one-after-another none first second third fourth fifth last scans index_scans nests hashes merges loops a b c d e f g = cc
 
 pub returns : goal.returns
-unfolding roots_of
 returns c =
-    one-after-another _ _ _ _ _ _ _ _ _ _ _ c.new-roots.ensures.items c.in_ok-put_scans.ensures c.in_ok-put_index_scans.ensures
-    c.in_ok-put_nests.ensures c.in_ok-put_edge_joins.ensures
+    one-after-another _ _ _ _ _ _ _ _ _ _ _ _ _ c.new-roots.ensures.items c.in_ok-put_scans.ensures c.in_ok-put_index_scans.ensures
+    c.in_ok-put_nests.ensures c.in_ok-put_edge_joins.ensures c.in_ok-put_edge_joins-2.ensures c.in_ok-put_edge_joins-3.ensures
+    ∙ sym (roots-by-kind (block_tree c.args.block.now) c.args.set)

@@ -7,11 +7,11 @@ use Rattle.query_block.proofs.evaluate.+truth.Goals as goal
 pub truth_of_all-truth_on-requires : goal.truth_of_all-truth_on-requires
 truth_of_all-truth_on-requires t c = (
   omega (arith, at_most the_size c.args.parts.now c.loop-part.part-index c.part-item.result c.loop-part-test.true, ap the_size c.part-item.is),
-  (c.requires.row, part-fits c.args.row.now.columns.now c.args.parts.now c.loop-part.part-index c.part-item.result c.loop-part-test.true c.part-item.is c.requires.parts),
+  record { row = c.requires.row; fits = part-fits c.args.row.now.columns.now c.args.parts.now c.loop-part.part-index c.part-item.result c.loop-part-test.true c.part-item.is c.requires.fits },
 )
 
 pub truth_of_any-truth_on-requires : goal.truth_of_any-truth_on-requires
 truth_of_any-truth_on-requires t c = (
   omega (arith, at_most the_size c.args.parts.now c.loop-part.part-index c.part-item.result c.loop-part-test.true, ap the_size c.part-item.is),
-  (c.requires.row, part-fits c.args.row.now.columns.now c.args.parts.now c.loop-part.part-index c.part-item.result c.loop-part-test.true c.part-item.is c.requires.parts),
+  record { row = c.requires.row; fits = part-fits c.args.row.now.columns.now c.args.parts.now c.loop-part.part-index c.part-item.result c.loop-part-test.true c.part-item.is c.requires.fits },
 )

@@ -12,11 +12,11 @@ pub cell_of-requires : goal.cell_of-requires
 cell_of-requires c =
     let word = slice_index_or c.args.row.now.words.now c.args.column (pos 0) in
     let fits : FitsSigned w64 word = search rules in
-    rw (to_z-of_z w64 word fits) (word-at c.args.row.now.texts.now c.args.row.now.columns.now c.args.row.now.words.now c.args.column (pos 0) c.requires.row c.requires.column)
+    rw (to_z-of_z w64 word fits) (word-at c.args.row.now.texts.now c.args.row.now.columns.now c.args.row.now.words.now c.args.column (pos 0) c.requires.row c.requires.fits)
 
 pub returns-clause-value : goal.returns-clause-value
 returns-clause-value c =
     let word = slice_index_or c.args.row.now.words.now c.args.column (pos 0) in
     let fits : FitsSigned w64 word = search rules in
     c.cell_of.ensures.value ∙ ap (value_of c.args.row.now.texts.now (kind_at c.args.row.now.columns.now c.args.column)) (to_z-of_z w64 word fits)
-    ∙ sym (value-at c.args.row.now.texts.now c.args.row.now.columns.now c.args.row.now.words.now c.args.column (pos 0) c.requires.row c.requires.column)
+    ∙ sym (value-at c.args.row.now.texts.now c.args.row.now.columns.now c.args.row.now.words.now c.args.column (pos 0) c.requires.row c.requires.fits)

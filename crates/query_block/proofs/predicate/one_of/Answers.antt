@@ -15,7 +15,7 @@ compare_with-requires-clause-kinds c =
     let row = c.args.row.now in
     let item = c.operand-item.result in
     let fits = AreOperands row.columns.now c.args.of.now in
-    let are : fits item = subst fits (sym c.operand-item.is) (All-get_or fits c.args.operands.now c.loop-operand.operand-index item c.loop-operand-test.true c.requires.operands) in
+    let are : fits item = subst fits (sym c.operand-item.is) (All-get_or fits c.args.operands.now c.loop-operand.operand-index item c.loop-operand-test.true c.requires.fits.1) in
     operands-comparable row.texts.now row.columns.now row.words.now c.args.of.now item _ _ c.requires.row are c.operand_cell-cell.ensures.value refl
 
 pub returns-then-eq : goal.returns-then-eq

@@ -1,0 +1,8 @@
+use Rattle.std.proofs.Common.{◌≡◌, ◌++◌}
+use Rattle.query_block.specs.Blocks.{block_tree}
+use Rattle.plan_tree.specs.AllPlans.{one_each, standing}
+use Rattle.plan_tree.specs.Listing.{join_by}
+use Rattle.plan_tree.proofs.roots.put_joins.Given as goal
+
+abbrev pub invariant-loop-left : goal.invariant-loop-left
+invariant-loop-left l = l.into.items ≡ l.fn.into.items ++ standing (block_tree l.block) l.set (one_each (join_by (block_tree l.block) l.kind l.edge) l.left)
