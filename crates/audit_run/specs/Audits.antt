@@ -1,5 +1,5 @@
 -- What an audit tells, and why it is refused.
-use Rattle.std.specs.Prelude.{◌≡◌, ℕ, ◌<◌, ◌≤◌, Bool, List, length, map, sum_by, ⊤}
+use Rattle.std.specs.Prelude.{◌≡◌, ℕ, ◌<◌, ◌≤◌, Bool, IsTrue, List, length, map, sum_by, ⊤}
 use Rattle.sql_values.specs.Limits.{max_plans}
 use Rattle.plan_tree.specs.AllPlans.{plans_of}
 use Rattle.plan_tree.specs.Work.{work_of}
@@ -7,6 +7,7 @@ use Rattle.cost_model.specs.Optimal.{least_of}
 use Rattle.db_catalog.specs.Database.{DatabaseState}
 use Rattle.bouquet_type.specs.Trees.{BouquetTree}
 use Rattle.bouquet_type.specs.Budgets.{most_plans}
+use Rattle.bouquet_type.specs.Runs.{CostPremise}
 use Rattle.audit_run.specs.Measures.{audited_block, measures_of, are_within, worst_of}
 use Rattle.audit_run.specs.declared.told.Audit.{Audit}
 use Rattle.audit_run.specs.declared.told.AuditFault.{AuditFault}
@@ -43,6 +44,11 @@ audit_of bouquet database point =
       r = most_plans bouquet.contours;
       work = work_of_all bouquet database;
     }
+
+-- where it tells that no work is above its cost, works and costs at its point are as the bound on a run's work asks
+abbrev pub ShowsPremise : BouquetTree → DatabaseState → AuditTree → Type 0
+ShowsPremise bouquet database audit =
+    IsTrue audit.below → CostPremise bouquet.costing audit.point audit.a audit.b (work_of database.tables (audited_block bouquet))
 
 -- as it is told
 abbrev pub told_audit : Audit → AuditTree

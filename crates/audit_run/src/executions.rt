@@ -1,15 +1,13 @@
 // The audit: every plan is executed once.
-ghost use Rattle.std.specs.Prelude.{◌≡◌, ◌≤◌, All, IfErr, IfOk, IsTrue, map};
+ghost use Rattle.std.specs.Prelude.{◌≡◌, ◌≤◌, All, IfErr, IfOk, map};
 ghost use Rattle.sql_values.specs.Limits.{max_plans};
 ghost use Rattle.ess_grid.specs.Points.{IsPoint};
 ghost use Rattle.plan_tree.specs.Plans.{plan_tree};
 ghost use Rattle.plan_tree.specs.Enumerated.{IsPlan};
 ghost use Rattle.plan_tree.specs.AllPlans.{plans_of};
-ghost use Rattle.plan_tree.specs.Work.{work_of};
 ghost use Rattle.db_catalog.specs.Fits.{Fits};
 ghost use Rattle.exec_pipe.specs.Scenes.{IsEmptyContext};
 ghost use Rattle.bouquet_type.specs.Trees.{bouquet_tree};
-ghost use Rattle.bouquet_type.specs.Runs.{CostPremise};
 ghost use Rattle.audit_run.specs.Measures.{audited_block};
 ghost use Rattle.audit_run.specs.Executed.{MeasuresPlan, StopsAudit};
 ghost use Rattle.audit_run.specs.Audits.{audit_of, told_audit, work_of_all, RefusesAudit};
@@ -109,9 +107,6 @@ pub fn audit(
     requires point { IsPoint b.now.grid point.now }
     ensures audit { IfOk result (λ audit.
         told_audit audit ≡ audit_of (bouquet_tree b.now) db.now point.now) }
-    ensures premise { IfOk result (λ audit. IsTrue audit.below →
-        CostPremise (bouquet_tree b.now).costing point.now audit.a audit.b
-        (work_of db.now.tables (audited_block (bouquet_tree b.now)))) }
     ensures few { IfOk result (λ audit. audit.plans ≤ max_plans) }
     ensures within { IfOk result (λ audit. audit.work ≤ max_work) }
     ensures refuses { IfErr result (RefusesAudit (bouquet_tree b.now) db.now max_work) }

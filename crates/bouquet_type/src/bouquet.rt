@@ -1,9 +1,10 @@
 // A bouquet. Its parts never change.
-ghost use Rattle.std.specs.Prelude.{◌≡◌, ◌-◌, ◌^◌, ◌<◌, ◌≤◌, length, map, slice_index};
+ghost use Rattle.std.specs.Prelude.{◌≡◌, ◌^◌, ◌<◌, ◌≤◌, length};
 ghost use Rattle.sql_values.specs.Limits.{max_points, max_threshold, max_contour_cost};
 ghost use Rattle.query_block.specs.Blocks.{block_tree};
 ghost use Rattle.plan_tree.specs.Plans.{plan_tree};
 ghost use Rattle.plan_tree.specs.Enumerated.{IsPlan};
+ghost use Rattle.bouquet_type.specs.Shapes.{bouquet_shape, cost_on};
 ghost use Rattle.bouquet_type.specs.Trees.{IsBouquet, bouquet_tree};
 ghost use Rattle.bouquet_type.specs.Budgets.{budget_of, most_plans};
 ghost use Rattle.bouquet_type.specs.Schedule.{final_plan};
@@ -73,18 +74,8 @@ impl Bouquet {
         threshold: u32,
         contours: Vec<Contour>,
     ) -> Bouquet
-        requires { IsBouquet (record {
-          block = block;
-          stats = stats;
-          grid = grid;
-          threshold = threshold;
-          contours = contours.items;
-        }) }
-        ensures block { result.block ≡ block }
-        ensures stats { result.stats ≡ stats }
-        ensures grid { result.grid ≡ grid }
-        ensures threshold { result.threshold ≡ threshold }
-        ensures contours { result.contours ≡ contours.items }
+        requires { IsBouquet (bouquet_shape block stats grid threshold contours.items) }
+        ensures { result ≡ bouquet_shape block stats grid threshold contours.items }
     {
         Bouquet {
             block,
@@ -134,9 +125,11 @@ impl Bouquet {
 
     /// What plans of the block cost, by these counts, on this grid.
     pub fn costing(&self) -> Costing<'_>
-        ensures block { result.block ≡ self.now.block }
-        ensures stats { result.stats ≡ self.now.stats }
-        ensures grid { result.grid ≡ self.now.grid }
+        ensures { result ≡ record {
+          block = self.now.block;
+          stats = self.now.stats;
+          grid = self.now.grid;
+        } }
     {
         Costing::new(&self.block, &self.stats, &self.grid)
     }
@@ -145,8 +138,7 @@ impl Bouquet {
     pub fn budget(&self, k: usize) -> u128
         requires some { 1 ≤ k }
         requires there { k ≤ length self.now.contours }
-        ensures budget { result ≡ budget_of self.now.threshold
-            (slice_index (map (λ contour. contour.cost) self.now.contours) (k - 1)) }
+        ensures budget { result ≡ budget_of self.now.threshold (cost_on self.now k) }
         ensures bound { result < 2 ^ 118 }
     {
         budget_on(self.threshold, self.contours[k - 1].cost)

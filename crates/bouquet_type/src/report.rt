@@ -1,7 +1,5 @@
 // What a run of a bouquet tells, and why one has no answer.
 ghost use Rattle.std.specs.Prelude.{◌≡◌};
-ghost use Rattle.plan_tree.specs.Plans.{plan_tree};
-ghost use Rattle.bouquet_type.specs.Reports.{told_end};
 
 use plan_tree::Plan;
 use std::alloc::AllocError;
@@ -24,12 +22,12 @@ pub struct Report {
 impl Report {
     /// The report of an answer of so many rows, which this plan ended, the last of so many executions.
     pub fn new(plan: Plan, rows: u64, work: u128, runs: u32, contour: u32) -> Report
-        ensures rows { result.rows ≡ rows }
-        ensures end { told_end result ≡ record {
-          plan = plan_tree plan;
-          total = work;
+        ensures { result ≡ record {
+          rows = rows;
+          work = work;
           runs = runs;
           contour = contour;
+          plan = plan;
         } }
     {
         Report {

@@ -99,11 +99,11 @@ impl<'b> Schedule<'b> {
 
     /// The next execution, or None where all were given.
     pub fn next(&mut self) -> Option<Attempt<'b>>
-        ensures first { IfSome result (λ attempt.
-            members_left self.old ≡ attempt_member attempt ∷ members_left self.new) }
+        ensures first { IfSome result (λ next.
+            members_left self.old ≡ attempt_member next ∷ members_left self.new) }
         ensures none { IsNone result → members_left self.old ≡ [] }
-        ensures plan { IfSome result (λ attempt.
-            IsPlan (block_tree self.old.bouquet.block) (plan_tree attempt.plan.now)) }
+        ensures plan { IfSome result (λ next.
+            IsPlan (block_tree self.old.bouquet.block) (plan_tree next.plan.now)) }
         ensures bouquet { self.new.bouquet ≡ self.old.bouquet }
     {
         self.go_on();

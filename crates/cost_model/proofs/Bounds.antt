@@ -16,6 +16,7 @@ use Rattle.plan_tree.specs.Work.{nest_work, hash_work, merge_work, index_loop_wo
 use Rattle.cost_model.specs.declared.stats.RelationStats.{RelationStats}
 use Rattle.cost_model.specs.declared.stats.IndexStats.{IndexStats}
 use Rattle.cost_model.specs.Fits.{FitsIndex, FitsRelation, row_product}
+use Rattle.cost_model.specs.Bounded.{ShareNone}
 use Rattle.cost_model.specs.Costing.{CostingTree, IsCosting}
 use Rattle.cost_model.specs.Cards.{kept_product, card_of}
 use Rattle.cost_model.specs.Costs.{relation_stats, index_on, index_stats, out_card, candidate_card, cost_of}
@@ -54,10 +55,7 @@ factors-few false false kept rows apart few = omega (arith, le-max_left 1 rows)
 exchange : (a b c d : ℕ) → a * b * (c * d) ≡ a * c * (b * d)
 exchange a b c d = mul_assoc a b (c * d) ∙ ap (λ n. a * n) (sym (mul_assoc b c d) ∙ ap (λ n. n * d) (mul_comm b c) ∙ mul_assoc c b d) ∙ sym (mul_assoc a c (b * d))
 
-abbrev pub Apart : RelationSet → RelationSet → Type 0
-Apart set other = (relation : ℕ) → IsFalse (set relation && other relation)
-
-pub pairs-few : (set other : RelationSet) (number : ℕ) (stats : List RelationStats) → Apart set other → All HasFewKept stats
+pub pairs-few : (set other : RelationSet) (number : ℕ) (stats : List RelationStats) → ShareNone set other → All HasFewKept stats
     → kept_product set number stats * kept_product other number stats ≤ row_product stats
 pairs-few set other number [] apart few = omega arith
 pairs-few set other number (one ∷ more) apart few =
@@ -91,7 +89,7 @@ pub card-below : (costing : CostingTree) (set : RelationSet) (point : List ℕ) 
 card-below costing set point is =
     omega (arith, card-few costing set point, kept-few set 0 costing.stats.relations (fits-kept costing is), is.stats.product)
 
-pub pairs-below : (costing : CostingTree) (set other : RelationSet) (point : List ℕ) → IsCosting costing → Apart set other
+pub pairs-below : (costing : CostingTree) (set other : RelationSet) (point : List ℕ) → IsCosting costing → ShareNone set other
     → card_of costing set point * card_of costing other point ≤ max_product
 pairs-below costing set other point is apart =
     let cards = mul-le _ _ _ _ (card-few costing set point) (card-few costing other point) in

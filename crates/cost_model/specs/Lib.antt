@@ -10,6 +10,8 @@ pub mod Frontier
 pub mod FrontierPoints
 pub mod Greedy
 pub mod Rounding
+pub mod Growth
+pub mod Bounded
 pub mod Few
 pub mod Pricing
 pub mod Prices

@@ -62,6 +62,9 @@ own_at at = own_cost (costing_tree at.costing) at.point
 abbrev pub block_at : Pricing → BlockTree
 block_at at = block_tree at.costing.block
 
+abbrev pub card_at : Pricing → (set : ℕ) → ℕ
+card_at at set = set_card (costing_tree at.costing) at.point set
+
 -- what a node costs by itself, and that is far from the end of 128 bits
 pub record IsPrice (at : Pricing) (node : Root) (set price : ℕ) : Type 0 where
   pub own : price ≡ own_at at node set
@@ -90,8 +93,16 @@ pub record IsCandidateCount (at : Pricing) (edge left set candidates : ℕ) : Ty
 abbrev pub AreCards : Pricing → (cards : List ℕ) → Type 0
 AreCards at cards = (set : ℕ) → IsSetOf (block_at at) set → slice_index cards set ≡ set_card (costing_tree at.costing) at.point set
 
--- they are kept, and beside each the work of sorting so many rows
+-- none of them passes the limit of combinations
+abbrev pub AreFewCards : BlockTree → (cards : List ℕ) → Type 0
+AreFewCards block cards = (set : ℕ) → IsSetOf block set → slice_index cards set ≤ max_product
+
+-- beside each the work of sorting so many rows
+abbrev pub AreSorts : BlockTree → (cards sorts : List ℕ) → Type 0
+AreSorts block cards sorts = (set : ℕ) → IsSetOf block set → slice_index sorts set ≡ slice_index cards set * bits (slice_index cards set)
+
+-- the cards are kept, and beside them these works
 pub record ArePrices (at : Pricing) (cards sorts : List ℕ) : Type 0 where
   pub of_grid : IsPoint at.costing.grid at.point
   pub are_cards : AreCards at cards
-  pub are_sorts : (set : ℕ) → IsSetOf (block_at at) set → slice_index sorts set ≡ slice_index cards set * bits (slice_index cards set)
+  pub are_sorts : AreSorts (block_at at) cards sorts

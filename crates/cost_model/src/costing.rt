@@ -8,8 +8,8 @@ ghost use Rattle.plan_tree.specs.Sets.{set_of};
 ghost use Rattle.cost_model.specs.Fits.{FitsBlock};
 ghost use Rattle.cost_model.specs.Costing.{costing_tree, IsCosting};
 ghost use Rattle.cost_model.specs.Cards.{kept_product, card_of, selectivity_at};
-ghost use Rattle.cost_model.specs.Costs.{relation_stats, index_on, index_stats, candidate_card};
-ghost use Rattle.cost_model.specs.Few.{AreFew, IsFewIndex};
+ghost use Rattle.cost_model.specs.Costs.{relation_stats, index_on};
+ghost use Rattle.cost_model.specs.Few.{AreFew};
 
 use crate::arithmetic::scaled;
 use crate::stats::{IndexStats, RelationStats, Stats};
@@ -46,9 +46,7 @@ impl<'c> Costing<'c> {
     pub fn new(block: &'c Block, stats: &'c Stats, grid: &'c Grid) -> Costing<'c>
         requires stats { FitsBlock (block_tree block.now) stats.now }
         requires axes { grid.now.axes ≡ axes_of (block_tree block.now) }
-        ensures block { result.block ≡ block.now }
-        ensures stats { result.stats ≡ stats.now }
-        ensures grid { result.grid ≡ grid.now }
+        ensures { result ≡ record { block = block.now; stats = stats.now; grid = grid.now } }
     {
         prove!(!block.relations().is_empty());
         prove!(grid.levels() >= 2);
@@ -110,17 +108,6 @@ impl<'c> Costing<'c> {
         product
     }
 
-    /// How many of so many pairs of rows are taken to be equal in the columns of an edge.
-    pub(crate) fn candidates(&self, edge: u8, pairs: u128, q: &Point) -> u128
-        requires edge { edge < length self.now.block.edges }
-        requires pairs { pairs ≤ max_product }
-        requires point { IsPoint self.now.grid q.now }
-        ensures candidates { result ≡ candidate_card (costing_tree self.now) edge q.now pairs }
-        ensures few { result ≤ max_product }
-    {
-        scaled(pairs, self.selectivity(edge, q))
-    }
-
     /// The selectivity of an edge at a point of the grid.
     pub(crate) fn selectivity(&self, edge: u8, q: &Point) -> u32
         requires edge { edge < length self.now.block.edges }
@@ -139,19 +126,10 @@ impl<'c> Costing<'c> {
     {
         &self.stats.relations.as_slice()[relation as usize]
     }
-
-    /// The counts of the index on a column of a relation.
-    pub(crate) fn index(&self, relation: u8, column: u8) -> IndexStats
-        requires { relation < length self.now.block.relations }
-        ensures stats { result ≡ index_stats self.now.stats relation column }
-        ensures few { IsFewIndex result }
-    {
-        index_on(self.relation(relation).columns.as_slice(), column)
-    }
 }
 
-// The counts of the index on a column, among these. A column without one has one level and no matches.
-fn index_on(columns: &[IndexStats], column: u8) -> IndexStats
+/// The counts of the index on a column, among these. A column without one has one level and no matches.
+pub(crate) fn index_on(columns: &[IndexStats], column: u8) -> IndexStats
     ensures { result ≡ index_on columns.now column }
 {
     for index in columns {

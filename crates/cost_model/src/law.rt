@@ -1,7 +1,6 @@
 // The laws of cards and costs. Each has no body: its clauses speak of the definitions alone.
-ghost use Rattle.std.specs.Prelude.{ℕ, ◌≡◌, ◌↔◌, ◌*◌, ◌^◌, ◌<◌, ◌≤◌, ◌&&◌, Contains, IsFalse, List, length};
+ghost use Rattle.std.specs.Prelude.{ℕ, ◌≡◌, ◌^◌, ◌≤◌, Contains, List, length};
 ghost use Rattle.std.specs.Int.{div_ceil};
-ghost use Rattle.sql_values.specs.Limits.{max_product, cost_bound};
 ghost use Rattle.ess_grid.specs.Points.{IsGrid, IsPoint};
 ghost use Rattle.ess_grid.specs.Order.{PointBelow};
 ghost use Rattle.query_block.specs.Meaning.{RelationSet};
@@ -11,6 +10,8 @@ ghost use Rattle.cost_model.specs.Costing.{CostingTree, IsCosting};
 ghost use Rattle.cost_model.specs.Cards.{kept_product, card_of};
 ghost use Rattle.cost_model.specs.Rounding.{halvings_inside};
 ghost use Rattle.cost_model.specs.Costs.{cost_of};
+ghost use Rattle.cost_model.specs.Growth.{IsMonotone};
+ghost use Rattle.cost_model.specs.Bounded.{AreBounded};
 ghost use Rattle.cost_model.specs.Prices.{own_cost, sum_of};
 ghost use Rattle.cost_model.specs.Best.{IsCheapest, IsBest};
 ghost use Rattle.cost_model.specs.Optimal.{optimal_cost, best_plan};
@@ -19,12 +20,9 @@ ghost use Rattle.cost_model.specs.Greedy.{greedy, CoversAt};
 
 /// The law of monotony: cards, costs and the optimal cost grow with selectivity.
 pub fn costs_grow_with_selectivity()
-    ensures cards { (costing : CostingTree) (set : RelationSet) (point other : List ℕ) →
-        PointBelow point other → card_of costing set point ≤ card_of costing set other }
-    ensures costs { (costing : CostingTree) (p : PlanTree) (point other : List ℕ) →
-        PointBelow point other → cost_of costing p point ≤ cost_of costing p other }
-    ensures optimal { (costing : CostingTree) (point other : List ℕ) →
-        PointBelow point other → optimal_cost costing point ≤ optimal_cost costing other }
+    ensures cards { (costing : CostingTree) (set : RelationSet) → IsMonotone (card_of costing set) }
+    ensures costs { (costing : CostingTree) (p : PlanTree) → IsMonotone (cost_of costing p) }
+    ensures optimal { (costing : CostingTree) → IsMonotone (optimal_cost costing) }
 {}
 
 /// The law of rounding: every selectivity is the whole, halved, so a card is also the product of the filtered counts,
@@ -45,13 +43,7 @@ pub fn cards_see_the_set_alone()
 /// The law of bounds: neither a card, nor the pairs of rows of two sets without a common relation, pass the limit of
 /// combinations, and every cost is below 2^113.
 pub fn costs_are_bounded()
-    ensures card { (costing : CostingTree) (set : RelationSet) (point : List ℕ) →
-        IsCosting costing → card_of costing set point ≤ max_product }
-    ensures pairs { (costing : CostingTree) (set other : RelationSet) (point : List ℕ) →
-        IsCosting costing → ((relation : ℕ) → IsFalse (set relation && other relation)) →
-        card_of costing set point * card_of costing other point ≤ max_product }
-    ensures cost { (costing : CostingTree) (p : PlanTree) (point : List ℕ) →
-        IsCosting costing → IsSubPlan costing.block p → cost_of costing p point < cost_bound }
+    ensures { (costing : CostingTree) → IsCosting costing → AreBounded costing }
 {}
 
 /// The law of prices: the cost of a plan is the sum of what its nodes cost by themselves.

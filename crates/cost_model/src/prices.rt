@@ -1,6 +1,6 @@
 // What each node of a plan costs by itself at a point. The cards of all sets of the block's relations are worked out once, and
 // beside each what sorting so many rows costs, so that a node's price takes a few look-ups and no division.
-ghost use Rattle.std.specs.Prelude.{◌≡◌, ℕ, ◌*◌, ◌<◌, ◌≤◌, length, slice_index};
+ghost use Rattle.std.specs.Prelude.{◌≡◌, ◌*◌, ◌<◌, ◌≤◌, length};
 ghost use Rattle.sql_values.specs.Limits.{max_product};
 ghost use Rattle.ess_grid.specs.Points.{IsPoint};
 ghost use Rattle.plan_tree.specs.Work.{bits};
@@ -8,10 +8,10 @@ ghost use Rattle.query_block.specs.Blocks.{block_tree};
 ghost use Rattle.cost_model.specs.Costing.{costing_tree, IsCosting};
 ghost use Rattle.cost_model.specs.Costs.{relation_stats, index_stats, candidate_card};
 ghost use Rattle.cost_model.specs.Few.{AreFew, IsFewIndex};
-ghost use Rattle.cost_model.specs.Prices.{IsSetOf, block_at, set_card};
+ghost use Rattle.cost_model.specs.Prices.{IsSetOf, AreFewCards, AreSorts, block_at, card_at};
 
-use crate::arithmetic::times_bits;
-use crate::costing::Costing;
+use crate::arithmetic::{scaled, times_bits};
+use crate::costing::{Costing, index_on};
 use crate::set::set_count;
 use crate::set_cards::fill_cards;
 use crate::stats::{IndexStats, RelationStats};
@@ -65,10 +65,8 @@ impl<'a> Model for Prices<'a> {
 
 // Works out what sorting as many rows costs as each set gives.
 fn fill_sorts(costing: &Costing<'_>, cards: &[u128; 64], sorts: &mut [u128; 64])
-    requires { (set : ℕ) → IsSetOf (block_tree costing.now.block) set →
-        slice_index cards.now set ≤ max_product }
-    ensures { (set : ℕ) → IsSetOf (block_tree costing.now.block) set →
-        slice_index sorts.new set ≡ slice_index cards.now set * bits (slice_index cards.now set) }
+    requires { AreFewCards (block_tree costing.now.block) cards.now }
+    ensures { AreSorts (block_tree costing.now.block) cards.now sorts.new }
 {
     for set in 0..set_count(costing.block()) as usize {
         sorts[set] = times_bits(cards[set]);
@@ -113,7 +111,7 @@ impl<'a> Prices<'a> {
     /// The card of a set.
     pub(crate) fn card(&self, set: Subset) -> u128
         requires { IsSetOf (block_at self.now) set }
-        ensures card { result ≡ set_card (costing_tree self.now.costing) self.now.point set }
+        ensures card { result ≡ card_at self.now set }
         ensures few { result ≤ max_product }
     {
         let _block = self.block();
@@ -123,8 +121,7 @@ impl<'a> Prices<'a> {
     /// What sorting so many rows costs.
     pub(crate) fn sort(&self, set: Subset) -> u128
         requires { IsSetOf (block_at self.now) set }
-        ensures product { let card = set_card (costing_tree self.now.costing) self.now.point set in
-            result ≡ card * bits card }
+        ensures product { result ≡ card_at self.now set * bits (card_at self.now set) }
         ensures few { result ≤ 101 * max_product }
     {
         let _block = self.block();
@@ -140,7 +137,7 @@ impl<'a> Prices<'a> {
             ≡ candidate_card (costing_tree self.now.costing) edge self.now.point pairs }
         ensures few { result ≤ max_product }
     {
-        self.costing.candidates(edge, pairs, self.q)
+        scaled(pairs, self.costing.selectivity(edge, self.q))
     }
 
     /// The counts of a relation.
@@ -158,6 +155,6 @@ impl<'a> Prices<'a> {
         ensures stats { result ≡ index_stats self.now.costing.stats relation column }
         ensures few { IsFewIndex result }
     {
-        self.costing.index(relation, column)
+        index_on(self.relation(relation).columns.as_slice(), column)
     }
 }

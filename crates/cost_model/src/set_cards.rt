@@ -1,13 +1,13 @@
 // The cards of all sets of a block's relations at a point: the products of filtered counts, each from that of a smaller set, and
 // these scaled by one edge after another.
-ghost use Rattle.std.specs.Prelude.{◌≡◌, ℕ, ◌+◌, ◌^◌, ◌<◌, ◌≤◌, if◌then◌else◌, length, slice_index};
+ghost use Rattle.std.specs.Prelude.{◌≡◌, ◌+◌, ◌^◌, ◌<◌, ◌≤◌, if◌then◌else◌, length};
 ghost use Rattle.sql_values.specs.Limits.{max_product};
 ghost use Rattle.ess_grid.specs.Levels.{full_selectivity};
 ghost use Rattle.ess_grid.specs.Points.{IsPoint};
 ghost use Rattle.query_block.specs.Blocks.{block_tree};
 ghost use Rattle.cost_model.specs.Costing.{costing_tree};
 ghost use Rattle.cost_model.specs.Cards.{scaled};
-ghost use Rattle.cost_model.specs.Prices.{IsSetOf, AreCards};
+ghost use Rattle.cost_model.specs.Prices.{AreCards, AreFewCards};
 ghost use Rattle.cost_model.specs.SetCards.{AreProducts, AreScaled};
 
 use crate::arithmetic::scaled;
@@ -75,8 +75,7 @@ fn scale_by_edge(costing: &Costing<'_>, q: &Point, cards: &mut [u128; 64], edge:
 pub(crate) fn fill_cards(costing: &Costing<'_>, q: &Point, cards: &mut [u128; 64])
     requires { IsPoint costing.now.grid q.now }
     ensures cards { AreCards (record { costing = costing.now; point = q.now }) cards.new }
-    ensures few { (set : ℕ) → IsSetOf (block_tree costing.now.block) set →
-        slice_index cards.new set ≤ max_product }
+    ensures few { AreFewCards (block_tree costing.now.block) cards.new }
 {
     fill_products(costing, cards);
     for edge in 0..costing.block().edges().len() {

@@ -1,5 +1,5 @@
 -- A grid, and its points in order. A point is the list of its levels, that of axis 0 first.
-use Rattle.std.specs.Prelude.{◌≡◌, ℕ, zero, suc, ◌-◌, ◌^◌, ◌<◌, ◌≤◌, List, [], ◌∷◌, map, length, All, replicate, Option, slice_get}
+use Rattle.std.specs.Prelude.{◌≡◌, ℕ, zero, suc, ◌-◌, ◌^◌, ◌<◌, ◌≤◌, List, [], ◌∷◌, map, length, All, replicate, Option, Some, slice_get}
 use Rattle.std.specs.List.{flat_map, range_with_len}
 use Rattle.sql_values.specs.Limits.{max_axes, min_levels, max_levels, max_points}
 
@@ -32,6 +32,12 @@ points_of grid = points_among grid.levels grid.axes
 -- the point at this place, from 0, if there is one
 abbrev pub point_at : GridShape → ℕ → Option (List ℕ)
 point_at grid place = slice_get (points_of grid) place
+
+-- the points are those of the grid, and each stands at one place of the list
+pub record AreThereOnce (grid : GridShape) : Type 0 where
+  pub each : All (IsPoint grid) (points_of grid)
+  pub some_place : (point : List ℕ) → IsPoint grid point → (place : ℕ) × (point_at grid place ≡ Some point)
+  pub one_place : (point : List ℕ) (place other : ℕ) → point_at grid place ≡ Some point → point_at grid other ≡ Some point → place ≡ other
 
 -- the lowest level on every axis
 abbrev pub bottom_of : GridShape → List ℕ

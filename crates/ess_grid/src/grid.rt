@@ -1,9 +1,9 @@
 // The grid: its axes and levels, and two numbers that are worked out once. It never takes memory.
 ghost use Rattle.std.specs.Prelude.{◌≡◌, ◌↔◌, ◌+◌, ◌^◌, ◌<◌, ◌≤◌, ℕ, length, None, Some, Err, IsNone, IsOk, IfOk, IfSome, slice_index};
 ghost use Rattle.sql_values.specs.Limits.{max_axes};
-ghost use Rattle.ess_grid.specs.Levels.{selectivity_bits, full_selectivity, default_levels, levels_of, halvings_of, selectivity_of};
+ghost use Rattle.ess_grid.specs.Levels.{full_selectivity, default_levels, levels_of, halvings_of, selectivity_of};
 ghost use Rattle.ess_grid.specs.Points.{IsGrid, IsPoint, points_of, point_at};
-ghost use Rattle.ess_grid.specs.Order.{PointBelow, next_point};
+ghost use Rattle.ess_grid.specs.Order.{next_point};
 ghost use Rattle.ess_grid.specs.Refused.{HasBadLevels, HasTooManyPoints};
 
 use crate::fault::GridFault;
@@ -75,8 +75,8 @@ impl Grid {
             (λ grid. grid ≡ record { axes = axes; levels = levels_of axes levels }) }
         ensures bad_levels { (given : ℕ) →
             (result ≡ Err (GridFault.BadLevels given)) ↔ HasBadLevels levels given }
-        ensures too_many_points { (points : ℕ) →
-            (result ≡ Err (GridFault.TooManyPoints points)) ↔ HasTooManyPoints axes levels points }
+        ensures too_many_points { (many : ℕ) →
+            (result ≡ Err (GridFault.TooManyPoints many)) ↔ HasTooManyPoints axes levels many }
         ensures default { levels ≡ None → IsOk result }
     {
         if let Some(given) = levels
@@ -153,8 +153,7 @@ impl Grid {
     /// How often the whole is halved to come to the selectivity for which this level, from 0, stands.
     pub fn halvings(&self, level: u8) -> u32
         requires { level < self.now.levels }
-        ensures halvings { result ≡ halvings_of self.now.levels level }
-        ensures few { result ≤ selectivity_bits }
+        ensures { result ≡ halvings_of self.now.levels level }
     {
         self.step * (self.levels as u32 - 1 - u32::from(level))
     }
@@ -163,7 +162,6 @@ impl Grid {
     pub fn selectivity(&self, level: u8) -> u32
         requires { level < self.now.levels }
         ensures selectivity { result ≡ selectivity_of self.now.levels level }
-        ensures some { 1 ≤ result }
         ensures part { result ≤ full_selectivity }
     {
         1 << (SELECTIVITY_BITS - self.halvings(level))
@@ -176,7 +174,6 @@ impl Grid {
         ensures highest { IsNone result ↔ (slice_index p.now axis + 1 ≡ self.now.levels) }
         ensures next { IfSome result (λ next. next ≡ next_point p.now axis) }
         ensures of_grid { IfSome result (IsPoint self.now) }
-        ensures above { IfSome result (PointBelow p.now) }
     {
         let level = p.levels()[axis];
         if level as usize + 1 == self.levels {

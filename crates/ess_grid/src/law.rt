@@ -1,30 +1,21 @@
 // The laws of grids. Each has no body: its clauses speak of the definitions alone, so that whoever cites these can
 // rely on them for every grid and every point.
-ghost use Rattle.std.specs.Prelude.{sum, ◌≡◌, ◌↔◌, ◌+◌, ◌-◌, ◌*◌, ◌^◌, ◌<◌, ◌≤◌, ◌⊎◌, ℕ, List, length, All, Some, slice_index};
+ghost use Rattle.std.specs.Prelude.{sum, ◌≡◌, ◌↔◌, ◌+◌, ◌-◌, ◌*◌, ◌^◌, ◌<◌, ◌≤◌, ◌⊎◌, ℕ, List, length, Some, slice_index};
 ghost use Rattle.sql_values.specs.Limits.{min_levels, max_levels};
 ghost use Rattle.ess_grid.specs.Levels.{halvings_of, selectivity_of, full_selectivity};
-ghost use Rattle.ess_grid.specs.Points.{GridShape, IsGrid, IsPoint, points_of, point_at, bottom_of, top_of};
-ghost use Rattle.ess_grid.specs.Order.{PointBelow, next_point};
+ghost use Rattle.ess_grid.specs.Points.{GridShape, IsGrid, IsPoint, AreThereOnce, points_of, point_at, bottom_of, top_of};
+ghost use Rattle.ess_grid.specs.Order.{PointBelow, IsPartialOrder, next_point};
 
 /// The law of points: the list of a grid's points has every point of the grid, each at exactly one place, and nothing
 /// else.
 pub fn every_point_is_there_once()
     ensures count { (grid : GridShape) → length (points_of grid) ≡ grid.levels ^ grid.axes }
-    ensures each { (grid : GridShape) → IsGrid grid → All (IsPoint grid) (points_of grid) }
-    ensures some_place { (grid : GridShape) (point : List ℕ) → IsGrid grid → IsPoint grid point →
-        (place : ℕ) × (point_at grid place ≡ Some point) }
-    ensures one_place { (grid : GridShape) (point : List ℕ) (place other : ℕ) → IsGrid grid →
-        point_at grid place ≡ Some point →
-        point_at grid other ≡ Some point → place ≡ other }
+    ensures once { (grid : GridShape) → IsGrid grid → AreThereOnce grid }
 {}
 
 /// The law of the order: it is a partial order, and it is 'at most on every axis'.
 pub fn below_is_a_partial_order()
-    ensures reflexive { (point : List ℕ) → PointBelow point point }
-    ensures transitive { (point middle other : List ℕ) →
-        PointBelow point middle → PointBelow middle other → PointBelow point other }
-    ensures antisymmetric { (point other : List ℕ) →
-        PointBelow point other → PointBelow other point → point ≡ other }
+    ensures order { IsPartialOrder PointBelow }
     ensures every_axis { (point other : List ℕ) → PointBelow point other ↔
         ((length point ≡ length other) ×
         ((axis : ℕ) → axis < length point → slice_index point axis ≤ slice_index other axis)) }

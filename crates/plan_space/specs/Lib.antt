@@ -3,3 +3,4 @@ pub mod Search
 pub mod Steps
 pub mod Alike
 pub mod Outlook
+pub mod Places

@@ -1,6 +1,6 @@
 -- The table that is filled: for each set of relations the cheapest way to join it, by the entries of smaller sets. What a
 -- node costs by itself is a function of the node and the set.
-use Rattle.std.specs.Prelude.{◌≡◌, ◌⊎◌, ℕ, ◌+◌, ◌-◌, ◌*◌, ◌^◌, ◌<◌, ◌≤◌, List, ◌∷◌, slice_index_or, false}
+use Rattle.std.specs.Prelude.{◌≡◌, ◌⊎◌, ℕ, ◌+◌, ◌-◌, ◌*◌, ◌^◌, ◌<◌, ◌≤◌, List, ◌∷◌, length, slice_index_or, false}
 use Rattle.std.specs.Ordering.{nat_cmp, is_gt}
 use Rattle.std.specs.Cmp.Lexicographic.{slice_cmp}
 use Rattle.query_block.specs.Blocks.{BlockTree}
@@ -59,6 +59,10 @@ AreLeast own block table end = (set : ℕ) → 1 ≤ set → set < end → IsLea
 -- each of these nodes may be the outermost one of a plan of its set
 abbrev pub AreStanding : BlockTree → List Entry → (end : ℕ) → Type 0
 AreStanding block table end = (set : ℕ) → 1 ≤ set → set < end → Stands block (entry_at table set).root set
+
+-- so for all sets of the block's relations
+abbrev pub AllStand : BlockTree → List Entry → Type 0
+AllStand block table = AreStanding block table (2 ^ length block.relations)
 
 -- a set of the block's relations that has an entry
 pub record HasEntry (block : BlockTree) (set : ℕ) : Type 0 where

@@ -1,13 +1,12 @@
 // The best plans of a block at all points of its grid.
-ghost use Rattle.std.specs.Prelude.{◌≡◌, ℕ, ◌^◌, ◌<◌, ◌≤◌, List, Some, IfOk, length};
+ghost use Rattle.std.specs.Prelude.{◌≡◌, ◌<◌, ◌≤◌, IfOk, length};
 ghost use Rattle.sql_values.specs.Limits.{cost_bound};
-ghost use Rattle.ess_grid.specs.Points.{points_of, point_at};
+ghost use Rattle.ess_grid.specs.Points.{points_of};
 ghost use Rattle.query_block.specs.Blocks.{block_tree};
 ghost use Rattle.plan_tree.specs.Plans.{plan_tree};
 ghost use Rattle.cost_model.specs.Costing.{costing_tree};
-ghost use Rattle.cost_model.specs.Best.{IsBest};
-ghost use Rattle.cost_model.specs.Optimal.{optimal_cost};
-ghost use Rattle.plan_space.specs.Table.{AreStanding};
+ghost use Rattle.plan_space.specs.Places.{IsOptimalAt, IsBestAt};
+ghost use Rattle.plan_space.specs.Table.{AllStand};
 ghost use Rattle.plan_space.specs.Alike.{AreEarlier, AreLeastRows, IsLeastRow};
 
 use crate::alike::axes_inside_sets;
@@ -96,8 +95,7 @@ impl BestPlans<'_> {
     fn row(&self, place: usize) -> &[Entry; 64]
         requires { place < length (points_of self.now.grid) }
         ensures least { IsLeastRow self.now place result.now }
-        ensures stands { AreStanding (block_tree self.now.block) result.now
-            (2 ^ length (block_tree self.now.block).relations) }
+        ensures stands { AllStand (block_tree self.now.block) result.now }
     {
         &self.rows.as_slice()[place]
     }
@@ -105,8 +103,7 @@ impl BestPlans<'_> {
     /// What the best plan costs at the point at this place of the grid, from 0: the optimal cost there.
     pub fn cost(&self, place: usize) -> u128
         requires { place < length (points_of self.now.grid) }
-        ensures cost { (point : List ℕ) → point_at self.now.grid place ≡ Some point →
-            result ≡ optimal_cost (costing_tree self.now) point }
+        ensures cost { IsOptimalAt (costing_tree self.now) place result }
         ensures bound { result < cost_bound }
     {
         let all = set_of_all(self.costing.block());
@@ -117,9 +114,7 @@ impl BestPlans<'_> {
     /// cheap ones the first in plan order. An error is want of memory.
     pub fn plan(&self, alloc: Global, place: usize) -> Result<Plan, AllocError>
         requires { place < length (points_of self.now.grid) }
-        ensures { IfOk result (λ p. (point : List ℕ) →
-            point_at self.now.grid place ≡ Some point →
-            IsBest (costing_tree self.now) point (plan_tree p)) }
+        ensures { IfOk result (λ p. IsBestAt (costing_tree self.now) place (plan_tree p)) }
     {
         let block = self.costing.block();
         let p = rebuilt(alloc, block, self.row(place), set_of_all(block))?;

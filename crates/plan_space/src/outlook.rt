@@ -1,12 +1,13 @@
 // The frontiers of a block: what is worked out once for all costs, and the points of each frontier.
-ghost use Rattle.std.specs.Prelude.{◌≡◌, ℕ, ◌+◌, ◌<◌, ◌≤◌, List, IfOk, Some, length, nat_lt, slice_index, if◌then◌else◌};
+ghost use Rattle.std.specs.Prelude.{◌≡◌, ◌+◌, ◌<◌, ◌≤◌, IfOk, Some, length, nat_lt, slice_index, if◌then◌else◌};
 ghost use Rattle.sql_values.specs.Limits.{max_contour_cost};
 ghost use Rattle.ess_grid.specs.Points.{IsGrid, IsPoint, points_of, point_at, bottom_of, top_of};
 ghost use Rattle.ess_grid.specs.Order.{next_point};
 ghost use Rattle.cost_model.specs.Costing.{costing_tree, IsCosting};
 ghost use Rattle.cost_model.specs.Optimal.{optimal_cost};
-ghost use Rattle.cost_model.specs.Frontier.{is_on_frontier, frontier};
+ghost use Rattle.cost_model.specs.Frontier.{frontier};
 ghost use Rattle.cost_model.specs.FrontierPoints.{IsFrontierPoint, IsFrontier, frontier_points};
+ghost use Rattle.plan_space.specs.Places.{IsOptimalAt, TellsFrontier};
 ghost use Rattle.plan_space.specs.Outlook.{past_all_costs, cost_beyond, optimal_costs, costs_beyond};
 
 use crate::all_points::{BestPlans, best_at_all_points};
@@ -31,7 +32,8 @@ impl<'c> Model for Outlook<'c> {
     ghost use Rattle.query_block.specs.contracts.condition.Condition as condition;
     ghost use Rattle.std.specs.Coded.{codes};
     ghost use Rattle.cost_model.specs.Costing.{CostingShape};
-    ghost use Rattle.plan_space.specs.Outlook.{IsOutlook};
+    ghost use Rattle.plan_space.specs.Places.{IsOptimalAt, TellsFrontier};
+ghost use Rattle.plan_space.specs.Outlook.{IsOutlook};
 
     ghost Value = { CostingShape };
 
@@ -142,8 +144,7 @@ impl<'c> Outlook<'c> {
     /// The optimal cost at the point at this place of the grid, from 0.
     pub fn cost(&self, place: usize) -> u128
         requires { place < length (points_of self.now.grid) }
-        ensures { (point : List ℕ) → point_at self.now.grid place ≡ Some point →
-            result ≡ optimal_cost (costing_tree self.now) point }
+        ensures { IsOptimalAt (costing_tree self.now) place result }
     {
         self.costs[place]
     }
@@ -167,8 +168,7 @@ impl<'c> Outlook<'c> {
     pub fn is_on_frontier(&self, cost: u128, place: usize) -> bool
         requires cost { cost ≤ max_contour_cost }
         requires place { place < length (points_of self.now.grid) }
-        ensures { (point : List ℕ) → point_at self.now.grid place ≡ Some point →
-            result ≡ is_on_frontier (costing_tree self.now) cost point }
+        ensures { TellsFrontier (costing_tree self.now) cost place result }
     {
         self.costs[place] <= cost && cost < self.beyond[place]
     }

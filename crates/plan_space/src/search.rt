@@ -1,12 +1,12 @@
 // The best plan of a block at a point.
-ghost use Rattle.std.specs.Prelude.{◌≡◌, ◌^◌, ◌<◌, ◌≤◌, IfOk, length};
+ghost use Rattle.std.specs.Prelude.{◌≡◌, ◌<◌, ◌≤◌, IfOk};
 ghost use Rattle.ess_grid.specs.Points.{IsPoint};
 ghost use Rattle.query_block.specs.Blocks.{block_tree};
 ghost use Rattle.plan_tree.specs.Plans.{plan_tree, covers_of};
 ghost use Rattle.cost_model.specs.Costing.{costing_tree};
 ghost use Rattle.cost_model.specs.Best.{IsBest};
 ghost use Rattle.cost_model.specs.Optimal.{optimal_cost};
-ghost use Rattle.plan_space.specs.Table.{Follows, AreStanding, HasEntry};
+ghost use Rattle.plan_space.specs.Table.{Follows, AllStand, HasEntry};
 
 use crate::alike::axes_inside_sets;
 use crate::entry::Entry;
@@ -26,8 +26,7 @@ fn boxed(
     table: &[Entry; 64],
     set: Subset,
 ) -> Result<Box<Plan>, AllocError>
-    requires stands { AreStanding (block_tree block.now) table.now
-        (2 ^ length (block_tree block.now).relations) }
+    requires stands { AllStand (block_tree block.now) table.now }
     requires set { HasEntry (block_tree block.now) set }
     ensures follows { IfOk result (λ p. Follows table.now (plan_tree p.value) set) }
     ensures covers { IfOk result (λ p. covers_of (plan_tree p.value) ≡ set) }
@@ -44,8 +43,7 @@ pub(crate) fn rebuilt(
     table: &[Entry; 64],
     set: Subset,
 ) -> Result<Plan, AllocError>
-    requires stands { AreStanding (block_tree block.now) table.now
-        (2 ^ length (block_tree block.now).relations) }
+    requires stands { AllStand (block_tree block.now) table.now }
     requires set { HasEntry (block_tree block.now) set }
     ensures follows { IfOk result (λ p. Follows table.now (plan_tree p) set) }
     ensures covers { IfOk result (λ p. covers_of (plan_tree p) ≡ set) }
@@ -80,8 +78,8 @@ pub(crate) fn rebuilt(
 
 // The best plan at the prices of a point, and what it costs there.
 fn best_at(alloc: Global, prices: &Prices<'_>) -> Result<(Plan, u128), AllocError>
-    ensures best { IfOk result (λ found. IsBest
-        (costing_tree prices.now.costing) prices.now.point (plan_tree found.0)) }
+    ensures best { IfOk result (λ it. IsBest
+        (costing_tree prices.now.costing) prices.now.point (plan_tree it.0)) }
     ensures cost { IfOk result (λ found.
         found.1 ≡ optimal_cost (costing_tree prices.now.costing) prices.now.point) }
 {

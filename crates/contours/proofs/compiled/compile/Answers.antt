@@ -1,6 +1,7 @@
-use Rattle.std.proofs.Common.{◌≤◌, ◌≡◌, ◌∙◌, length, map, arith, subst, sym}
+use Rattle.std.proofs.Common.{◌≤◌, ◌≡◌, ◌∙◌, length, map, ap, arith, subst, sym}
 use Rattle.std.proofs.lemmas.List.{length-map}
 use Rattle.cost_model.specs.Costing.{CostingShape, costing_tree}
+use Rattle.bouquet_type.specs.Shapes.{BouquetShape}
 use Rattle.bouquet_type.specs.Trees.{bouquet_tree, contour_tree}
 use Rattle.bouquet_type.specs.Compiled.{IsCompiled}
 use Rattle.bouquet_type.specs.Sound.{IsSound}
@@ -10,20 +11,17 @@ use Rattle.contours.proofs.compiled.compile.Goals as goal
 
 pub returns : goal.returns
 returns c =
-    let of = c.new.ensures in
     let made = c.new-2.ensures in
     let contours = c.in_ok-contours.contours.items in
     let costing : CostingShape = record { block = c.args.block; stats = c.args.stats; grid = c.args.grid } in
-    let same : c.new.result ≡ costing = λ i. record { block = of.block i; stats = of.stats i; grid = of.grid i } in
-    let are = subst (λ (one : CostingShape). AreContours (costing_tree one) c.args.threshold contours) same c.in_ok-contours.ensures in
-    let tree : bouquet_tree c.new-2.result ≡ bouquet_of (costing_tree costing) c.args.threshold contours =
-    λ i. bouquet_tree (record { block = made.block i; stats = made.stats i; grid = made.grid i; threshold = made.threshold i; contours = made.contours i }) in
+    let are = subst (λ (one : CostingShape). AreContours (costing_tree one) c.args.threshold contours) c.new.ensures c.in_ok-contours.ensures in
+    let tree : bouquet_tree c.new-2.result ≡ bouquet_of (costing_tree costing) c.args.threshold contours = ap bouquet_tree made in
     let few : length (map contour_tree contours) ≤ 128 = omega (arith, length-map contours contour_tree, are.few) in
     record {
-      block = made.block;
-      stats = made.stats;
-      grid = made.grid;
-      threshold = made.threshold;
+      block = ap (λ (b : BouquetShape). b.block) made;
+      stats = ap (λ (b : BouquetShape). b.stats) made;
+      grid = ap (λ (b : BouquetShape). b.grid) made;
+      threshold = ap (λ (b : BouquetShape). b.threshold) made;
       whole = tree ∙ compiled-one (bouquet_of (costing_tree costing) c.args.threshold contours) are.compiled few;
       compiled = subst IsCompiled (sym tree) are.compiled;
       sound = subst IsSound (sym tree) are.sound;
