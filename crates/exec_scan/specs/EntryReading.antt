@@ -1,5 +1,5 @@
 -- What is seen of a reader of rows by the entries of an index, what it has left to read, and what is always so of it.
-use Rattle.std.specs.Prelude.{◌≡◌, ℕ, ℤ, ◌*◌, ◌<◌, List, [], ◌∷◌, Contains, Option, Some, None, IsSome, MatchOption, Result, OnOk, OnErr, filter, length}
+use Rattle.std.specs.Prelude.{◌≡◌, ℕ, ℤ, ◌*◌, ◌<◌, List, [], ◌∷◌, Contains, Option, Some, None, IsSome, MatchOption, Result, IfOk, OnOk, OnErr, filter, length}
 use Rattle.sql_values.specs.Stored.{StandsFor}
 use Rattle.work_ledger.specs.Charges.{node_charge}
 use Rattle.plan_tree.specs.Left.{Left}
@@ -7,6 +7,8 @@ use Rattle.btree_index.specs.declared.index.Cursor.{Cursor}
 use Rattle.btree_index.specs.Entries.{HaveWords, IndexEntry, IsOn, entries_left, is_within}
 use Rattle.db_catalog.specs.Database.{DatabaseState, StandAsWords, table_at}
 use Rattle.db_catalog.specs.Indexes.{index_at, index_height, row_of_entry}
+use Rattle.db_catalog.specs.Meter.{MeterState}
+use Rattle.exec_scan.specs.Stepping.{PaysFor}
 
 -- the table, the column by whose index it reads, and where it is among the entries, once it has descended to them
 pub record EntryReaderState : Type 0 where
@@ -51,12 +53,6 @@ descent_charge database reader = node_charge * index_height database reader.tabl
 abbrev pub MovesReader : (old new : EntryReaderState) → Type 0
 MovesReader old new = new ≡ record old { cursor = new.cursor }
 
--- it has come to exactly the entries with words of a range; or it is refused, and nothing changes
-pub record Descends {T E : Type 0} (database : DatabaseState) (from to : ℤ) (old new : EntryReaderState) (result : Result T E) : Type 0 where
-  pub entries : OnOk result (entries_ahead database new ≡ filter (is_within from to) (index_at database old.table old.column))
-  pub descended : OnOk result (IsSome new.cursor)
-  pub unchanged : OnErr result (new ≡ old)
-
 -- the entries of an index have words, and so has each row of the table
 pub record IsIndexOfWords (database : DatabaseState) (table column : ℕ) : Type 0 where
   pub entries : HaveWords (index_at database table column)
@@ -67,3 +63,21 @@ pub record ReadsOn (database : DatabaseState) (old new : EntryReaderState) : Typ
   pub moves : MovesReader old new
   pub descended : IsSome old.cursor → IsSome new.cursor
   pub index : IsReaderOf database new
+
+-- it has come to exactly the entries with words of a range; or it is refused, and nothing changes. It reads on in its index
+pub record Descends {T E : Type 0} (database : DatabaseState) (from to : ℤ) (old new : EntryReaderState) (result : Result T E) : Type 0 where
+  pub entries : OnOk result (entries_ahead database new ≡ filter (is_within from to) (index_at database old.table old.column))
+  pub descended : OnOk result (IsSome new.cursor)
+  pub unchanged : OnErr result (new ≡ old)
+  pub goes_on : ReadsOn database old new
+
+-- the row of the first entry ahead is lent, or there is none, and nothing changes
+abbrev pub LendsEntry : {T E : Type 0} → DatabaseState → (old new : EntryReaderState) → Result (Option T) E → (words_of : T → List ℤ) → Type 0
+LendsEntry database old new result words_of =
+    IfOk result (λ found. MatchOption found ((entries_ahead database new ≡ []) × (new ≡ old)) (λ lent. ReadsEntry database old new (words_of lent)))
+
+-- so it is, and it is paid for; whatever the answer, the reader reads on in its index
+pub record ReadsNext {T E : Type 0} (old new : EntryReaderState) (before after : MeterState) (result : Result (Option T) E) (words_of : T → List ℤ) : Type 0 where
+  pub row : LendsEntry before.database old new result words_of
+  pub pays : PaysFor (entries_due before.database) old new before after result
+  pub goes_on : ReadsOn before.database old new

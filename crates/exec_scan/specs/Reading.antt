@@ -1,5 +1,5 @@
 -- What is left to read of a relation's rows on each of the two ways to them, and what is always so of a way.
-use Rattle.std.specs.Prelude.{◌≡◌, ℕ, ℤ, ◌+◌, ◌*◌, Bool, List, [], ◌∷◌, Option, Some, None, MatchOption, length, map, filter}
+use Rattle.std.specs.Prelude.{◌≡◌, ℕ, ℤ, ◌+◌, ◌*◌, Bool, List, [], ◌∷◌, Option, Some, None, MatchOption, Result, IfOk, OnOk, length, map, filter}
 use Rattle.std.specs.List.Sorted.{IsPermutation}
 use Rattle.work_ledger.specs.Charges.{open_charge}
 use Rattle.sql_values.specs.Stored.{AreWordsOf, StoredTable, ValueRow, values_of}
@@ -14,9 +14,11 @@ use Rattle.btree_index.specs.Entries.{IndexEntry}
 use Rattle.db_catalog.specs.Database.{DatabaseState}
 use Rattle.db_catalog.specs.Fits.{FitsTable}
 use Rattle.db_catalog.specs.Indexes.{index_at, index_height, row_of_entry}
+use Rattle.db_catalog.specs.Meter.{MeterState}
 use Rattle.exec_scan.specs.declared.way.Way.{Way}
 use Rattle.exec_scan.specs.declared.way.Way.TheVariants as way
 use Rattle.exec_scan.specs.EntryReading.{EntryReaderState, IsReaderOf, entries_at}
+use Rattle.exec_scan.specs.Stepping.{PaysFor}
 use Rattle.exec_scan.specs.TableReading.{IsTableReader, table_ahead, table_due}
 
 -- the table whose rows are read
@@ -103,6 +105,35 @@ pub record AreNone (old new : List ValueRow) (left : Left) : Type 0 where
 pub record IsFirstRow (texts : List (List ℕ)) (own : RelationTree) (old new : List ValueRow) (words : List ℤ) : Type 0 where
   pub are : AreWordsOf texts own.columns words
   pub first : old ≡ values_of texts own.columns words ∷ new
+
+-- a call lends the first of these rows; or there were none, and nothing is due
+abbrev pub LendsFirst : {T E : Type 0} → (texts : List (List ℕ)) → RelationTree → (old new : List ValueRow) → Left → Result (Option T) E → (words_of : T → List ℤ) → Type 0
+LendsFirst texts own old new left result words_of =
+    IfOk result (λ found. MatchOption found (AreNone old new left) (λ lent. IsFirstRow texts own old new (words_of lent)))
+
+-- so it lends the first of the rows that the entries of an index lead to, of the rows ahead on a way, or of those of them
+-- that meet the filter
+abbrev pub LendsWanted : {T E : Type 0} → MeterState → RelationTree → (old new : EntryReaderState) → Result (Option T) E → (words_of : T → List ℤ) → Type 0
+LendsWanted meter own old new result words_of =
+    let rows = wanted_rows meter.database own in
+    LendsFirst meter.database.texts own (rows old) (rows new) (wanted_due meter.database own new) result words_of
+
+abbrev pub LendsAhead : {T E : Type 0} → MeterState → RelationTree → (old new : Way) → Result (Option T) E → (words_of : T → List ℤ) → Type 0
+LendsAhead meter own old new result words_of =
+    let rows = rows_ahead meter.database own in
+    LendsFirst meter.database.texts own (rows old) (rows new) (read_due meter.database own new) result words_of
+
+abbrev pub LendsKept : {T E : Type 0} → MeterState → RelationTree → (old new : Way) → Result (Option T) E → (words_of : T → List ℤ) → Type 0
+LendsKept meter own old new result words_of =
+    let rows = kept_rows meter.database own in
+    LendsFirst meter.database.texts own (rows old) (rows new) (read_due meter.database own new) result words_of
+
+-- and it pays for what reading has no longer left
+abbrev pub PaysWanted : {T E : Type 0} → RelationTree → (old new : EntryReaderState) → (before after : MeterState) → Result T E → Type 0
+PaysWanted own old new before after result = PaysFor (wanted_due before.database own) old new before after result
+
+abbrev pub PaysReading : {T E : Type 0} → RelationTree → (old new : Way) → (before after : MeterState) → Result T E → Type 0
+PaysReading own old new before after result = PaysFor (read_due before.database own) old new before after result
 
 -- the work of the scan of a relation by the index on a column, or of its table, that gives so many rows
 abbrev pub work_by : List StoredTable → RelationTree → Option ℕ → (out : ℕ) → ℕ

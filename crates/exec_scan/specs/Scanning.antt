@@ -1,19 +1,22 @@
 -- What the operator of a leaf has left of the rows of its relation, and what is always so of one.
-use Rattle.std.specs.Prelude.{◌≡◌, ℕ, ◌+◌, map}
+use Rattle.std.specs.Prelude.{◌≡◌, ℕ, ℤ, ◌+◌, Bool, List, Result, length, map}
 use Rattle.std.specs.List.Sorted.{IsPermutation}
 use Rattle.work_ledger.specs.Charges.{open_charge}
 use Rattle.plan_tree.specs.Plans.{PlanTree, has_leaf}
+use Rattle.plan_tree.specs.Enumerated.{IsSubPlan}
 use Rattle.plan_tree.specs.Left.{Left}
 use Rattle.plan_tree.specs.Work.{work_of}
-use Rattle.query_block.specs.Blocks.{BlockTree, relation_at}
+use Rattle.query_block.specs.Blocks.{BlockTree, relation_at, width_of}
 use Rattle.query_block.specs.Meaning.{rows_of}
 use Rattle.db_catalog.specs.Database.{DatabaseState}
 use Rattle.db_catalog.specs.Fits.{Fits}
+use Rattle.db_catalog.specs.Meter.{MeterState}
 use Rattle.exec_scan.specs.declared.way.Way.{Way}
 use Rattle.exec_scan.specs.OnWay.{with_emits}
-use Rattle.exec_scan.specs.Places.{AreOfRelation, placed_row}
+use Rattle.exec_scan.specs.Places.{AreOfRelation, KeepsOtherWords, placed_row}
 use Rattle.exec_scan.specs.Reading.{IsReaderIn, kept_rows, read_due, table_of}
-use Rattle.exec_scan.specs.State.{ScanState, leaf_of}
+use Rattle.exec_scan.specs.State.{ScanState, leaf_of, relation_of}
+use Rattle.exec_scan.specs.Stepping.{Yields}
 
 -- what finding the rows of a relation has left: of the rows ahead those come that meet its filter, each in its place, and
 -- the work of reading is due
@@ -29,6 +32,11 @@ find_left database block relation way =
 abbrev pub scan_left : DatabaseState → BlockTree → ScanState → Left
 scan_left database block scan = with_emits (find_left database block scan.place.relation scan.way)
 
+-- a leaf may be scanned: it is a plan of a block that fits the database
+pub record MayScan (database : DatabaseState) (block : BlockTree) (leaf : PlanTree) : Type 0 where
+  pub plan : IsSubPlan block leaf
+  pub fits : Fits database block
+
 -- a scan of a relation of the block, which fits the database, over its tables
 pub record IsScanOver (database : DatabaseState) (block : BlockTree) (scan : ScanState) : Type 0 where
   pub fits : Fits database block
@@ -42,7 +50,18 @@ pub record BeginsLeaf (database : DatabaseState) (block : BlockTree) (plan : Pla
   pub rest : IsPermutation (scan_left database block scan).rest (rows_of database.tables block (has_leaf plan))
   pub due : open_charge + (scan_left database block scan).due ≡ work_of database.tables block plan
 
--- it goes on as the scan of the same leaf
-pub record ScansOn (database : DatabaseState) (block : BlockTree) (old new : ScanState) : Type 0 where
+-- and its next row may be written into one of all relations
+pub record MayScanInto (database : DatabaseState) (block : BlockTree) (op : ScanState) (out : List ℤ) : Type 0 where
+  pub scan : IsScanOver database block op
+  pub width : length out ≡ width_of block
+
+-- a scan gives the first row that it has left
+abbrev pub YieldsRow : {E : Type 0} → (before after : MeterState) → BlockTree → (old new : ScanState) → (out : List ℤ) → Result Bool E → Type 0
+YieldsRow before after block old new out result =
+    let left = scan_left before.database block in Yields block (has_leaf (leaf_of old)) (left old) (left new) out before after result
+
+-- it goes on as the scan of the same leaf, and of a row of all relations it has written the words of its own alone
+pub record ScansOn (database : DatabaseState) (block : BlockTree) (old new : ScanState) (out out' : List ℤ) : Type 0 where
   pub operator : IsScanOver database block new
   pub leaf : leaf_of new ≡ leaf_of old
+  pub written : KeepsOtherWords block (relation_of old) out out'

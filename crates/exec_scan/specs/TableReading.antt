@@ -1,5 +1,5 @@
 -- What is seen of a reader of a whole table, what it has left to read, and what is always so of it.
-use Rattle.std.specs.Prelude.{◌≡◌, ℕ, ℤ, ◌+◌, ◌-◌, ◌*◌, ◌<◌, ◌≤◌, min, List, [], ◌∷◌, length, drop, Result, OnOk, OnErr}
+use Rattle.std.specs.Prelude.{◌≡◌, ℕ, ℤ, ◌+◌, ◌-◌, ◌*◌, ◌<◌, ◌≤◌, min, List, [], ◌∷◌, length, drop, Option, MatchOption, Result, IfOk, OnOk, OnErr}
 use Rattle.sql_values.specs.Limits.{max_columns}
 use Rattle.sql_values.specs.Stored.{ValueRow, StandsFor}
 use Rattle.heap_pages.specs.Rows.{rows_per_page, row_number}
@@ -51,6 +51,12 @@ abbrev pub LooksAt : DatabaseState → (old new : TableReaderState) → List ℤ
 LooksAt database old new words =
     (row : ValueRow) × (table_ahead database old ≡ row ∷ table_ahead database new)
     × StandsFor database.texts (table_at database old.table).columns words row
+
+-- it is lent; or all rows are looked at, nothing is due, and nothing changes
+abbrev pub LendsRow : {T E : Type 0} → DatabaseState → (old new : TableReaderState) → Result (Option T) E → (words_of : T → List ℤ) → Type 0
+LendsRow database old new result words_of =
+    IfOk result (λ found. MatchOption found ((table_ahead database old ≡ []) × ((table_due database old).due ≡ 0) × (new ≡ old))
+    (λ lent. LooksAt database old new (words_of lent)))
 
 -- only where it is in its table changes
 abbrev pub MovesOn : (old new : TableReaderState) → Type 0

@@ -1,10 +1,9 @@
 // Rows by the entries of an index: it descends to those of a range of words, and then fetches the row of each. It relies on
 // the meter for entries and rows, and fetches the row of an entry once.
-ghost use Rattle.std.specs.Prelude.{◌≡◌, ◌↔◌, [], IfOk, IsSome, IsTrue, MatchOption};
+ghost use Rattle.std.specs.Prelude.{◌≡◌, ◌↔◌, IsSome, IsTrue};
 ghost use Rattle.db_catalog.specs.Meter.{Reads};
-ghost use Rattle.exec_scan.specs.EntryReading.{Descends, IsIndexOfWords, IsReaderOf, ReadsEntry, ReadsOn};
-ghost use Rattle.exec_scan.specs.EntryReading.{descent_charge, entries_ahead, entries_due, reader_by};
-ghost use Rattle.exec_scan.specs.Stepping.{PaysFor};
+ghost use Rattle.exec_scan.specs.EntryReading.{Descends, IsIndexOfWords, IsReaderOf, ReadsNext};
+ghost use Rattle.exec_scan.specs.EntryReading.{descent_charge, reader_by};
 
 use btree_index::Cursor;
 use db_catalog::Metered;
@@ -62,12 +61,11 @@ impl EntryReader {
     /// Descends to the entries with words from `from` to `to`, both included, which pays for each level. There are none where
     /// `from` is greater than `to`, and none for NULL. What the entries and the rows are is told.
     pub fn descend(&mut self, from: i64, to: i64, meter: &mut Metered<'_>) -> Result<(), Exhausted>
-        requires index { IsReaderOf meter.old.database self.old }
+        requires { IsReaderOf meter.old.database self.old }
         ensures descends { Descends meter.old.database from to self.old self.new result }
         ensures words { IsIndexOfWords meter.old.database self.old.table self.old.column }
         ensures reads { Reads (descent_charge meter.old.database self.old)
             meter.old meter.new result }
-        ensures goes_on { ReadsOn meter.old.database self.old self.new }
     {
         let cursor = meter.seek(self.table, self.column, from, to)?;
         self.cursor = Some(cursor);
@@ -76,13 +74,8 @@ impl EntryReader {
 
     /// Reads the next entry and its row, for which it pays. None where all entries are read, or it hasn't descended yet.
     pub fn read<'d>(&mut self, meter: &mut Metered<'d>) -> Result<Option<&'d [i64]>, Exhausted>
-        requires index { IsReaderOf meter.old.database self.old }
-        ensures row { IfOk result (λ found. MatchOption found
-            ((entries_ahead meter.old.database self.new ≡ []) × (self.new ≡ self.old))
-            (λ words. ReadsEntry meter.old.database self.old self.new words.now)) }
-        ensures pays { PaysFor (entries_due meter.old.database)
-            self.old self.new meter.old meter.new result }
-        ensures goes_on { ReadsOn meter.old.database self.old self.new }
+        requires { IsReaderOf meter.old.database self.old }
+        ensures { ReadsNext self.old self.new meter.old meter.new result (λ words. words.now) }
     {
         let Some(mut cursor) = self.cursor else {
             return Ok(None);

@@ -1,11 +1,10 @@
 // The rows of a whole table, page after page. It relies on the meter to lend each row for pay, and never looks at a row
 // twice.
-ghost use Rattle.std.specs.Prelude.{◌≡◌, [], IfOk, MatchOption};
 ghost use Rattle.work_ledger.specs.Charges.{page_charge};
 ghost use Rattle.db_catalog.specs.Meter.{Reads};
 ghost use Rattle.exec_scan.specs.Stepping.{PaysFor};
-ghost use Rattle.exec_scan.specs.TableReading.{EndsPage, HasTable, IsTableReader, LooksAt, OpensPage};
-ghost use Rattle.exec_scan.specs.TableReading.{ReadsTableOn, StartsTable, table_ahead, table_due};
+ghost use Rattle.exec_scan.specs.TableReading.{EndsPage, HasTable, IsTableReader, LendsRow, OpensPage};
+ghost use Rattle.exec_scan.specs.TableReading.{ReadsTableOn, StartsTable, table_due};
 
 use db_catalog::Metered;
 use heap_pages::PageView;
@@ -76,10 +75,7 @@ impl TableReader {
         meter: &mut Metered<'d>,
     ) -> Result<Option<&'d [i64]>, Exhausted>
         requires reader { IsTableReader meter.old.database self.old }
-        ensures row { IfOk result (λ found. MatchOption found
-            ((table_ahead meter.old.database self.old ≡ [])
-            × ((table_due meter.old.database self.old).due ≡ 0) × (self.new ≡ self.old))
-            (λ words. LooksAt meter.old.database self.old self.new words.now)) }
+        ensures row { LendsRow meter.old.database self.old self.new result (λ words. words.now) }
         ensures pays { PaysFor (table_due meter.old.database)
             self.old self.new meter.old meter.new result }
         ensures goes_on { ReadsTableOn meter.old.database self.old self.new }

@@ -1,11 +1,10 @@
 // The two ways to the rows of a relation: through its whole table, or by the index on one of its columns. It relies on
 // their readers for what is read and paid, and never gives a row that doesn't meet the relation's filter.
-ghost use Rattle.std.specs.Prelude.{◌≡◌, IfOk, OnOk, IsSome, MatchOption};
+ghost use Rattle.std.specs.Prelude.{◌≡◌, OnOk, IsSome};
 ghost use Rattle.query_block.specs.Blocks.{relation_tree};
 ghost use Rattle.exec_scan.specs.EntryReading.{ReadsOn};
-ghost use Rattle.exec_scan.specs.Reading.{AreNone, CanBeFound, FindsOn, IsFirstRow, IsRelationIn, IsWayTo, LeadsTo};
-ghost use Rattle.exec_scan.specs.Reading.{kept_rows, read_due, rows_ahead, wanted_due, wanted_entries, wanted_rows};
-ghost use Rattle.exec_scan.specs.Stepping.{PaysFor};
+ghost use Rattle.exec_scan.specs.Reading.{CanBeFound, FindsOn, IsRelationIn, IsWayTo, LeadsTo};
+ghost use Rattle.exec_scan.specs.Reading.{LendsAhead, LendsKept, LendsWanted, PaysReading, PaysWanted, wanted_entries};
 ghost use Rattle.exec_scan.specs.declared.way.Way.TheVariants.{Index};
 
 use crate::entry_reader::EntryReader;
@@ -33,8 +32,8 @@ fn descend_to_wanted(
     ensures entries { OnOk result
         (wanted_entries meter.old.database (relation_tree relation.now) reader.new
         ≡ wanted_entries meter.old.database (relation_tree relation.now) reader.old) }
-    ensures pays { PaysFor (wanted_due meter.old.database (relation_tree relation.now))
-        reader.old reader.new meter.old meter.new result }
+    ensures pays { PaysWanted (relation_tree relation.now) reader.old reader.new
+        meter.old meter.new result }
     ensures goes_on { ReadsOn meter.old.database reader.old reader.new }
 {
     if reader.has_descended() {
@@ -52,14 +51,10 @@ fn read_wanted<'d>(
     meter: &mut Metered<'d>,
 ) -> Result<Option<&'d [i64]>, Exhausted>
     requires way { IsWayTo meter.old.database (relation_tree relation.now) (Index reader.old) }
-    ensures row { let own = relation_tree relation.now in
-        let rows = wanted_rows meter.old.database own in
-        IfOk result (λ found. MatchOption found
-        (AreNone (rows reader.old) (rows reader.new) (wanted_due meter.old.database own reader.new))
-        (λ words. IsFirstRow meter.old.database.texts own
-        (rows reader.old) (rows reader.new) words.now)) }
-    ensures pays { PaysFor (wanted_due meter.old.database (relation_tree relation.now))
-        reader.old reader.new meter.old meter.new result }
+    ensures row { LendsWanted meter.old (relation_tree relation.now) reader.old reader.new
+        result (λ words. words.now) }
+    ensures pays { PaysWanted (relation_tree relation.now) reader.old reader.new
+        meter.old meter.new result }
     ensures goes_on { ReadsOn meter.old.database reader.old reader.new }
 {
     descend_to_wanted(reader, relation, meter)?;
@@ -86,14 +81,10 @@ impl Way {
         meter: &mut Metered<'d>,
     ) -> Result<Option<&'d [i64]>, Exhausted>
         requires way { IsWayTo meter.old.database (relation_tree relation.now) self.old }
-        ensures row { let own = relation_tree relation.now in
-            let rows = rows_ahead meter.old.database own in
-            IfOk result (λ found. MatchOption found
-            (AreNone (rows self.old) (rows self.new) (read_due meter.old.database own self.new))
-            (λ words. IsFirstRow meter.old.database.texts own
-            (rows self.old) (rows self.new) words.now)) }
-        ensures pays { PaysFor (read_due meter.old.database (relation_tree relation.now))
-            self.old self.new meter.old meter.new result }
+        ensures row { LendsAhead meter.old (relation_tree relation.now) self.old self.new
+            result (λ words. words.now) }
+        ensures pays { PaysReading (relation_tree relation.now) self.old self.new
+            meter.old meter.new result }
         ensures goes_on { FindsOn meter.old.database (relation_tree relation.now)
             self.old self.new }
     {
@@ -110,14 +101,10 @@ impl Way {
         meter: &mut Metered<'d>,
     ) -> Result<Option<&'d [i64]>, Exhausted>
         requires way { IsWayTo meter.old.database (relation_tree relation.now) self.old }
-        ensures row { let own = relation_tree relation.now in
-            let rows = kept_rows meter.old.database own in
-            IfOk result (λ found. MatchOption found
-            (AreNone (rows self.old) (rows self.new) (read_due meter.old.database own self.new))
-            (λ words. IsFirstRow meter.old.database.texts own
-            (rows self.old) (rows self.new) words.now)) }
-        ensures pays { PaysFor (read_due meter.old.database (relation_tree relation.now))
-            self.old self.new meter.old meter.new result }
+        ensures row { LendsKept meter.old (relation_tree relation.now) self.old self.new
+            result (λ words. words.now) }
+        ensures pays { PaysReading (relation_tree relation.now) self.old self.new
+            meter.old meter.new result }
         ensures goes_on { FindsOn meter.old.database (relation_tree relation.now)
             self.old self.new }
     {

@@ -16,7 +16,7 @@ returns-in-Ok-Done-clause-answers c =
     let end : RunEnd = record { plan = plan_tree c.in-Some.attempt.plan.now; total = at.meter.account.spent; runs = c.members.runs + 1; contour = c.in-Some.attempt.contour } in
     let ends : end ≡ run_end bouquet (works_over database bouquet) = search rules in
     answers c.args.b.now database c.args.max_work at.meter.account.spent at.space c.report.new.space end c.block.ensures.bouquet c.report.result c.report.ensures.tells are ends refl
-    c.run_within.ensures.within
+    c.run_within.ensures.leaves.within
 
 pub returns-in-Ok-clause-answers : goal.returns-in-Ok-clause-answers
 returns-in-Ok-clause-answers c =
@@ -27,4 +27,4 @@ returns-in-Ok-clause-answers c =
     let end : RunEnd = record { plan = plan_tree c.final_plan-plan.result.now; total = at.meter.account.spent; runs = c.members.runs + 1; contour = 0 } in
     let ends : end ≡ run_end bouquet (works_over database bouquet) = search rules in
     answers c.args.b.now database c.args.max_work at.meter.account.spent at.space c.report-in-Ok.new.space end c.block-2.ensures.bouquet c.report-in-Ok.result c.report-in-Ok.ensures.tells are ends refl
-    c.run_within-2.ensures.within
+    c.run_within-2.ensures.leaves.within
