@@ -2,13 +2,15 @@
 use Rattle.std.proofs.Common.{◌≡◌, ℕ, zero, suc, ◌+◌, ◌<◌, ◌≤◌, Bool, true, false, List, [], ◌∷◌, ◌++◌, drop, length, length-drop, Option, Some, None, refl, sym, ap, ◌∙◌, arith, inl}
 use Rattle.std.specs.Prelude.{if◌then◌else◌, IsSome}
 use Rattle.csv.specs.Machine.{Read, step, is_end, ends_at_end, fields_after, field_after, next_record}
-use Rattle.csv.specs.Reading.{records_from, records_next, source_of, pending_of, NextIs, ReadsNext, ReadRecord, default_config, took_first, strip_bom, is_bom}
+use Rattle.csv.specs.Reading.{records_from, records_next, source_of, pending_of, NextIs, ReadsNext, ReadRecord, default_config, took_first, is_flexible, ExplainsRead, strip_bom, is_bom}
 use Rattle.csv.specs.declared.parser.Config.{Config}
 use Rattle.csv.specs.declared.parser.State.{State}
 use Rattle.csv.specs.declared.parser.State.TheVariants as st
+use Rattle.csv.specs.declared.error.ErrorKind.{ErrorKind}
+use Rattle.csv.specs.declared.error.ErrorKind.TheVariants as kind
 use Rattle.csv.specs.declared.reader.Reader.{Reader}
 use Rattle.csv_load.specs.Load.{entries_of}
-use Rattle.csv_load.specs.Entries.{records_after, records_left, GivesEntries}
+use Rattle.csv_load.specs.Entries.{records_after, records_left, GivesEntries, MayStop}
 
 -- a record leaves fewer bytes than it was read from, unless there were none
 next_record-shorter : (cfg : Config) (s : State) (fields : List (List ℕ)) (field xs : List ℕ) (p : Read)
@@ -84,15 +86,25 @@ records_after-read s s2 None after found fields known r = cc known
 records_after-read s s2 (Some xs) None found fields known r = absurd r
 records_after-read s s2 (Some xs) (Some ys) found fields known r = (refl, records_after-next s xs ∙ records_next-left _ found fields s2 ys r)
 
+-- an entry of another length doesn't stop a reader of bytes
+pub flexible-stops : {R : Type 0} (remaining : R → Option (List ℕ)) (old new : Reader R) (error : ErrorKind)
+    → is_flexible old ≡ true → ExplainsRead remaining old new false error → MayStop error
+flexible-stops remaining old new (kind.Io fault) flexible why = tt
+flexible-stops remaining old new kind.OutOfMemory flexible why = tt
+flexible-stops remaining old new (kind.UnequalLengths pos expected len) flexible why = let wrong : false ≡ true = sym why.0 ∙ flexible in absurd cc
+flexible-stops remaining old new (kind.Utf8 pos err) flexible why = let wrong : false ≡ true = why.0 in absurd cc
+flexible-stops remaining old new (kind.Serialize text) flexible why = absurd why
+flexible-stops remaining old new (kind.Deserialize pos err) flexible why = absurd why
+
 -- what a read of a record does
 pub entries_left-read : {R : Type 0} (remaining : R → Option (List ℕ)) (old new : Reader R) (found : Bool) (fields : List (List ℕ))
-    → GivesEntries remaining old → ReadRecord remaining old new found fields → took_first new ≡ true
+    → GivesEntries remaining old → ReadRecord remaining old new found fields → took_first new ≡ true → is_flexible new ≡ is_flexible old
     → GivesEntries remaining new × (records_left remaining old ≡ (if found then fields ∷ records_left remaining new else []))
 unfolding records_left
-entries_left-read remaining old new found fields g r first =
+entries_left-read remaining old new found fields g r first as_flexible =
     let now : source_of remaining new ≡ pending_of (remaining new.rdr) new = rw r.1 refl in
     let left = records_after-read old.state new.state (source_of remaining old) (pending_of (remaining new.rdr) new) found fields g.known (rw g.config at r.0) in (
-      record { known = rw now left.0; config = r.2 ∙ g.config; untrimmed = r.3 ∙ g.untrimmed; ready = inl first },
+      record { known = rw now left.0; config = r.2 ∙ g.config; untrimmed = r.3 ∙ g.untrimmed; flexible = as_flexible ∙ g.flexible; ready = inl first },
       rw now left.1,
     )
 

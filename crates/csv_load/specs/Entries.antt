@@ -1,7 +1,9 @@
 -- What a reader of known bytes has yet to read.
-use Rattle.std.specs.Prelude.{◌≡◌, ℕ, ◌+◌, List, [], length, Option, Some, None, IsSome}
-use Rattle.csv.specs.Reading.{records_from, source_of, reader_config, reader_trim, reader_state, Ready, default_config}
+use Rattle.std.specs.Prelude.{◌≡◌, ℕ, ◌+◌, true, List, [], length, Option, Some, None, IsSome}
+use Rattle.csv.specs.Reading.{records_from, source_of, reader_config, reader_trim, reader_state, is_flexible, Ready, default_config}
 use Rattle.csv.specs.declared.parser.State.{State}
+use Rattle.csv.specs.declared.error.ErrorKind.{ErrorKind}
+use Rattle.csv.specs.declared.error.ErrorKind.TheVariants as kind
 use Rattle.csv.specs.declared.reader.Reader.{Reader}
 use Rattle.csv.specs.declared.reader.Trim.TheVariants as trim
 
@@ -14,9 +16,16 @@ records_after state (Some text) = records_from default_config (length text + 1) 
 unfoldable pub records_left : {R : Type 0} → (R → Option (List ℕ)) → Reader R → List (List (List ℕ))
 records_left remaining reader = records_after (reader_state reader) (source_of remaining reader)
 
--- a reader that gives the entries of known bytes one by one, each as it stands there
+-- a reader that gives the entries of known bytes one by one, each as it stands there, of whatever length
 pub record GivesEntries {R : Type 0} (remaining : R → Option (List ℕ)) (reader : Reader R) : Type 0 where
   pub known : IsSome (source_of remaining reader)
   pub config : reader_config reader ≡ default_config
   pub untrimmed : reader_trim reader ≡ trim.None
+  pub flexible : is_flexible reader ≡ true
   pub ready : Ready reader
+
+-- what may stop such a reader: a fault of its source, or want of memory
+abbrev pub MayStop : ErrorKind → Type 0
+MayStop (kind.Io fault) = Unit {0}
+MayStop kind.OutOfMemory = Unit {0}
+MayStop other = ⊥

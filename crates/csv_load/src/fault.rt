@@ -75,15 +75,3 @@ impl From<AllocError> for LoadFault {
         LoadFault::NoMemory
     }
 }
-
-// The reader's contract leaves a fault of its source open, and a slice has none: what is left is that memory ran out.
-impl From<csv::Error> for LoadFault {
-    ghost use Rattle.std.specs.Prelude.{◌≡◌};
-    ghost use Rattle.csv_load.specs.declared.fault.LoadFault.TheVariants.{NoMemory};
-
-    ghost from_gives = { λ _ fault. fault ≡ NoMemory };
-
-    fn from(_: csv::Error) -> LoadFault {
-        LoadFault::NoMemory
-    }
-}

@@ -20,6 +20,10 @@ field_of (value.Text text) = text
 abbrev pub record_of : ValueRow → List ℕ
 record_of row = row_text default_writer (map field_of row)
 
+-- the record of a row of words
+abbrev pub record_of_words : List (List ℕ) → List ColumnType → WordRow → List ℕ
+record_of_words texts kinds row = record_of (values_of texts kinds row)
+
 -- the records of rows of words as they stand
 abbrev pub records_of : List (List ℕ) → List ColumnType → List WordRow → List ℕ
 records_of texts kinds rows = flat_map (λ row. record_of (values_of texts kinds row)) rows
@@ -27,3 +31,11 @@ records_of texts kinds rows = flat_map (λ row. record_of (values_of texts kinds
 -- the names of the columns as a record, and the records of the rows in order
 abbrev pub table_text : List (List ℕ) → List ValueRow → List ℕ
 table_text names rows = row_text default_writer names ++ flat_map record_of (in_order rows)
+
+-- the same, of rows of words
+abbrev pub words_text : List (List ℕ) → List ColumnType → (names : List (List ℕ)) → List WordRow → List ℕ
+words_text texts kinds names rows = table_text names (map (values_of texts kinds) rows)
+
+-- the names of the columns, and the records of rows of words as they stand
+abbrev pub text_in_turn : List (List ℕ) → List ColumnType → (names : List (List ℕ)) → List WordRow → List ℕ
+text_in_turn texts kinds names rows = row_text default_writer names ++ records_of texts kinds rows

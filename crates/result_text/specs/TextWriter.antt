@@ -1,5 +1,5 @@
 -- A writer of CSV over a vector, with its defaults.
-use Rattle.std.specs.Prelude.{◌≡◌, ◌==◌, ◌&&◌, ◌||◌, ◌-◌, ◌^◌, not, min, ℕ, List, [], ◌++◌, length}
+use Rattle.std.specs.Prelude.{◌≡◌, ◌==◌, ◌&&◌, ◌||◌, ◌-◌, ◌^◌, not, min, ℕ, List, [], ◌++◌, length, Result, OnOk}
 use Rattle.std.specs.declared.alloc.Global.{Global}
 use Rattle.std.specs.declared.vec.Vec.{Vec}
 use Rattle.csv.specs.Writing.{default_writer, fields_written, has_written, is_blank, row_body, row_text, writer_pending, writer_setup, writer_under}
@@ -32,3 +32,7 @@ pub record EndsRecord (old new : TextWriter) : Type 0 where
 -- the writer, which has begun no record, adds this text and has begun none
 pub record WritesText (text : List ℕ) (old new : TextWriter) : Type 0 where
   pub adds : (before : List ℕ) → HasWritten before [] old → HasWritten (before ++ text) [] new
+
+-- the same, unless memory ran out
+abbrev pub Writes : {T E : Type 0} → Result T E → (old new : TextWriter) → List ℕ → Type 0
+Writes result old new text = OnOk result (WritesText text old new)

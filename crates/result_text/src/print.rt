@@ -1,12 +1,12 @@
 // Prints rows as CSV (RFC 4180), as the csv crate writes it. Each error of the csv crate is out of memory, since nothing
 // else can fail where a vector is written to and each row is as wide as the header.
-ghost use Rattle.std.specs.Prelude.{◌≡◌, [], ◌∷◌, ◌++◌, All, IfOk, OnOk};
+ghost use Rattle.std.specs.Prelude.{◌≡◌, [], ◌∷◌, All, IfOk, OnOk};
 ghost use Rattle.csv.specs.Writing.{row_text, default_writer};
 ghost use Rattle.sql_values.specs.Words.{value_of, IsWord};
 ghost use Rattle.result_text.specs.Rows.{words_of};
-ghost use Rattle.sql_values.specs.Stored.{values_of, AreWordsOf};
-ghost use Rattle.result_text.specs.Printed.{field_of, record_of, records_of};
-ghost use Rattle.result_text.specs.TextWriter.{WritesFields, EndsRecord, WritesText};
+ghost use Rattle.sql_values.specs.Stored.{AreWordsOf};
+ghost use Rattle.result_text.specs.Printed.{field_of, record_of_words, records_of, text_in_turn};
+ghost use Rattle.result_text.specs.TextWriter.{WritesFields, EndsRecord, Writes};
 
 use crate::sort::SortedRow;
 use crate::texts::TextList;
@@ -47,7 +47,7 @@ fn end_record(writer: &mut TextWriter) -> Result<(), AllocError>
 }
 
 fn write_header(writer: &mut TextWriter, names: &[Text]) -> Result<(), AllocError>
-    ensures { OnOk result (WritesText (row_text default_writer names.now) writer.old writer.new) }
+    ensures { Writes result writer.old writer.new (row_text default_writer names.now) }
 {
     for name in names {
         write_field(writer, name.bytes())?;
@@ -83,8 +83,8 @@ fn write_row<L: TextList>(
     row: &[i64],
 ) -> Result<(), AllocError>
     requires { AreWordsOf (L.texts texts.now) kinds.now row.now }
-    ensures { OnOk result
-        (WritesText (record_of (values_of (L.texts texts.now) kinds.now row.now)) writer.old writer.new) }
+    ensures { Writes result writer.old writer.new
+        (record_of_words (L.texts texts.now) kinds.now row.now) }
 {
     for (place, kind) in kinds.iter().enumerate() {
         write_value(writer, texts, *kind, row[place])?;
@@ -113,8 +113,8 @@ fn write_gathered<L: TextList>(
 ) -> Result<(), AllocError>
     requires allowed { All (AreWordsOf (L.texts texts.now) kinds.now) rows.now }
     requires gathered { words.now ≡ words_of rows.now }
-    ensures { OnOk result
-        (WritesText (records_of (L.texts texts.now) kinds.now rows.now) writer.old writer.new) }
+    ensures { Writes result writer.old writer.new
+        (records_of (L.texts texts.now) kinds.now rows.now) }
 {
     let mut left = words;
     for row in rows {
@@ -134,8 +134,8 @@ fn write_rows<L: TextList>(
     rows: &[SortedRow<'_>],
 ) -> Result<(), AllocError>
     requires { All (AreWordsOf (L.texts texts.now) kinds.now) rows.now }
-    ensures { OnOk result
-        (WritesText (records_of (L.texts texts.now) kinds.now rows.now) writer.old writer.new) }
+    ensures { Writes result writer.old writer.new
+        (records_of (L.texts texts.now) kinds.now rows.now) }
 {
     let mut words = Vec::new(alloc);
     let mut from = 0;
@@ -181,8 +181,8 @@ pub(crate) fn text_in_turn<L: TextList>(
     rows: &[SortedRow<'_>],
 ) -> Result<Vec<u8>, AllocError>
     requires { All (AreWordsOf (L.texts texts.now) kinds.now) rows.now }
-    ensures { IfOk result (λ text. text.items
-        ≡ row_text default_writer names.now ++ records_of (L.texts texts.now) kinds.now rows.now) }
+    ensures { IfOk result
+        (λ text. text.items ≡ text_in_turn (L.texts texts.now) kinds.now names.now rows.now) }
 {
     let likely = likely_bytes(kinds, rows.len());
     let mut writer = Writer::from_writer(Vec::with_capacity(alloc, likely)?);

@@ -129,7 +129,8 @@ fn projected_rows<'a>(
 /// The CSV text (RFC 4180) of a header and of the projection of these rows, in ascending order: the leftmost column
 /// first, and in it NULL, then numbers by value, then texts by their bytes. A row of the stack has the words of all
 /// relations, those of each after those of the one before, and is printed as often as it stands there. The only error is
-/// out of memory.
+/// out of memory: the csv writer refuses a record that isn't as wide as the header, and with one name a projected column
+/// (`named`) none is.
 pub fn print_rows(
     alloc: Global,
     texts: &Texts,

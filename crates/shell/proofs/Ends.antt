@@ -6,7 +6,7 @@ use Rattle.std.specs.Io.KnownBytes.{Appends, Keeps}
 use Rattle.std.proofs.Math.ListN.{get_or-map}
 use Rattle.std.proofs.lemmas.List.{append-nil, length-map}
 use Rattle.outside_io.specs.Files.{FolderState}
-use Rattle.sql_parse.specs.declared.tree.Statement.{Statement}
+use Rattle.sql_parse.specs.declared.statement.Statement.{Statement}
 use Rattle.sql_parse.specs.Trees.{StatementTree, statement_tree}
 use Rattle.session.specs.declared.stop.Stop.{Stop}
 use Rattle.session.specs.declared.refusal.Refusal.{Refusal}

@@ -6,7 +6,7 @@ use Rattle.sql_values.specs.Limits.{max_script_bytes}
 use Rattle.sql_lex.specs.declared.token.Token.{Token}
 use Rattle.sql_lex.specs.Tokens.{Tokens, IsReading}
 use Rattle.sql_lex.proofs.Lexings.{ComesNext-token}
-use Rattle.sql_parse.specs.declared.tree.Statement.{Statement}
+use Rattle.sql_parse.specs.declared.statement.Statement.{Statement}
 use Rattle.sql_parse.specs.Trees.{statement_tree}
 use Rattle.sql_parse.specs.Counts.{predicates_of}
 

@@ -123,12 +123,16 @@ block_of database query =
       projection = projection_of tables query.columns;
     }
 
+-- FROM has too many tables
+abbrev pub tables_past_limit : QueryTree → Option BindFault
+tables_past_limit query = past_limit limit.Relations max_relations (length query.from)
+
 -- what refuses a query: how many tables FROM has, each of them, the columns that SELECT names, the condition of WHERE,
 -- and how many edges it has
 abbrev pub bind_fault : DatabaseState → QueryTree → Option BindFault
 bind_fault database query =
     let tables = named_tables database query.from in
-    option_or (past_limit limit.Relations max_relations (length query.from))
+    option_or (tables_past_limit query)
     (option_or (from_fault database [] query.from)
     (option_or (projection_fault tables query.columns)
     (option_or (condition_fault tables query.condition)

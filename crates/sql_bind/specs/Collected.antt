@@ -1,19 +1,25 @@
 -- What the conjuncts so far come to: a filter for each relation, and the edges.
 use Rattle.std.specs.Prelude.{◌≡◌, ℕ, zero, suc, ◌+◌, List, [], ◌∷◌, ◌++◌, length, map, replicate}
 use Rattle.query_block.specs.declared.condition.Condition.{Condition}
-use Rattle.query_block.specs.Conditions.{FilterTree, filter_tree}
+use Rattle.query_block.specs.Conditions.{FilterTree, filter_tree, chain}
 use Rattle.std.specs.declared.alloc.Global.{Global}
 use Rattle.std.specs.declared.vec.Vec.{Vec}
-use Rattle.sql_parse.specs.Trees.{ConditionTree}
+use Rattle.sql_parse.specs.Trees.{ConditionTree, condition_tree, operands}
+use Rattle.sql_parse.specs.declared.tree.Cond.{Cond}
 use Rattle.sql_bind.specs.declared.conjuncts.Parts.{Parts}
 use Rattle.sql_bind.specs.Named.{NamedTable}
-use Rattle.sql_bind.specs.Conjuncts.{bound_condition}
-use Rattle.query_block.specs.Blocks.{RelationTree}
+use Rattle.sql_bind.specs.Conjuncts.{bound_condition, bound_conditions}
+use Rattle.query_block.specs.declared.block.Relation.{Relation}
+use Rattle.query_block.specs.Blocks.{RelationTree, relation_tree}
 use Rattle.sql_bind.specs.Binding.{edges_of, filter_of, relation_with}
 
 -- a condition with its columns by number
 abbrev pub IsBound : List NamedTable → ConditionTree → Condition → Type 0
 IsBound tables written bound = filter_tree bound ≡ bound_condition tables written
+
+-- the same of the operands of a chain
+abbrev pub AreBound : List NamedTable → List Cond → List Condition → Type 0
+AreBound tables written bound = chain (map filter_tree bound) ≡ bound_conditions tables (operands (map condition_tree written))
 
 -- the trees of a filter for each relation
 abbrev pub filter_trees : List (Vec Condition Global) → List (List FilterTree)
@@ -31,6 +37,10 @@ with_condition relation condition [] = []
 with_condition zero condition (filter ∷ filters) = (filter ++ condition ∷ []) ∷ filters
 with_condition (suc relation) condition (filter ∷ filters) = filter ∷ with_condition relation condition filters
 
+-- the filters with a condition more
+abbrev pub AddsFilter : (relation : ℕ) → FilterTree → (old new : List (Vec Condition Global)) → Type 0
+AddsFilter relation condition old new = filter_trees new ≡ with_condition relation condition (filter_trees old)
+
 -- the parts with those of more conjuncts behind
 pub record AddsConjuncts (tables : List NamedTable) (conjuncts : List ConditionTree) (old new : Parts) : Type 0 where
   pub edges : new.edges.items ≡ old.edges.items ++ edges_of tables conjuncts
@@ -41,6 +51,9 @@ abbrev pub with_filters : List NamedTable → List (List FilterTree) → List Re
 with_filters [] filters = []
 with_filters (table ∷ tables) [] = []
 with_filters (table ∷ tables) (filter ∷ filters) = relation_with table filter ∷ with_filters tables filters
+
+abbrev pub HaveFilters : List NamedTable → List (List FilterTree) → List Relation → Type 0
+HaveFilters tables filters relations = map relation_tree relations ≡ with_filters tables filters
 
 -- the parts of these conjuncts alone
 pub record HasParts (tables : List NamedTable) (conjuncts : List ConditionTree) (parts : Parts) : Type 0 where

@@ -132,6 +132,10 @@ conjunct_fault tables number conjunct =
 abbrev pub conjuncts_fault : List NamedTable → ℕ → ConditionTree → Option BindFault
 conjuncts_fault tables number condition = first_fault_from (conjunct_fault tables) number (conjuncts condition)
 
+-- the same of the operands of a chain of AND
+abbrev pub all_conjuncts_fault : List NamedTable → ℕ → List Cond → Option BindFault
+all_conjuncts_fault tables number parts = first_fault_from (conjunct_fault tables) number (all_conjuncts parts)
+
 -- an operand with its column by number
 abbrev pub bound_operand : List NamedTable → Term → Operand
 bound_operand tables (Column written) = operand.Column (place_of tables written).column

@@ -87,3 +87,7 @@ predicate_fault tables number predicate = operands_fault tables number (terms_of
 -- the predicates of a condition, numbered from this number on
 abbrev pub predicates_fault : List NamedTable → ℕ → ConditionTree → Option BindFault
 predicates_fault tables number condition = first_fault_from (predicate_fault tables) number (predicates condition)
+
+-- the same of the operands of a chain
+abbrev pub all_predicates_fault : List NamedTable → ℕ → List Cond → Option BindFault
+all_predicates_fault tables number parts = first_fault_from (predicate_fault tables) number (all_predicates parts)

@@ -7,7 +7,7 @@ ghost use Rattle.sql_parse.specs.Counts.{predicates_in, of_condition};
 ghost use Rattle.sql_parse.specs.WellFormed.{IsWellFormedQuery, IsWellFormedCondition};
 ghost use Rattle.sql_bind.specs.Binding.{condition_fault, conjuncts_in, relation_with};
 ghost use Rattle.sql_bind.specs.Conjuncts.{conjuncts};
-ghost use Rattle.sql_bind.specs.Collected.{HasParts, filter_trees, with_filters};
+ghost use Rattle.sql_bind.specs.Collected.{HasParts, filter_trees, HaveFilters};
 ghost use Rattle.sql_bind.specs.Refused.{Binds, RefusesBlock};
 
 use crate::conjuncts::{Parts, add_conjuncts};
@@ -111,8 +111,8 @@ fn relations_with(
     filters: Vec<Vec<Condition>>,
 ) -> Result<Vec<Relation>, AllocError>
     requires { length filters.items ≡ length scope.now }
-    ensures { IfOk result (λ relations. map relation_tree relations.items
-        ≡ with_filters scope.now (filter_trees filters.items)) }
+    ensures { IfOk result
+        (λ relations. HaveFilters scope.now (filter_trees filters.items) relations.items) }
 {
     let tables = scope.tables();
     let mut relations = Vec::with_capacity(alloc, tables.len())?;
@@ -130,7 +130,8 @@ fn relations_with(
 /// Refused is the first of these checks that fails: how many tables FROM has; each of them from left to right, that the
 /// database has it and that no alias stands twice; how many columns SELECT names, and each of them; the predicates of
 /// WHERE, in each its columns and then the kinds of its operands; the conjuncts of WHERE, each over one relation or an
-/// equality of columns of two; how many edges there are. Its only other refusal is out of memory.
+/// equality of columns of two; how many edges there are. Its only other refusal is out of memory, which doesn't come where
+/// FROM has too many tables: they are counted before any memory is taken.
 pub fn bind(alloc: Global, database: &Database, query: &Query) -> Result<Block, BindFault>
     requires well_formed { IsWellFormedQuery (query_tree query.now) }
     requires counted { of_condition predicates_in (query_tree query.now).condition < 2 ^ 32 }

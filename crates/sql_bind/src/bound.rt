@@ -1,9 +1,9 @@
 // Conditions with their columns by number.
 ghost use Rattle.std.specs.Prelude.{◌≡◌, IfOk, map};
-ghost use Rattle.query_block.specs.Conditions.{filter_tree, chain};
-ghost use Rattle.sql_parse.specs.Trees.{Between, Compare, OneOf, condition_tree, operands};
-ghost use Rattle.sql_bind.specs.Conjuncts.{bound_operand, bound_conditions, negated_if};
-ghost use Rattle.sql_bind.specs.Collected.{IsBound};
+ghost use Rattle.query_block.specs.Conditions.{filter_tree};
+ghost use Rattle.sql_parse.specs.Trees.{Between, Compare, OneOf, condition_tree};
+ghost use Rattle.sql_bind.specs.Conjuncts.{bound_operand, negated_if};
+ghost use Rattle.sql_bind.specs.Collected.{IsBound, AreBound};
 
 use crate::names::place_of;
 use crate::scope::Scope;
@@ -136,8 +136,7 @@ fn bound_conditions(
     scope: &Scope<'_>,
     parts: &[Cond],
 ) -> Result<Vec<Condition>, AllocError>
-    ensures { IfOk result (λ bound. chain (map filter_tree bound.items)
-        ≡ bound_conditions scope.now (operands (map condition_tree parts.now))) }
+    ensures { IfOk result (λ bound. AreBound scope.now parts.now bound.items) }
 {
     let mut bound = Vec::with_capacity(alloc, parts.len())?;
     for i in 0..parts.len() {

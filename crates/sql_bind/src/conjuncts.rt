@@ -2,9 +2,8 @@
 ghost use Rattle.std.specs.Prelude.{◌≡◌, ◌≤◌, ◌+◌, ◌^◌, [], ◌∷◌, IfOk, OnOk, length};
 ghost use Rattle.query_block.specs.Conditions.{filter_tree};
 ghost use Rattle.sql_parse.specs.Trees.{condition_tree};
-ghost use Rattle.sql_bind.specs.Names.{first_fault_from};
-ghost use Rattle.sql_bind.specs.Conjuncts.{conjuncts, all_conjuncts, conjunct_fault, conjuncts_fault, edge_between, equality_between, equality_of};
-ghost use Rattle.sql_bind.specs.Collected.{AddsConjuncts, filter_trees, with_condition};
+ghost use Rattle.sql_bind.specs.Conjuncts.{conjuncts, all_conjuncts, conjunct_fault, conjuncts_fault, all_conjuncts_fault, edge_between, equality_between, equality_of};
+ghost use Rattle.sql_bind.specs.Collected.{AddsConjuncts, AddsFilter};
 ghost use Rattle.sql_bind.specs.Refused.{RefusesBlock};
 
 use crate::bound::bound_condition;
@@ -77,8 +76,8 @@ fn push_filter(
     relation: u8,
     condition: Condition,
 ) -> Result<(), AllocError>
-    ensures { OnOk result (filter_trees filters.new.items
-        ≡ with_condition relation (filter_tree condition) (filter_trees filters.old.items)) }
+    ensures { OnOk result
+        (AddsFilter relation (filter_tree condition) filters.old.items filters.new.items) }
 {
     let at = relation as usize;
     if at < filters.len() {
@@ -153,8 +152,7 @@ fn add_all(
     parts: &mut Parts,
 ) -> Result<u64, BindFault>
     requires { number + length (all_conjuncts chain.now) ≤ 2 ^ 32 }
-    ensures refuses { RefusesBlock
-        (first_fault_from (conjunct_fault scope.now) number (all_conjuncts chain.now)) result }
+    ensures refuses { RefusesBlock (all_conjuncts_fault scope.now number chain.now) result }
     ensures added { OnOk result
         (AddsConjuncts scope.now (all_conjuncts chain.now) parts.old parts.new) }
     ensures next { IfOk result (λ next. next ≡ number + length (all_conjuncts chain.now)) }

@@ -5,7 +5,7 @@ ghost use Rattle.sql_values.specs.Dictionary.{has_text};
 ghost use Rattle.db_catalog.specs.Database.{table_number};
 ghost use Rattle.sql_bind.specs.Binding.{named_table, named_tables, past_limit, table_fault, from_fault};
 ghost use Rattle.sql_bind.specs.Named.{IsNamed};
-ghost use Rattle.sql_bind.specs.Refused.{RefusesBlock};
+ghost use Rattle.sql_bind.specs.Refused.{RefusesAlways, RefusesBlock};
 
 use crate::fault::BindFault;
 use crate::scope::{NamedTable, Scope};
@@ -14,9 +14,9 @@ use sql_parse::{Item, Name};
 use sql_values::LimitName;
 use std::alloc::Global;
 
-/// Refuses a number past its limit.
+/// Refuses a number past its limit. It takes no memory.
 pub(crate) fn check_limit(name: LimitName, most: usize, value: usize) -> Result<(), BindFault>
-    ensures { RefusesBlock (past_limit name most value) result }
+    ensures { RefusesAlways (past_limit name most value) result }
 {
     if value > most {
         return Err(BindFault::Limit {

@@ -3,9 +3,8 @@ ghost use Rattle.std.specs.Prelude.{◌≡◌, ◌≤◌, ◌+◌, ◌^◌, [], 
 ghost use Rattle.query_block.specs.Blocks.{is_text};
 ghost use Rattle.sql_parse.specs.Trees.{condition_tree, operands};
 ghost use Rattle.sql_parse.specs.Counts.{predicates_in, predicates_in_all};
-ghost use Rattle.sql_bind.specs.Names.{first_fault_from};
 ghost use Rattle.sql_bind.specs.Predicates.{kind_in, is_text_term, agree, are_alike, term_fault, terms_fault};
-ghost use Rattle.sql_bind.specs.Predicates.{operands_fault, predicate_fault, predicates_fault, all_predicates};
+ghost use Rattle.sql_bind.specs.Predicates.{operands_fault, predicate_fault, predicates_fault, all_predicates_fault};
 ghost use Rattle.sql_bind.specs.Refused.{RefusesBlock};
 
 use crate::fault::BindFault;
@@ -218,8 +217,7 @@ fn check_parts(
     number: u64,
 ) -> Result<u64, BindFault>
     requires { number + predicates_in_all (operands (map condition_tree parts.now)) ≤ 2 ^ 32 }
-    ensures refuses { RefusesBlock
-        (first_fault_from (predicate_fault scope.now) number (all_predicates parts.now)) result }
+    ensures refuses { RefusesBlock (all_predicates_fault scope.now number parts.now) result }
     ensures next { IfOk result (λ next.
         next ≡ number + predicates_in_all (operands (map condition_tree parts.now))) }
 {

@@ -1,4 +1,5 @@
 pub mod Limits
+pub mod Once
 pub mod Bytes
 pub mod Run
 pub mod Gap

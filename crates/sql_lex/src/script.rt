@@ -1,12 +1,11 @@
 // All tokens of a script, and the two laws of tokens. It relies on `gap` and `form` for one token, and never goes back
 // past the end of a token.
-ghost use Rattle.std.specs.Prelude.{◌≡◌, ℕ, ◌≤◌, ◌⊎◌, List, None, Result, length, IfOk, IfErr};
-ghost use Rattle.std.specs.List.{All};
-ghost use Rattle.sql_lex.specs.Tokens.{IsToken, ComesNext, Tokens, IsFirstFault, IsLexing};
+ghost use Rattle.std.specs.Prelude.{◌≡◌, ℕ, ◌≤◌, List, Result, length, IfOk, IfErr};
+ghost use Rattle.sql_lex.specs.Tokens.{ComesNext, Tokens, IsLexCause, IsLexing};
+ghost use Rattle.sql_lex.specs.Once.{AtLeastOne, AtMostOne};
 ghost use Rattle.sql_lex.specs.Written.{Written, MayBeWritten, written_text, written_tokens};
 ghost use Rattle.sql_lex.specs.declared.token.Token.{Token};
 ghost use Rattle.sql_lex.specs.declared.fault.LexFault.{LexFault};
-ghost use Rattle.sql_lex.specs.declared.fault.LexKind.{LexKind};
 
 use crate::fault::{LexFault, LexKind};
 use crate::form::token_at;
@@ -23,9 +22,7 @@ use std::alloc::Global;
 /// no other place or kind, fit the script.
 pub fn lex(alloc: Global, text: &[u8]) -> Result<Vec<Token>, LexFault>
     ensures found { IfOk result (λ tokens. Tokens text.now tokens.items) }
-    ensures each { IfOk result (λ tokens. All (IsToken text.now) tokens.items) }
-    ensures offends { IfErr result (λ fault.
-        (fault.kind ≡ LexKind.NoMemory) ⊎ IsFirstFault text.now fault.place fault.kind) }
+    ensures offends { IfErr result (IsLexCause text.now) }
 {
     let mut tokens = Vec::new(alloc);
     let mut end = 0;
@@ -57,10 +54,8 @@ fn next_token(text: &[u8], from: usize) -> Result<Option<Token>, LexFault>
 /// The law of lexing: every script has tokens or a first fault, and no script is read in two ways. A script with
 /// tokens has these alone and no first fault; one with a first fault has this one alone and no tokens.
 pub fn one_lexing_is_due()
-    ensures some { (script : List ℕ) →
-        (lexing : Result (List Token) LexFault) × IsLexing script lexing }
-    ensures one { (script : List ℕ) (one other : Result (List Token) LexFault) →
-        IsLexing script one → IsLexing script other → one ≡ other }
+    ensures some { (script : List ℕ) → AtLeastOne (IsLexing script) }
+    ensures one { (script : List ℕ) → AtMostOne (IsLexing script) }
 {}
 
 /// The law of writing: tokens written one after another, with white space where one would go on into the next, are

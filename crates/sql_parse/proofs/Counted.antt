@@ -4,13 +4,13 @@ use Rattle.std.proofs.lemmas.List.{length-map}
 use Rattle.std.specs.List.{All, AllByRecursion}
 use Rattle.std.proofs.lemmas.List.Elements.{All-from_recursion}
 use Rattle.sql_lex.specs.declared.token.Token.{Token}
-use Rattle.sql_parse.specs.declared.tree.Statement.{Statement}
+use Rattle.sql_parse.specs.declared.statement.Statement.{Statement}
 use Rattle.sql_parse.specs.Lexemes.{lexeme, lexemes}
 use Rattle.sql_parse.specs.Trees.{StatementTree, statement_tree}
-use Rattle.sql_parse.specs.Counts.{condition_of, predicates_of, operands_of}
+use Rattle.sql_parse.specs.Counts.{condition_of, predicates_of, operands_of, IsWithinTokens}
 use Rattle.sql_parse.specs.Script.{is_semicolon, in_front, split, not_empty, pieces, AreStatementsOf, AreStatements}
 use Rattle.sql_parse.specs.Statements.{IsStatement}
-use Rattle.sql_parse.proofs.CountedQueries.{IsCounted, condition-few}
+use Rattle.sql_parse.proofs.CountedQueries.{condition-few}
 use Rattle.sql_parse.proofs.Statements.{statement-counted}
 
 -- no piece is longer than the script
@@ -44,7 +44,7 @@ not_empty-within most ((token ∷ piece) ∷ all) within = (within.0, not_empty-
 abbrev AreFew : ℕ → (StatementTree → ℕ) → List Statement → Type 0
 AreFew most count statements = AllByRecursion (λ statement. count (statement_tree statement) ≤ most) statements
 
-statements-counted : (count : StatementTree → ℕ) → IsCounted count IsStatement → (script : List ℕ) (most : ℕ) (all : List (List Token)) (statements : List Statement)
+statements-counted : (count : StatementTree → ℕ) → IsWithinTokens count IsStatement → (script : List ℕ) (most : ℕ) (all : List (List Token)) (statements : List Statement)
     → AreWithin most all → AreStatementsOf script all (map statement_tree statements) → AreFew most count statements
 statements-counted count counted script most all [] within form = tt
 statements-counted count counted script most [] (statement ∷ statements) within form = absurd form
@@ -53,15 +53,11 @@ statements-counted count counted script most (piece ∷ all) (statement ∷ stat
   statements-counted count counted script most all statements within.1 form.1,
 )
 
-all_counted : (count : StatementTree → ℕ) → IsCounted count IsStatement → (script : List ℕ) (tokens : List Token) (statements : List Statement)
+all_counted : (count : StatementTree → ℕ) → IsWithinTokens count IsStatement → (script : List ℕ) (tokens : List Token) (statements : List Statement)
     → AreStatements script tokens (map statement_tree statements) → All (λ statement. count (statement_tree statement) ≤ length tokens) statements
 all_counted count counted script tokens statements form =
     All-from_recursion _ statements (statements-counted count counted script (length tokens) (pieces script tokens) statements
     (not_empty-within (length tokens) (split script tokens) (split-within script tokens)) form)
-
-pub operands-counted : (script : List ℕ) (tokens : List Token) (statements : List Statement) → AreStatements script tokens (map statement_tree statements)
-    → All (λ statement. operands_of (statement_tree statement) ≤ length tokens) statements
-operands-counted = all_counted operands_of statement-counted
 
 pub predicates-counted : (script : List ℕ) (tokens : List Token) (statements : List Statement) → AreStatements script tokens (map statement_tree statements)
     → All (λ statement. predicates_of (statement_tree statement) ≤ length tokens) statements

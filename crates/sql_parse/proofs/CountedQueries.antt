@@ -9,7 +9,7 @@ use Rattle.sql_parse.specs.Limits.{nesting_limit}
 use Rattle.sql_parse.specs.Lexemes.{Lexeme, Comparison, mark}
 use Rattle.sql_parse.specs.Trees.{ConditionTree, ConditionTrees, Compare, Between, OneOf, IsNull, Not, And, Or, NoMore, More, operands, QueryTree}
 use Rattle.sql_parse.specs.Grammar.{Rule, Separated, IsColumnName, IsTerm, IsPredicate, IsFactor, IsChain, IsConjunction, IsDisjunction, IsGroup, IsWhere, IsSelect, written_if}
-use Rattle.sql_parse.specs.Counts.{predicates_in, predicates_in_all, operands_in, operands_in_all, of_condition}
+use Rattle.sql_parse.specs.Counts.{predicates_in, predicates_in_all, operands_in, operands_in_all, of_condition, IsWithinTokens}
 
 mutual
   predicates-few : (tree : ConditionTree) → predicates_in tree ≤ operands_in tree
@@ -25,16 +25,12 @@ mutual
   predicates-few_all NoMore = omega arith
   predicates-few_all (More part parts) = omega (arith, predicates-few part, predicates-few_all parts)
 
--- a rule whose values count no more than their tokens
-abbrev pub IsCounted : {A : Type 0} → (A → ℕ) → Rule A → Type 0
-IsCounted {A} count IsForm = (tokens : List Lexeme) (x : A) → IsForm tokens x → count x ≤ length tokens
-
 -- the sum of the counts
 abbrev total : {A : Type 0} → (A → ℕ) → List A → ℕ
 total count [] = 0
 total count (x ∷ xs) = count x + total count xs
 
-separated-counted : {A : Type 0} (count : A → ℕ) (separator : Mark) (IsPart : Rule A) → IsCounted count IsPart → IsCounted (total count) (Separated separator IsPart)
+separated-counted : {A : Type 0} (count : A → ℕ) (separator : Mark) (IsPart : Rule A) → IsWithinTokens count IsPart → IsWithinTokens (total count) (Separated separator IsPart)
 separated-counted count separator IsPart part tokens [] form = absurd form
 separated-counted count separator IsPart part tokens (x ∷ []) form = omega (arith, part tokens x form)
 separated-counted count separator IsPart part tokens (x ∷ y ∷ ys) form =
@@ -44,7 +40,7 @@ column-counted : (alias : Option (List ℕ)) (column : List ℕ) (tokens : List 
 column-counted None column tokens form = rw form.0 (omega arith)
 column-counted (Some alias) column tokens form = rw form.0 (omega arith)
 
-operand-counted : IsCounted (λ operand. 1) IsTerm
+operand-counted : IsWithinTokens (λ operand. 1) IsTerm
 operand-counted tokens (term.Column column) form = column-counted column.alias column.column tokens form
 operand-counted tokens (term.Literal (value.Int n)) form = elim form.1 [
   | inl bare ↦ rw bare.0 (omega arith)
@@ -58,7 +54,7 @@ total-ones : (terms : List Term) → total (λ operand. 1) terms ≡ length term
 total-ones [] = refl
 total-ones (of ∷ terms) = omega (arith, total-ones terms)
 
-predicate-counted : IsCounted operands_in IsPredicate
+predicate-counted : IsWithinTokens operands_in IsPredicate
 predicate-counted tokens (Compare op left right) form =
     rw form.2 (omega (arith, length-append form.0 (Comparison op ∷ form.1), operand-counted form.0 left form.3, operand-counted form.1 right form.4))
 predicate-counted tokens (Between negated of low high) form =
@@ -95,12 +91,12 @@ operands-total : (trees : List ConditionTree) → operands_in_all (operands tree
 operands-total [] = refl
 operands-total (tree ∷ trees) = ap (λ n. operands_in tree + n) (operands-total trees)
 
-plain-counted : (IsGroup : Rule ConditionTree) → IsCounted operands_in IsGroup → (tokens : List Lexeme) (tree : ConditionTree)
+plain-counted : (IsGroup : Rule ConditionTree) → IsWithinTokens operands_in IsGroup → (tokens : List Lexeme) (tree : ConditionTree)
     → IsPredicate tokens tree ⊎ IsGroup tokens tree → operands_in tree ≤ length tokens
 plain-counted IsGroup group tokens tree (inl form) = predicate-counted tokens tree form
 plain-counted IsGroup group tokens tree (inr form) = group tokens tree form
 
-factor-counted : (IsGroup : Rule ConditionTree) → IsCounted operands_in IsGroup → IsCounted operands_in (IsFactor IsGroup)
+factor-counted : (IsGroup : Rule ConditionTree) → IsWithinTokens operands_in IsGroup → IsWithinTokens operands_in (IsFactor IsGroup)
 factor-counted IsGroup group tokens tree (inl form) = predicate-counted tokens tree form
 factor-counted IsGroup group tokens tree (inr (inl form)) = group tokens tree form
 factor-counted IsGroup group tokens tree (inr (inr form)) =
@@ -108,18 +104,18 @@ factor-counted IsGroup group tokens tree (inr (inr form)) =
     rw (form.2, form.3) (omega (arith, inner))
 
 chain-counted : (separator : Mark) (node : List ConditionTree → ConditionTree) (IsPart : Rule ConditionTree)
-    → ((trees : List ConditionTree) → operands_in (node trees) ≡ total operands_in trees) → IsCounted operands_in IsPart
-    → IsCounted operands_in (IsChain separator node IsPart)
+    → ((trees : List ConditionTree) → operands_in (node trees) ≡ total operands_in trees) → IsWithinTokens operands_in IsPart
+    → IsWithinTokens operands_in (IsChain separator node IsPart)
 chain-counted separator node IsPart counts part tokens tree (inl one) = part tokens tree one
 chain-counted separator node IsPart counts part tokens tree (inr many) =
     rw (many.3, counts (many.0 ∷ many.1 ∷ many.2)) (separated-counted operands_in separator IsPart part tokens (many.0 ∷ many.1 ∷ many.2) many.4)
 
-disjunction-counted : (IsGroup : Rule ConditionTree) → IsCounted operands_in IsGroup → IsCounted operands_in (IsDisjunction IsGroup)
+disjunction-counted : (IsGroup : Rule ConditionTree) → IsWithinTokens operands_in IsGroup → IsWithinTokens operands_in (IsDisjunction IsGroup)
 disjunction-counted IsGroup group =
     chain-counted m.Or (λ parts. Or (operands parts)) (IsConjunction IsGroup) operands-total
     (chain-counted m.And (λ parts. And (operands parts)) (IsFactor IsGroup) operands-total (factor-counted IsGroup group))
 
-group-counted : (nesting : ℕ) → IsCounted operands_in (IsGroup nesting)
+group-counted : (nesting : ℕ) → IsWithinTokens operands_in (IsGroup nesting)
 unfolding IsGroup
 group-counted zero tokens tree form = absurd form
 group-counted (suc nesting) tokens tree form =

@@ -1,16 +1,13 @@
 -- The statements of pieces, one after another.
-use Rattle.std.proofs.Common.{◌≡◌, ℕ, zero, suc, ◌+◌, ◌<◌, ◌⊎◌, inl, inr, List, [], ◌∷◌, ◌++◌, length, map, take, drop, get_or, Option, Some, None, Result, Ok, Err, IfOk, IfErr, MatchResult, Vec, Global, refl, sym, ap, subst, ◌∙◌, append_assoc, arith}
+use Rattle.std.proofs.Common.{◌≡◌, ℕ, zero, suc, ◌+◌, ◌<◌, List, [], ◌∷◌, ◌++◌, length, take, drop, get_or, Option, Some, None, Result, Ok, Err, refl, sym, ap, subst, ◌∙◌, append_assoc, arith}
 use Rattle.std.specs.List.{All}
 use Rattle.std.proofs.lemmas.List.{drop-drop}
 use Rattle.sql_lex.specs.declared.token.Token.{Token}
 use Rattle.sql_lex.specs.Tokens.{IsToken, Tokens}
 use Rattle.sql_lex.proofs.Lexings.{each_read}
-use Rattle.sql_parse.specs.declared.fault.SyntaxFault.{SyntaxFault}
-use Rattle.sql_parse.specs.declared.fault.SyntaxFault.TheVariants.{Syntax, NoMemory}
-use Rattle.sql_parse.specs.declared.tree.Statement.{Statement}
 use Rattle.sql_parse.specs.Lexemes.{Lexeme, lexemes}
-use Rattle.sql_parse.specs.Trees.{StatementTree, statement_tree}
-use Rattle.sql_parse.specs.Script.{split, not_empty, pieces, AreStatementsOf, AreStatements, IsFirstRefused, IsParsing, IsCause, split_after}
+use Rattle.sql_parse.specs.Trees.{StatementTree}
+use Rattle.sql_parse.specs.Script.{split, not_empty, pieces, AreStatementsOf, AreStatements, IsFirstRefused, IsParsing, split_after}
 use Rattle.sql_parse.specs.Reading.{with_statement}
 use Rattle.sql_parse.proofs.Read.{found_is}
 use Rattle.sql_parse.specs.Statements.{IsStatement, statement_of}
@@ -132,15 +129,6 @@ never_both script tokens trees place all first =
     let one = has_statement script first.0 first.1 (first.3 ∷ first.4) trees (subst (λ (some : List (List Token)). AreStatementsOf script some trees) first.5 all) in
     first.7 one.0 one.1
 
-pub only_statements : (script : List ℕ) (tokens : List Token) (trees : List StatementTree) (result : Result (Vec Statement Global) SyntaxFault)
-    → IfOk result (λ statements. AreStatements script tokens (map statement_tree statements.items)) → IfErr result (IsCause script tokens)
-    → AreStatements script tokens trees
-    → MatchResult result (λ statements. map statement_tree statements.items ≡ trees) (λ fault. fault ≡ NoMemory)
-only_statements script tokens trees (Ok statements) found refused all = are_statements-same script (pieces script tokens) _ trees found all
-only_statements script tokens trees (Err (Syntax place)) found refused all =
-    absurd (never_both script tokens trees place all refused)
-only_statements script tokens trees (Err NoMemory) found refused all = refl
-
 -- no piece is a statement
 abbrev IsNone : List ℕ → List Token → Type 0
 IsNone script piece = (tree : StatementTree) → IsStatement (lexemes script piece) tree → ⊥
@@ -170,15 +158,6 @@ one_place script tokens place other one two =
     one_first script one.0 two.0 one.1 two.1 one.2 two.2 (one.3 ∷ one.4) (two.3 ∷ two.4) (sym one.5 ∙ two.5) one.6 one.7 two.6 two.7 in
     let first_same : one.3 ≡ two.3 = cc in
     one.8 ∙ (ap (λ token. token.start) first_same ∙ sym two.8)
-
--- a script with such a piece is refused there
-pub refused_there : (script : List ℕ) (tokens : List Token) (result : Result (Vec Statement Global) SyntaxFault)
-    → IfOk result (λ statements. AreStatements script tokens (map statement_tree statements.items)) → IfErr result (IsCause script tokens)
-    → (place : ℕ) → IsFirstRefused script tokens place
-    → MatchResult result (λ statements. ⊥) (λ fault. (fault ≡ NoMemory) ⊎ (fault ≡ Syntax place))
-refused_there script tokens (Ok statements) found refused place first = never_both script tokens (map statement_tree statements.items) place found first
-refused_there script tokens (Err (Syntax other)) found refused place first = inr (ap Syntax (one_place script tokens other place refused first))
-refused_there script tokens (Err NoMemory) found refused place first = inl refl
 
 -- what pieces are read as
 abbrev IsParsingOf : List ℕ → List (List Token) → Result (List StatementTree) ℕ → Type 0

@@ -16,7 +16,7 @@ use Rattle.sql_parse.specs.declared.mark.Mark.TheVariants as m
 use Rattle.sql_parse.specs.Lexemes.{Word, Lexeme, mark}
 use Rattle.sql_parse.specs.Trees as tree
 use Rattle.sql_parse.specs.Trees.{QueryTree, StatementTree}
-use Rattle.sql_parse.specs.Counts.{predicates_of, operands_of, condition_of}
+use Rattle.sql_parse.specs.Counts.{operands_of, IsWithinTokens}
 use Rattle.sql_parse.specs.WellFormed.{IsWellFormed}
 use Rattle.sql_parse.specs.Reading.{after_word, Reader, ◌>>=◌, after_mark, name_at, select_at}
 use Rattle.sql_parse.specs.Statements.{IsStatement, create_at, productions, among, statement_at, statement_of, statement_parts}
@@ -30,7 +30,7 @@ use Rattle.sql_parse.proofs.PrintedForms.{IsPrintedBy}
 use Rattle.sql_parse.proofs.PrintedQueries.{select-printed}
 use Rattle.sql_parse.proofs.Sound.{word-sound, EachSound}
 use Rattle.sql_parse.proofs.SoundForms.{IsWritable, select-writable}
-use Rattle.sql_parse.proofs.CountedQueries.{IsCounted, select-counted, condition-few}
+use Rattle.sql_parse.proofs.CountedQueries.{select-counted}
 use Rattle.sql_parse.proofs.WellFormedQueries.{query-well_formed}
 use Rattle.sql_parse.proofs.Statements.Audit.{audit-reads, audit-again, audit-printed, audit-writable}
 use Rattle.sql_parse.proofs.Statements.Compile.{compile-reads, compile-again, compile-printed, compile-writable, compile-counted, compile-well_formed}
@@ -161,7 +161,7 @@ statement-writable tokens (tree.OpenFile name file query) sound form = open_file
 statement-writable tokens (tree.Audit audit) sound form = audit-writable tokens audit sound form
 
 -- a statement has at most as many operands, and at most as many predicates, as it has tokens
-pub statement-counted : IsCounted operands_of IsStatement
+pub statement-counted : IsWithinTokens operands_of IsStatement
 statement-counted tokens (tree.Select query) form = select-counted tokens query form
 statement-counted tokens (tree.Compile name levels threshold query) form = compile-counted name levels threshold tokens query form
 statement-counted tokens (tree.OpenFile name file query) form = open_file-counted name file tokens query form

@@ -4,7 +4,7 @@ use Rattle.std.specs.List.{All, AllByRecursion}
 use Rattle.std.proofs.lemmas.List.Elements.{All-from_recursion}
 use Rattle.sql_lex.specs.Tokens.{IsToken}
 use Rattle.sql_lex.specs.declared.token.Token.{Token}
-use Rattle.sql_parse.specs.declared.tree.Statement.{Statement}
+use Rattle.sql_parse.specs.declared.statement.Statement.{Statement}
 use Rattle.sql_parse.specs.Lexemes.{lexeme, lexemes}
 use Rattle.sql_parse.specs.Trees.{statement_tree}
 use Rattle.sql_parse.specs.Script.{is_semicolon, in_front, split, not_empty, pieces, AreStatementsOf, AreStatements}

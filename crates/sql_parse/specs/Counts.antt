@@ -1,6 +1,10 @@
 -- How many predicates and operands a statement has.
-use Rattle.std.specs.Prelude.{ℕ, ◌+◌, length, Option, Some, None}
-use Rattle.sql_parse.specs.Trees.{ConditionTree, ConditionTrees, Compare, Between, OneOf, IsNull, Not, And, Or, NoMore, More, StatementTree, Select, Compile, OpenFile}
+use Rattle.std.specs.Prelude.{ℕ, ◌+◌, ◌≤◌, length, List, Option, Some, None}
+use Rattle.std.specs.List.{All}
+use Rattle.sql_parse.specs.declared.statement.Statement.{Statement}
+use Rattle.sql_parse.specs.Lexemes.{Lexeme}
+use Rattle.sql_parse.specs.Grammar.{Rule}
+use Rattle.sql_parse.specs.Trees.{ConditionTree, ConditionTrees, Compare, Between, OneOf, IsNull, Not, And, Or, NoMore, More, StatementTree, Select, Compile, OpenFile, statement_tree}
 
 abbrev mutual
   -- each comparison, BETWEEN, IN and IS NULL is one predicate
@@ -48,3 +52,11 @@ predicates_of statement = of_condition predicates_in (condition_of statement)
 
 abbrev pub operands_of : StatementTree → ℕ
 operands_of statement = of_condition operands_in (condition_of statement)
+
+-- a rule whose values count no more than their tokens
+abbrev pub IsWithinTokens : {A : Type 0} → (A → ℕ) → Rule A → Type 0
+IsWithinTokens {A} count IsForm = (tokens : List Lexeme) (x : A) → IsForm tokens x → count x ≤ length tokens
+
+-- each of the statements has at most so many predicates
+abbrev pub HavePredicatesUpTo : (most : ℕ) → List Statement → Type 0
+HavePredicatesUpTo most statements = All (λ statement. predicates_of (statement_tree statement) ≤ most) statements

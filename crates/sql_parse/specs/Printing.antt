@@ -1,5 +1,5 @@
 -- What each private function of the printer appends. No public clause cites this file.
-use Rattle.std.specs.Prelude.{ℕ, zero, suc, Bool, true, List, [], ◌∷◌, ◌++◌, fold}
+use Rattle.std.specs.Prelude.{ℕ, zero, suc, ◌≡◌, Bool, true, List, [], ◌∷◌, ◌++◌, fold, Result, OnOk}
 use Rattle.sql_parse.specs.declared.mark.Mark.{Mark}
 use Rattle.sql_parse.specs.Canonical.{Part, Fixed, part_lexeme, spelled, joins_next, space_before}
 
@@ -17,6 +17,10 @@ put line part =
 
 abbrev pub put_all : Line → List Part → Line
 put_all line parts = fold put line parts
+
+-- the parts are put, unless memory ran out
+abbrev pub Puts : {T E : Type 0} → Result T E → (old new : Line) → List Part → Type 0
+Puts result old new parts = OnOk result (new ≡ put_all old parts)
 
 -- the keyword before the operand at a place, which isn't before the first
 abbrev pub between : (place : ℕ) → Mark → List Part

@@ -1,6 +1,7 @@
 -- What each private function of the reader returns: the value at the front of the tokens and the tokens after it, or
 -- none. No public clause cites this file; the proofs tie it to the grammar in both directions.
-use Rattle.std.specs.Prelude.{ℕ, zero, suc, ◌≡◌, Bool, true, false, List, [], ◌∷◌, ◌++◌, length, Option, Some, None, option_and_then, Result, Ok, Err, ℤ, pos, neg_ℤ, bytes_eq, if◌then◌else◌}
+use Rattle.std.specs.Prelude.{ℕ, zero, suc, ◌≡◌, Bool, true, false, List, [], ◌∷◌, ◌++◌, length, map, Vec, Option, Some, None, option_and_then, Result, Ok, Err, ℤ, pos, neg_ℤ, bytes_eq, if◌then◌else◌}
+use Rattle.std.specs.declared.alloc.Global.{Global}
 use Rattle.sql_lex.specs.declared.token.TokenKind.{TokenKind}
 use Rattle.sql_lex.specs.declared.token.TokenKind.TheVariants as kinds
 use Rattle.sql_values.specs.declared.op.Op.{Op}
@@ -14,7 +15,7 @@ use Rattle.sql_parse.specs.declared.tree.Term.TheVariants as term
 use Rattle.sql_parse.specs.declared.tree.ColRef.{ColRef}
 use Rattle.sql_parse.specs.declared.tree.Item.{Item}
 use Rattle.sql_parse.specs.declared.tree.Cond.{Cond}
-use Rattle.sql_parse.specs.declared.tree.Statement.{Statement}
+use Rattle.sql_parse.specs.declared.statement.Statement.{Statement}
 use Rattle.sql_parse.specs.declared.condition.Connective.{Connective}
 use Rattle.sql_parse.specs.declared.condition.Connective.TheVariants as connectives
 use Rattle.sql_parse.specs.Limits.{nesting_limit}
@@ -36,6 +37,9 @@ GivesValue = Gives (λ x. x)
 
 abbrev pub GivesCondition : Result (Cond × List Lexeme) ReadFault → Option (ConditionTree × List Lexeme) → Type 0
 GivesCondition = Gives (λ found. (condition_tree found.0, found.1))
+
+abbrev pub GivesConditions : Result (Vec Cond Global × List Lexeme) ReadFault → Option (List ConditionTree × List Lexeme) → Type 0
+GivesConditions = Gives (λ found. (map condition_tree found.0.items, found.1))
 
 abbrev pub GivesStatement : Result (Statement × List Lexeme) ReadFault → Option (StatementTree × List Lexeme) → Type 0
 GivesStatement = Gives (λ found. (statement_tree found.0, found.1))
@@ -228,10 +232,13 @@ factor_at group tokens =
       inner ← plain_factor_at group rest
       Some (Not inner.0, inner.1))
 
--- a part of a chain, and a chain
+-- a part of a chain, the parts of one whose first is read, and a chain
 abbrev pub part_at : Connective → (group : Reader ConditionTree) → Reader ConditionTree
 part_at connectives.And group = factor_at group
 part_at connectives.Or group = chain_at connectives.And (factor_at group)
+
+abbrev pub parts_at : Connective → (group : Reader ConditionTree) → (first : ConditionTree) → Reader (List ConditionTree)
+parts_at connective group first = list_with_first first (part_at connective group) (separator_of connective)
 
 abbrev pub level_at : Connective → (group : Reader ConditionTree) → Reader ConditionTree
 level_at connective group = chain_at connective (part_at connective group)

@@ -1,5 +1,5 @@
 -- Statements and conditions as trees, without where they lie in memory.
-use Rattle.std.specs.Prelude.{ℕ, Bool, List, [], ◌∷◌, Option, option_map}
+use Rattle.std.specs.Prelude.{ℕ, Bool, List, [], ◌∷◌, map, Option, option_map}
 use Rattle.sql_values.specs.declared.op.Op.{Op}
 use Rattle.sql_parse.specs.declared.tree.Term.{Term}
 use Rattle.sql_parse.specs.declared.tree.ColRef.{ColRef}
@@ -14,8 +14,8 @@ use Rattle.sql_parse.specs.declared.tree.Cond.TheOpen.{Cond-F}
 use Rattle.sql_parse.specs.declared.tree.Cond.TheOpen as layer
 use Rattle.sql_parse.specs.declared.tree.Cond.TheFolds.{fold-Cond}
 use Rattle.sql_parse.specs.declared.tree.Query.{Query}
-use Rattle.sql_parse.specs.declared.tree.Statement.{Statement}
-use Rattle.sql_parse.specs.declared.tree.Statement.TheVariants as code
+use Rattle.sql_parse.specs.declared.statement.Statement.{Statement}
+use Rattle.sql_parse.specs.declared.statement.Statement.TheVariants as code
 
 mutual
   -- a condition
@@ -88,3 +88,6 @@ statement_tree (code.Explain name) = Explain name
 statement_tree (code.SaveFile file) = SaveFile file
 statement_tree (code.OpenFile opened) = OpenFile opened.name opened.file (query_tree opened.query)
 statement_tree (code.Audit audit) = Audit audit
+
+abbrev pub statement_trees : List Statement → List StatementTree
+statement_trees statements = map statement_tree statements

@@ -1,10 +1,12 @@
 -- What the layers above rely on in each statement that is read.
 use Rattle.std.specs.Prelude.{◌<◌, List, [], ◌∷◌, length, IfSome}
+use Rattle.std.specs.List.{All}
 use Rattle.std.specs.Str.{IsUtf8}
 use Rattle.sql_values.specs.declared.value.Value.TheVariants as value
 use Rattle.sql_parse.specs.declared.tree.Term.{Term}
 use Rattle.sql_parse.specs.declared.tree.Term.TheVariants as term
-use Rattle.sql_parse.specs.Trees.{ConditionTree, ConditionTrees, Compare, Between, OneOf, IsNull, Not, And, Or, NoMore, More, QueryTree, StatementTree, CreateTable, Load, Select, Compile, SaveFile, OpenFile}
+use Rattle.sql_parse.specs.declared.statement.Statement.{Statement}
+use Rattle.sql_parse.specs.Trees.{ConditionTree, ConditionTrees, Compare, Between, OneOf, IsNull, Not, And, Or, NoMore, More, QueryTree, StatementTree, CreateTable, Load, Select, Compile, SaveFile, OpenFile, statement_tree}
 use Rattle.sql_parse.specs.Canonical.{canonical_query}
 
 -- an operand isn't NULL as a literal
@@ -54,3 +56,6 @@ IsWellFormed (Compile name levels threshold query) = IsWellFormedQuery query × 
 IsWellFormed (SaveFile save) = IsUtf8 save.file
 IsWellFormed (OpenFile name file query) = IsUtf8 file × IsWellFormedQuery query × IsUtf8 (canonical_query query)
 IsWellFormed other = Unit {0}
+
+abbrev pub AreWellFormed : List Statement → Type 0
+AreWellFormed statements = All (λ statement. IsWellFormed (statement_tree statement)) statements

@@ -1,17 +1,18 @@
 // The canonical text of statements and of queries: the one text in which each is written.
 
-ghost use Rattle.std.specs.Prelude.{◌≡◌, ◌∷◌, [], ℕ, List, flat_map, option_map, IfOk, OnOk};
-ghost use Rattle.sql_parse.specs.Script.{SpellsStatement};
+ghost use Rattle.std.specs.Prelude.{◌≡◌, ◌∷◌, [], ℕ, List, flat_map, option_map, IfOk};
+ghost use Rattle.sql_lex.specs.Once.{AtMostOne};
+ghost use Rattle.sql_parse.specs.Script.{SpellsStatement, IsSpelled};
 ghost use Rattle.sql_parse.specs.Trees.{StatementTree, statement_tree, query_tree, condition_tree};
 ghost use Rattle.sql_parse.specs.Canonical.{Fixed, listed, in_parentheses, kept_if, column_parts, operand_parts, item_parts, selection_parts, where_parts, query_parts, canonical_query};
 ghost use Rattle.sql_parse.specs.Statements.{canonical};
-ghost use Rattle.sql_parse.specs.Printing.{put_all};
+ghost use Rattle.sql_parse.specs.Printing.{Puts};
 ghost use Rattle.sql_parse.specs.declared.mark.Mark.TheVariants as m;
 
 use crate::canonical_condition::condition;
 use crate::mark::Mark;
-use crate::statement::print_statement;
-use crate::tree::{ColRef, Cond, Item, Query, Statement, Term};
+use crate::statement::{Statement, print_statement};
+use crate::tree::{ColRef, Cond, Item, Query, Term};
 use crate::writer::Writer;
 use sql_values::{Sequence, Value};
 use std::alloc::{AllocError, Global};
@@ -39,10 +40,9 @@ pub fn print_query(alloc: Global, query: &Query) -> Result<Vec<u8>, AllocError>
 /// Canonical text is read as its statement, and as no other: of a statement that has a text at all, the canonical text
 /// is one, and two statements that both have one text are the same.
 pub fn canonical_text_is_read()
-    ensures read { (text : List ℕ) (tree : StatementTree) → SpellsStatement text tree →
+    ensures read { (tree : StatementTree) → IsSpelled tree →
         SpellsStatement (canonical tree) tree }
-    ensures once { (text : List ℕ) (one other : StatementTree) →
-        SpellsStatement text one → SpellsStatement text other → one ≡ other }
+    ensures once { (text : List ℕ) → AtMostOne (SpellsStatement text) }
 {}
 
 // What can be an item of a list.
@@ -53,13 +53,13 @@ pub(crate) trait Printed {
     ghost parts: { Self → List Part };
 
     fn print_to(&self, writer: &mut Writer) -> Result<(), AllocError>
-        ensures { OnOk result (writer.new ≡ put_all writer.old (parts self.now)) };
+        ensures { Puts result writer.old writer.new (parts self.now) };
 }
 
 // One or more, with a comma between each two.
 #[tactic(auto, using(crate::proofs::Written::of_lines))]
 pub(crate) fn print_list<T: Printed>(writer: &mut Writer, items: &[T]) -> Result<(), AllocError>
-    ensures { OnOk result (writer.new ≡ put_all writer.old (listed T.parts items.now)) }
+    ensures { Puts result writer.old writer.new (listed T.parts items.now) }
 {
     let [first, rest @ ..] = items else {
         return Ok(());
@@ -71,8 +71,8 @@ pub(crate) fn print_list<T: Printed>(writer: &mut Writer, items: &[T]) -> Result
 // Each item with a comma before it.
 #[tactic(auto, using(crate::proofs::Written::of_lines))]
 fn print_more<T: Printed>(writer: &mut Writer, items: &[T]) -> Result<(), AllocError>
-    ensures { OnOk result (writer.new
-        ≡ put_all writer.old (flat_map (λ item. Fixed m.Comma ∷ T.parts item) items.now)) }
+    ensures { Puts result writer.old writer.new
+        (flat_map (λ item. Fixed m.Comma ∷ T.parts item) items.now) }
 {
     for item in items {
         writer.mark(Mark::Comma)?;
@@ -87,8 +87,7 @@ pub(crate) fn print_in_parentheses<T: Printed>(
     writer: &mut Writer,
     items: &[T],
 ) -> Result<(), AllocError>
-    ensures { OnOk result
-        (writer.new ≡ put_all writer.old (in_parentheses (listed T.parts items.now))) }
+    ensures { Puts result writer.old writer.new (in_parentheses (listed T.parts items.now)) }
 {
     writer.mark(Mark::OpenParen)?;
     print_list(writer, items)?;
@@ -97,7 +96,7 @@ pub(crate) fn print_in_parentheses<T: Printed>(
 
 // Keywords, where they are written.
 pub(crate) fn print_if(writer: &mut Writer, kept: bool, keyword: Mark) -> Result<(), AllocError>
-    ensures { OnOk result (writer.new ≡ put_all writer.old (kept_if kept (keyword ∷ []))) }
+    ensures { Puts result writer.old writer.new (kept_if kept (keyword ∷ [])) }
 {
     if kept {
         writer.mark(keyword)?;
@@ -147,7 +146,7 @@ fn print_selection(
     writer: &mut Writer,
     columns: &Option<Sequence<ColRef>>,
 ) -> Result<(), AllocError>
-    ensures { OnOk result (writer.new ≡ put_all writer.old (selection_parts columns.now)) }
+    ensures { Puts result writer.old writer.new (selection_parts columns.now) }
 {
     match columns {
         None => writer.mark(Mark::Star),
@@ -156,8 +155,8 @@ fn print_selection(
 }
 
 fn print_where(writer: &mut Writer, tree: &Option<Cond>) -> Result<(), AllocError>
-    ensures { OnOk result
-        (writer.new ≡ put_all writer.old (where_parts (option_map condition_tree tree.now))) }
+    ensures { Puts result writer.old writer.new
+        (where_parts (option_map condition_tree tree.now)) }
 {
     if let Some(tree) = tree {
         writer.mark(Mark::Where)?;
@@ -168,7 +167,7 @@ fn print_where(writer: &mut Writer, tree: &Option<Cond>) -> Result<(), AllocErro
 
 #[tactic(auto, using(crate::proofs::Written::of_lines))]
 pub(crate) fn print_select(writer: &mut Writer, query: &Query) -> Result<(), AllocError>
-    ensures { OnOk result (writer.new ≡ put_all writer.old (query_parts (query_tree query.now))) }
+    ensures { Puts result writer.old writer.new (query_parts (query_tree query.now)) }
 {
     writer.mark(Mark::Select)?;
     print_selection(writer, &query.columns)?;

@@ -24,7 +24,8 @@ pub use canonical::{canonical_text_is_read, print, print_query};
 pub use fault::SyntaxFault;
 pub use mark::Mark;
 pub use script::{one_parsing_is_due, one_statement, read_script};
+pub use statement::Statement;
 pub use tree::{
     AuditDef, ColRef, CompileDef, Cond, FileDef, IndexDef, Item, LoadDef, Name, OpenDef, Query,
-    Statement, TableDef, Term,
+    TableDef, Term,
 };

@@ -1,41 +1,41 @@
 // The statements of a script.
 
-ghost use Rattle.std.specs.Prelude.{◌≡◌, ℕ, ◌≤◌, ◌+◌, ◌⊎◌, List, ◌∷◌, length, map, take, drop, Result, IfOk, IfErr, MatchResult};
+ghost use Rattle.std.specs.Prelude.{◌≡◌, ℕ, ◌≤◌, ◌+◌, List, ◌∷◌, length, take, drop, IfOk, IfErr};
 ghost use Rattle.std.specs.List.{All};
-ghost use Rattle.sql_values.specs.Limits.{max_script_bytes};
+ghost use Rattle.sql_lex.specs.Once.{AtLeastOne, AtMostOne};
 ghost use Rattle.sql_lex.specs.Tokens.{IsToken, Tokens};
 ghost use Rattle.sql_lex.specs.declared.token.Token.{Token};
 ghost use Rattle.sql_parse.specs.Lexemes.{Lexeme, lexeme, lexemes};
-ghost use Rattle.sql_parse.specs.Trees.{StatementTree, statement_tree};
+ghost use Rattle.sql_parse.specs.Trees.{StatementTree, statement_tree, statement_trees};
 ghost use Rattle.sql_parse.specs.Statements.{IsStatement, statement_of};
-ghost use Rattle.sql_parse.specs.Script.{is_semicolon, split, split_after, AreStatements, IsFirstRefused, IsParsing, IsCause};
-ghost use Rattle.sql_parse.specs.WellFormed.{IsWellFormed};
-ghost use Rattle.sql_parse.specs.Counts.{predicates_of, operands_of};
+ghost use Rattle.sql_parse.specs.Script.{is_semicolon, split, split_after, AreStatements, IsParsing, IsCause};
+ghost use Rattle.sql_parse.specs.WellFormed.{AreWellFormed};
+ghost use Rattle.sql_parse.specs.Counts.{operands_of, IsWithinTokens, HavePredicatesUpTo};
 ghost use Rattle.sql_parse.specs.Reading.{Gives, with_statement};
-ghost use Rattle.sql_parse.specs.declared.fault.SyntaxFault.TheVariants as faults;
 
 use crate::fault::{ReadFault, SyntaxFault};
 use crate::piece::Piece;
-use crate::statement::whole_statement;
-use crate::tree::Statement;
+use crate::statement::{Statement, whole_statement};
 use sql_lex::{Token, TokenKind};
 use std::alloc::Global;
 
 /// The grammar is unambiguous: two statements of the same tokens are the same.
 pub fn one_statement()
-    ensures { (tokens : List Lexeme) (one other : StatementTree) →
-        IsStatement tokens one → IsStatement tokens other → one ≡ other }
+    ensures { (tokens : List Lexeme) → AtMostOne (IsStatement tokens) }
+{}
+
+/// The law of counts: no statement has more operands, and so more predicates, than tokens.
+pub fn operands_are_tokens()
+    ensures { IsWithinTokens operands_of IsStatement }
 {}
 
 /// The law of reading: tokens are statements, or have a first piece that is none, and are read in no second way.
 /// Tokens with statements have these alone and no such piece; those with such a piece have this one alone and no
-/// statements.
+/// statements. So where a script has statements, `read_script` returns these, and where it has such a piece, refuses it
+/// there, or is out of memory.
 pub fn one_parsing_is_due()
-    ensures some { (script : List ℕ) (tokens : List Token) →
-        (parsing : Result (List StatementTree) ℕ) × IsParsing script tokens parsing }
-    ensures one { (script : List ℕ) (tokens : List Token)
-        (one other : Result (List StatementTree) ℕ) →
-        IsParsing script tokens one → IsParsing script tokens other → one ≡ other }
+    ensures some { (script : List ℕ) (tokens : List Token) → AtLeastOne (IsParsing script tokens) }
+    ensures one { (script : List ℕ) (tokens : List Token) → AtMostOne (IsParsing script tokens) }
 {}
 
 /// The statements of a script, in order: one for each piece between semicolons that isn't empty.
@@ -49,33 +49,20 @@ pub fn read_script(
     text: &[u8],
     tokens: &[Token],
 ) -> Result<Vec<Statement>, SyntaxFault>
-    requires limit { length text.now ≤ max_script_bytes }
-    requires tokens { Tokens text.now tokens.now }
-    ensures found { IfOk result (λ statements.
-        AreStatements text.now tokens.now (map statement_tree statements.items)) }
-    ensures only { (trees : List StatementTree) → AreStatements text.now tokens.now trees →
-        MatchResult result (λ statements. map statement_tree statements.items ≡ trees)
-        (λ fault. fault ≡ faults.NoMemory) }
-    ensures well_formed { IfOk result (λ statements.
-        All (λ statement. IsWellFormed (statement_tree statement)) statements.items) }
-    ensures predicates { IfOk result (λ statements.
-        All (λ statement. predicates_of (statement_tree statement) ≤ length tokens.now)
-        statements.items) }
-    ensures operands { IfOk result (λ statements.
-        All (λ statement. operands_of (statement_tree statement) ≤ length tokens.now)
-        statements.items) }
+    requires { Tokens text.now tokens.now }
+    ensures found { IfOk result (λ read.
+        AreStatements text.now tokens.now (statement_trees read.items)) }
+    ensures well_formed { IfOk result (λ read. AreWellFormed read.items) }
+    ensures predicates { IfOk result (λ read. HavePredicatesUpTo (length tokens.now) read.items) }
     ensures refused { IfErr result (IsCause text.now tokens.now) }
-    ensures first { (place : ℕ) → IsFirstRefused text.now tokens.now place →
-        MatchResult result (λ _. ⊥)
-        (λ fault. (fault ≡ faults.NoMemory) ⊎ (fault ≡ faults.Syntax place)) }
 {
     read(alloc, text, tokens)
 }
 
 fn read(alloc: Global, text: &[u8], tokens: &[Token]) -> Result<Vec<Statement>, SyntaxFault>
     requires { All (IsToken text.now) tokens.now }
-    ensures found { IfOk result (λ statements.
-        AreStatements text.now tokens.now (map statement_tree statements.items)) }
+    ensures found { IfOk result (λ read.
+        AreStatements text.now tokens.now (statement_trees read.items)) }
     ensures refused { IfErr result (IsCause text.now tokens.now) }
 {
     let mut statements = Vec::new(alloc);
@@ -105,8 +92,8 @@ fn add_statement(
     piece: &[Token],
 ) -> Result<(), ReadFault>
     requires { All (IsToken text.now) piece.now }
-    ensures { Gives (λ _. map statement_tree statements.new.items) result
-        (with_statement (map statement_tree statements.old.items)
+    ensures { Gives (λ _. statement_trees statements.new.items) result
+        (with_statement (statement_trees statements.old.items)
         (statement_of (lexemes text.now piece.now))) }
 {
     let statement = whole_statement(alloc, Piece::new(text, piece))?;

@@ -1,10 +1,10 @@
 // The statements of the language. Each has a production, in a file of its name: how it is read and how it is printed.
 // Here they are put together: a statement is known by the word that it begins with.
 
-ghost use Rattle.std.specs.Prelude.{◌≡◌, Option, Some, None, length, OnOk, ◌==◌, if◌then◌else◌};
+ghost use Rattle.std.specs.Prelude.{Option, Some, None, length, ◌==◌, if◌then◌else◌};
 ghost use Rattle.sql_parse.specs.Trees.{statement_tree};
 ghost use Rattle.sql_parse.specs.Reading.{Gives, GivesValue, GivesStatement};
-ghost use Rattle.sql_parse.specs.Printing.{put_all};
+ghost use Rattle.sql_parse.specs.Printing.{Puts};
 ghost use Rattle.sql_parse.specs.Statements.{create_at, statement_at, statement_of, statement_parts};
 
 mod audit;
@@ -21,7 +21,9 @@ use crate::fault::ReadFault;
 use crate::mark::Mark;
 use crate::piece::Piece;
 use crate::query::select;
-use crate::tree::Statement;
+use crate::tree::{
+    AuditDef, CompileDef, FileDef, IndexDef, LoadDef, Name, OpenDef, Query, TableDef,
+};
 use crate::writer::Writer;
 use audit::{audit, print_audit};
 use compile::{compile, print_compile};
@@ -32,6 +34,23 @@ use named::print_named;
 use open_file::{open_file, print_open_file};
 use save_file::{print_save_file, save_file};
 use std::alloc::{AllocError, Global};
+
+/// A statement of a script.
+#[derive(Debug, Drop)]
+pub enum Statement {
+    CreateTable(TableDef),
+    CreateIndex(IndexDef),
+    Load(LoadDef),
+    Select(Query),
+    Compile(CompileDef),
+    /// RUN of a bouquet.
+    Run(Name),
+    /// EXPLAIN of a bouquet.
+    Explain(Name),
+    SaveFile(FileDef),
+    OpenFile(OpenDef),
+    Audit(AuditDef),
+}
 
 // From the word after CREATE on.
 #[tactic(auto, unfolding(crate::specs::Statements::create_at))]
@@ -47,7 +66,7 @@ fn create<'s>(alloc: Global, piece: Piece<'s>) -> Result<(Statement, Piece<'s>),
 
 // A statement at the front of the tokens.
 #[tactic(auto, unfolding(crate::specs::Statements::statement_at, crate::specs::Statements::Named::named_at))]
-fn statement<'s>(alloc: Global, piece: Piece<'s>) -> Result<(Statement, Piece<'s>), ReadFault>
+fn first_statement<'s>(alloc: Global, piece: Piece<'s>) -> Result<(Statement, Piece<'s>), ReadFault>
     ensures { GivesStatement result (statement_at piece.entry) }
 {
     if let Some(after) = piece.after_word(b"CREATE") {
@@ -96,14 +115,13 @@ fn only<T: Drop>(value: T, rest: Piece) -> Result<T, ReadFault>
 pub(crate) fn whole_statement(alloc: Global, piece: Piece) -> Result<Statement, ReadFault>
     ensures { Gives statement_tree result (statement_of piece.entry) }
 {
-    let (statement, rest) = statement(alloc, piece)?;
+    let (statement, rest) = first_statement(alloc, piece)?;
     only(statement, rest)
 }
 
 // Appends a statement.
 pub(crate) fn print_statement(writer: &mut Writer, statement: &Statement) -> Result<(), AllocError>
-    ensures { OnOk result
-        (writer.new ≡ put_all writer.old (statement_parts (statement_tree statement.now))) }
+    ensures { Puts result writer.old writer.new (statement_parts (statement_tree statement.now)) }
 {
     match statement {
         Statement::CreateTable(table) => print_create_table(writer, table),

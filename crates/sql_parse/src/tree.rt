@@ -5,23 +5,6 @@ use sql_values::{ColumnDef, Op, Sequence, Text, Value};
 /// A name, in upper case.
 pub type Name = Text;
 
-/// A statement of a script.
-#[derive(Debug, Drop)]
-pub enum Statement {
-    CreateTable(TableDef),
-    CreateIndex(IndexDef),
-    Load(LoadDef),
-    Select(Query),
-    Compile(CompileDef),
-    /// RUN of a bouquet.
-    Run(Name),
-    /// EXPLAIN of a bouquet.
-    Explain(Name),
-    SaveFile(FileDef),
-    OpenFile(OpenDef),
-    Audit(AuditDef),
-}
-
 /// CREATE TABLE.
 #[derive(Debug, Drop)]
 pub struct TableDef {

@@ -1,16 +1,17 @@
 // AUDIT.
 
-ghost use Rattle.std.specs.Prelude.{◌≡◌, ◌∷◌, [], OnOk};
+ghost use Rattle.std.specs.Prelude.{◌∷◌, []};
 ghost use Rattle.sql_parse.specs.Reading.{GivesStatement, number_at};
 ghost use Rattle.sql_parse.specs.Canonical.{Number};
-ghost use Rattle.sql_parse.specs.Printing.{put_all};
+ghost use Rattle.sql_parse.specs.Printing.{Puts};
 ghost use Rattle.sql_parse.specs.Statements.Audit.{audit_at, point_parts, audit_parts};
 
 use crate::canonical::{Printed, print_list};
 use crate::fault::ReadFault;
 use crate::parse::{Parse, list};
 use crate::piece::Piece;
-use crate::tree::{AuditDef, Statement};
+use crate::statement::Statement;
+use crate::tree::AuditDef;
 use crate::writer::Writer;
 use sql_values::Sequence;
 use std::alloc::{AllocError, Global};
@@ -49,7 +50,7 @@ impl Printed for u64 {
 }
 
 fn print_point(writer: &mut Writer, levels: &[u64]) -> Result<(), AllocError>
-    ensures { OnOk result (writer.new ≡ put_all writer.old (point_parts levels.now)) }
+    ensures { Puts result writer.old writer.new (point_parts levels.now) }
 {
     if levels.is_empty() {
         return Ok(());
@@ -60,7 +61,7 @@ fn print_point(writer: &mut Writer, levels: &[u64]) -> Result<(), AllocError>
 
 #[tactic(auto, using(crate::proofs::Written::of_lines))]
 pub(crate) fn print_audit(writer: &mut Writer, audit: &AuditDef) -> Result<(), AllocError>
-    ensures { OnOk result (writer.new ≡ put_all writer.old (audit_parts audit.now)) }
+    ensures { Puts result writer.old writer.new (audit_parts audit.now) }
 {
     writer.keyword(b"AUDIT")?;
     writer.name(&audit.name)?;

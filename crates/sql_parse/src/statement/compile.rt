@@ -1,17 +1,19 @@
 // COMPILE.
 
-ghost use Rattle.std.specs.Prelude.{◌≡◌, OnOk};
-ghost use Rattle.sql_parse.specs.Trees.{query_tree};
+ghost use Rattle.sql_parse.specs.Trees.{statement_tree};
+ghost use Rattle.sql_parse.specs.declared.statement.Statement.TheVariants as code;
 ghost use Rattle.sql_parse.specs.Reading.{GivesValue, GivesStatement};
-ghost use Rattle.sql_parse.specs.Printing.{put_all};
-ghost use Rattle.sql_parse.specs.Statements.Compile.{option_at, compile_at, option_parts, compile_parts};
+ghost use Rattle.sql_parse.specs.Printing.{Puts};
+ghost use Rattle.sql_parse.specs.Statements.{statement_parts};
+ghost use Rattle.sql_parse.specs.Statements.Compile.{option_at, compile_at, option_parts};
 
 use crate::canonical::print_select;
 use crate::fault::ReadFault;
 use crate::mark::Mark;
 use crate::piece::Piece;
 use crate::query::select;
-use crate::tree::{CompileDef, Statement};
+use crate::statement::Statement;
+use crate::tree::CompileDef;
 use crate::writer::Writer;
 use std::alloc::{AllocError, Global};
 
@@ -50,7 +52,7 @@ pub(crate) fn compile<'s>(
 }
 
 fn print_option(writer: &mut Writer, keyword: &[u8], number: Option<u64>) -> Result<(), AllocError>
-    ensures { OnOk result (writer.new ≡ put_all writer.old (option_parts keyword.now number)) }
+    ensures { Puts result writer.old writer.new (option_parts keyword.now number) }
 {
     if let Some(number) = number {
         writer.keyword(keyword)?;
@@ -61,8 +63,8 @@ fn print_option(writer: &mut Writer, keyword: &[u8], number: Option<u64>) -> Res
 
 #[tactic(auto, using(crate::proofs::Written::of_lines))]
 pub(crate) fn print_compile(writer: &mut Writer, compile: &CompileDef) -> Result<(), AllocError>
-    ensures { OnOk result (writer.new ≡ put_all writer.old (compile_parts
-        compile.now.name compile.now.levels compile.now.threshold (query_tree compile.now.query))) }
+    ensures { Puts result writer.old writer.new
+        (statement_parts (statement_tree (code.Compile compile.now))) }
 {
     writer.keyword(b"COMPILE")?;
     writer.name(&compile.name)?;

@@ -1,14 +1,14 @@
 // CREATE INDEX.
 
-ghost use Rattle.std.specs.Prelude.{◌≡◌, OnOk};
 ghost use Rattle.sql_parse.specs.Reading.{GivesStatement};
-ghost use Rattle.sql_parse.specs.Printing.{put_all};
+ghost use Rattle.sql_parse.specs.Printing.{Puts};
 ghost use Rattle.sql_parse.specs.Statements.CreateIndex.{create_index_at, create_index_parts};
 
 use crate::fault::ReadFault;
 use crate::mark::Mark;
 use crate::piece::Piece;
-use crate::tree::{IndexDef, Statement};
+use crate::statement::Statement;
+use crate::tree::IndexDef;
 use crate::writer::Writer;
 use std::alloc::{AllocError, Global};
 
@@ -35,7 +35,7 @@ pub(crate) fn create_index<'s>(
 }
 
 pub(crate) fn print_create_index(writer: &mut Writer, index: &IndexDef) -> Result<(), AllocError>
-    ensures { OnOk result (writer.new ≡ put_all writer.old (create_index_parts index.now)) }
+    ensures { Puts result writer.old writer.new (create_index_parts index.now) }
 {
     writer.keyword(b"CREATE")?;
     writer.keyword(b"INDEX")?;

@@ -1,8 +1,7 @@
 // CREATE TABLE.
 
-ghost use Rattle.std.specs.Prelude.{◌≡◌, OnOk};
 ghost use Rattle.sql_parse.specs.Reading.{GivesValue, GivesStatement};
-ghost use Rattle.sql_parse.specs.Printing.{put_all};
+ghost use Rattle.sql_parse.specs.Printing.{Puts};
 ghost use Rattle.sql_parse.specs.Statements.CreateTable.{varchar_at, column_type_at, column_at, create_table_at, type_parts, definition_parts, create_table_parts};
 
 use crate::canonical::{Printed, print_in_parentheses};
@@ -10,7 +9,8 @@ use crate::fault::ReadFault;
 use crate::mark::Mark;
 use crate::parse::{Parse, list_in_parentheses};
 use crate::piece::Piece;
-use crate::tree::{Statement, TableDef};
+use crate::statement::Statement;
+use crate::tree::TableDef;
 use crate::writer::Writer;
 use sql_values::{ColumnDef, ColumnType};
 use std::alloc::{AllocError, Global};
@@ -93,7 +93,7 @@ impl Printed for ColumnDef {
 }
 
 fn print_type(writer: &mut Writer, kind: ColumnType) -> Result<(), AllocError>
-    ensures { OnOk result (writer.new ≡ put_all writer.old (type_parts kind)) }
+    ensures { Puts result writer.old writer.new (type_parts kind) }
 {
     match kind {
         ColumnType::Integer => writer.mark(Mark::Integer),
@@ -108,7 +108,7 @@ fn print_type(writer: &mut Writer, kind: ColumnType) -> Result<(), AllocError>
 
 #[tactic(auto, using(crate::proofs::Written::of_lines))]
 pub(crate) fn print_create_table(writer: &mut Writer, table: &TableDef) -> Result<(), AllocError>
-    ensures { OnOk result (writer.new ≡ put_all writer.old (create_table_parts table.now)) }
+    ensures { Puts result writer.old writer.new (create_table_parts table.now) }
 {
     writer.keyword(b"CREATE")?;
     writer.mark(Mark::Table)?;

@@ -1,14 +1,14 @@
 // LOAD.
 
-ghost use Rattle.std.specs.Prelude.{◌≡◌, OnOk};
 ghost use Rattle.sql_parse.specs.Reading.{GivesStatement};
-ghost use Rattle.sql_parse.specs.Printing.{put_all};
+ghost use Rattle.sql_parse.specs.Printing.{Puts};
 ghost use Rattle.sql_parse.specs.Statements.Load.{load_at, load_parts};
 
 use crate::fault::ReadFault;
 use crate::mark::Mark;
 use crate::piece::Piece;
-use crate::tree::{LoadDef, Statement};
+use crate::statement::Statement;
+use crate::tree::LoadDef;
 use crate::writer::Writer;
 use std::alloc::{AllocError, Global};
 
@@ -24,7 +24,7 @@ pub(crate) fn load<'s>(alloc: Global, piece: Piece<'s>) -> Result<(Statement, Pi
 }
 
 pub(crate) fn print_load(writer: &mut Writer, load: &LoadDef) -> Result<(), AllocError>
-    ensures { OnOk result (writer.new ≡ put_all writer.old (load_parts load.now)) }
+    ensures { Puts result writer.old writer.new (load_parts load.now) }
 {
     writer.keyword(b"LOAD")?;
     writer.text(&load.file)?;

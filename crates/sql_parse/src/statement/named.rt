@@ -1,7 +1,6 @@
 // A statement of a keyword and a name.
 
-ghost use Rattle.std.specs.Prelude.{◌≡◌, OnOk};
-ghost use Rattle.sql_parse.specs.Printing.{put_all};
+ghost use Rattle.sql_parse.specs.Printing.{Puts};
 ghost use Rattle.sql_parse.specs.Statements.Named.{named_parts};
 
 use crate::tree::Name;
@@ -13,8 +12,7 @@ pub(crate) fn print_named(
     keyword: &[u8],
     name: &Name,
 ) -> Result<(), AllocError>
-    ensures { OnOk result
-        (writer.new ≡ put_all writer.old (named_parts keyword.now name.now)) }
+    ensures { Puts result writer.old writer.new (named_parts keyword.now name.now) }
 {
     writer.keyword(keyword)?;
     writer.name(name)

@@ -1,17 +1,19 @@
 // OPEN.
 
-ghost use Rattle.std.specs.Prelude.{◌≡◌, OnOk};
-ghost use Rattle.sql_parse.specs.Trees.{query_tree};
+ghost use Rattle.sql_parse.specs.Trees.{statement_tree};
+ghost use Rattle.sql_parse.specs.declared.statement.Statement.TheVariants as code;
 ghost use Rattle.sql_parse.specs.Reading.{GivesStatement};
-ghost use Rattle.sql_parse.specs.Printing.{put_all};
-ghost use Rattle.sql_parse.specs.Statements.OpenFile.{open_file_at, open_file_parts};
+ghost use Rattle.sql_parse.specs.Printing.{Puts};
+ghost use Rattle.sql_parse.specs.Statements.{statement_parts};
+ghost use Rattle.sql_parse.specs.Statements.OpenFile.{open_file_at};
 
 use crate::canonical::print_select;
 use crate::fault::ReadFault;
 use crate::mark::Mark;
 use crate::piece::Piece;
 use crate::query::select;
-use crate::tree::{OpenDef, Statement};
+use crate::statement::Statement;
+use crate::tree::OpenDef;
 use crate::writer::Writer;
 use std::alloc::{AllocError, Global};
 
@@ -33,8 +35,8 @@ pub(crate) fn open_file<'s>(
 
 #[tactic(auto, using(crate::proofs::Written::of_lines))]
 pub(crate) fn print_open_file(writer: &mut Writer, opened: &OpenDef) -> Result<(), AllocError>
-    ensures { OnOk result (writer.new ≡ put_all writer.old (open_file_parts
-        opened.now.name opened.now.file (query_tree opened.now.query))) }
+    ensures { Puts result writer.old writer.new
+        (statement_parts (statement_tree (code.OpenFile opened.now))) }
 {
     writer.keyword(b"OPEN")?;
     writer.name(&opened.name)?;

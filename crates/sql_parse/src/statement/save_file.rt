@@ -1,14 +1,14 @@
 // SAVE.
 
-ghost use Rattle.std.specs.Prelude.{◌≡◌, OnOk};
 ghost use Rattle.sql_parse.specs.Reading.{GivesStatement};
-ghost use Rattle.sql_parse.specs.Printing.{put_all};
+ghost use Rattle.sql_parse.specs.Printing.{Puts};
 ghost use Rattle.sql_parse.specs.Statements.SaveFile.{save_file_at, save_file_parts};
 
 use crate::fault::ReadFault;
 use crate::mark::Mark;
 use crate::piece::Piece;
-use crate::tree::{FileDef, Statement};
+use crate::statement::Statement;
+use crate::tree::FileDef;
 use crate::writer::Writer;
 use std::alloc::{AllocError, Global};
 
@@ -27,7 +27,7 @@ pub(crate) fn save_file<'s>(
 }
 
 pub(crate) fn print_save_file(writer: &mut Writer, save: &FileDef) -> Result<(), AllocError>
-    ensures { OnOk result (writer.new ≡ put_all writer.old (save_file_parts save.now)) }
+    ensures { Puts result writer.old writer.new (save_file_parts save.now) }
 {
     writer.keyword(b"SAVE")?;
     writer.name(&save.name)?;

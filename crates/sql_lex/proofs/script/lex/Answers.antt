@@ -1,19 +1,16 @@
-use Rattle.std.proofs.Common.{◌≡◌, ◌⊎◌, inr, [], ◌++◌, subst, sym, arith}
+use Rattle.std.proofs.Common.{inr, [], ◌++◌, subst, sym, arith}
 use Rattle.std.specs.Prelude.{Ok, None, Err}
 use Rattle.std.proofs.lemmas.List.{append-nil}
 use Rattle.std.proofs.lemmas.Result.{err_from_is_err_and}
-use Rattle.sql_lex.specs.Tokens.{IsFirstFault}
-use Rattle.sql_lex.specs.declared.fault.LexFault.{LexFault}
-use Rattle.sql_lex.specs.declared.fault.LexKind.TheVariants.{NoMemory}
-use Rattle.sql_lex.proofs.Lexings.{ComesNext-token, each_read}
+use Rattle.sql_lex.specs.Tokens.{IsLexCause}
+use Rattle.sql_lex.proofs.Lexings.{ComesNext-token}
 use Rattle.sql_lex.proofs.script.lex.Goals as goal
 
 pub returns-in_err-token-clause-offends : goal.returns-in_err-token-clause-offends
 returns-in_err-token-clause-offends c =
     let failed = err_from_is_err_and c.from_residual.result c.from_residual.ensures.1 in
     let fault = c.in_err-token.field-0.0 in
-    let IsTold : LexFault → Type 0 = λ f. (f.kind ≡ NoMemory) ⊎ IsFirstFault c.args.text.now f.place f.kind in
-    rw failed.1 (subst IsTold (sym failed.2) (inr (c.loop-tokens.tokens.items ++ [], c.loop-tokens.invariant.read [] (Err fault) c.in_err-token.ensures)))
+    rw failed.1 (subst (IsLexCause c.args.text.now) (sym failed.2) (inr (c.loop-tokens.tokens.items ++ [], c.loop-tokens.invariant.read [] (Err fault) c.in_err-token.ensures)))
 
 pub loop-tokens-smaller : goal.loop-tokens-smaller
 loop-tokens-smaller c =
@@ -25,8 +22,3 @@ pub returns-clause-found : goal.returns-clause-found
 returns-clause-found c =
     let last = rw c.in_default.is at c.in_ok-token.ensures in
     rw append-nil at (c.loop-tokens.invariant.read [] (Ok None) last)
-
-pub returns-clause-each : goal.returns-clause-each
-returns-clause-each c =
-    let last = rw c.in_default.is at c.in_ok-token.ensures in
-    each_read c.args.text.now (Ok None) 0 c.loop-tokens.tokens.items (rw append-nil at (c.loop-tokens.invariant.read [] (Ok None) last))
