@@ -14,7 +14,8 @@ pub record HasCause (met : Type 0) (before after : ℕ) : Type 0 where
   pub rose : met → Rose before after
   pub never_falls : before ≤ after
 
--- a count rises by one where what it counts was met, and else stays
+-- a count rises by one where what it counts was met, and else stays; it never falls
 pub record CountsEach (met : Type 0) (before after : ℕ) : Type 0 where
   pub counted : met → after ≡ raised before
   pub kept : ¬ met → after ≡ before
+  pub never_falls : before ≤ after

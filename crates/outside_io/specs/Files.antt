@@ -1,6 +1,6 @@
 -- What a folder holds, and what its calls say of it.
 use Rattle.std.specs.Prelude.{◌≡◌, ◌≢◌, ℕ, ◌≤◌, ◌<◌, List, length, Option, Some, None, IsSomeAnd}
-use Rattle.std.specs.Prelude.{IfSome, Result, Ok, Err, Vec, ⊤}
+use Rattle.std.specs.Prelude.{IfSome, IsErrAnd, IsErrOf, Result, Ok, Err, Vec, ⊤}
 use Rattle.std.specs.Ordering.{nat_cmp}
 use Rattle.std.specs.Cmp.Lexicographic.{slice_cmp}
 use Rattle.std.specs.FinMap as map
@@ -10,7 +10,7 @@ use Rattle.std.specs.declared.io.ErrorKind.TheVariants as kind
 use Rattle.outside_io.specs.declared.fault.FileFault.{FileFault}
 use Rattle.outside_io.specs.declared.fault.FileFault.TheVariants as fault
 use Rattle.outside_io.specs.Limits.{max_file_bytes}
-use Rattle.outside_io.specs.Count.{HasCause}
+use Rattle.outside_io.specs.Count.{CountsEach}
 
 -- the bytes of each file under the bytes of its name
 abbrev pub Files : Type 0
@@ -75,15 +75,15 @@ unknown_files read_faults write_faults misses = record {
   misses = misses;
 }
 
--- reading files: the folder holds what it held, and its counts have their causes
-pub record OnlyReads (failed missed : Type 0) (old new : FolderState) : Type 0 where
+-- what a read does to a folder: it holds what it held, and a failure is counted once, and so is a miss
+pub record OnlyReads {T : Type 0} (result : Result T FileFault) (old new : FolderState) : Type 0 where
   pub files : new.files ≡ old.files
-  pub read_faults : HasCause failed old.read_faults new.read_faults
+  pub read_faults : CountsEach (IsErrOf result fault.Failed) old.read_faults new.read_faults
   pub write_faults : new.write_faults ≡ old.write_faults
-  pub misses : HasCause missed old.misses new.misses
+  pub misses : CountsEach (IsErrAnd result IsMiss) old.misses new.misses
 
--- writing files: of the counts only that of failed writes rises, and it has its cause
-pub record OnlyWrites (failed : Type 0) (old new : FolderState) : Type 0 where
+-- what a write does to the counts of a folder: a failure is counted once
+pub record OnlyWrites {T : Type 0} (result : Result T FileFault) (old new : FolderState) : Type 0 where
   pub read_faults : new.read_faults ≡ old.read_faults
-  pub write_faults : HasCause failed old.write_faults new.write_faults
+  pub write_faults : CountsEach (IsErrOf result fault.Failed) old.write_faults new.write_faults
   pub misses : new.misses ≡ old.misses

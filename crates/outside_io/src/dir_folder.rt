@@ -1,10 +1,9 @@
 // The folder of the working directory's files. It relies on the system, of whose files nothing is
 // known. It looks at regular files alone, never where a name leads out, and it never reads more of
 // a file than the limit and one byte.
-ghost use Rattle.std.specs.Prelude.{◌≡◌, ◌⊎◌, [], IfOk, IfErr, IfSome, OnOk, IsErrOf, IsErrAnd};
+ghost use Rattle.std.specs.Prelude.{◌≡◌, ◌⊎◌, [], IfOk, IfErr, IfSome, OnOk, IsErrOf};
 ghost use Rattle.std.specs.Prelude.{option_map};
-ghost use Rattle.outside_io.specs.Count.{CountsEach};
-ghost use Rattle.outside_io.specs.Files.{IsReadAnswer, KeepsFileLimit, IsMiss, KeepsOthers};
+ghost use Rattle.outside_io.specs.Files.{IsReadAnswer, KeepsFileLimit, KeepsOthers};
 ghost use Rattle.outside_io.specs.Files.{OnlyReads, OnlyWrites, unknown_files, with_file};
 ghost use Rattle.outside_io.specs.Names.{IsInside};
 
@@ -112,13 +111,7 @@ impl<'a, R: Files + Alloc> Folder for DirFolder<'a, R> {
     fn read(&mut self, alloc: Global, name: &str) -> Result<Vec<u8>, FileFault>
         ensures known { IfSome self.old.files (λ files. IsReadAnswer files name.now result) }
         ensures within { KeepsFileLimit result }
-        ensures reads { OnlyReads (IsErrOf result FileFault.Failed) (IsErrAnd result IsMiss)
-            self.old self.new }
-
-        // Each failure and each miss is counted once, and nothing else is.
-        ensures read_faults { CountsEach (IsErrOf result FileFault.Failed)
-            self.old.read_faults self.new.read_faults }
-        ensures misses { CountsEach (IsErrAnd result IsMiss) self.old.misses self.new.misses }
+        ensures reads { OnlyReads result self.old self.new }
 
         // No name leads out.
         ensures outside { ¬ (IsInside name.now) → IsErrOf result FileFault.Failed }
@@ -137,11 +130,7 @@ impl<'a, R: Files + Alloc> Folder for DirFolder<'a, R> {
             KeepsOthers name.now self.old.files self.new.files }
         ensures nothing { IsErrOf result FileFault.NoMemory → self.new.files ≡ self.old.files }
         ensures kinds { IfErr result (λ e. (e ≡ FileFault.Failed) ⊎ (e ≡ FileFault.NoMemory)) }
-        ensures writes { OnlyWrites (IsErrOf result FileFault.Failed) self.old self.new }
-
-        // Each failure is counted once, and nothing else is.
-        ensures write_faults { CountsEach (IsErrOf result FileFault.Failed)
-            self.old.write_faults self.new.write_faults }
+        ensures writes { OnlyWrites result self.old self.new }
 
         // No name leads out, and there has to be one.
         ensures outside { ¬ (IsInside name.now) → IsErrOf result FileFault.Failed }

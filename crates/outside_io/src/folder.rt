@@ -1,9 +1,8 @@
 // Where the files lie: the trait of every folder. It never says what a file's bytes mean.
 ghost use Rattle.std.specs.Prelude.{◌≡◌, ◌≤◌, ◌↔◌, ◌⊎◌, IsOk, OnOk, IfErr, IfSome};
-ghost use Rattle.std.specs.Prelude.{IsErrOf, IsErrAnd, option_map};
-ghost use Rattle.outside_io.specs.Count.{CountsEach};
+ghost use Rattle.std.specs.Prelude.{IsErrOf, option_map};
 ghost use Rattle.outside_io.specs.Limits.{max_file_bytes};
-ghost use Rattle.outside_io.specs.Files.{FolderState, IsReadAnswer, KeepsFileLimit, IsMiss};
+ghost use Rattle.outside_io.specs.Files.{FolderState, IsReadAnswer, KeepsFileLimit};
 ghost use Rattle.outside_io.specs.Files.{KeepsOthers, OnlyReads, OnlyWrites, with_file};
 
 use crate::FileFault;
@@ -36,14 +35,7 @@ pub trait Folder {
         ensures known { IfSome (state self.old).files
             (λ files. IsReadAnswer files name.now result) }
         ensures within { KeepsFileLimit result }
-        ensures reads { OnlyReads (IsErrOf result FileFault.Failed) (IsErrAnd result IsMiss)
-            (state self.old) (state self.new) }
-
-        // Each failure and each miss is counted once, and nothing else is.
-        ensures read_faults { CountsEach (IsErrOf result FileFault.Failed)
-            (state self.old).read_faults (state self.new).read_faults }
-        ensures misses { CountsEach (IsErrAnd result IsMiss)
-            (state self.old).misses (state self.new).misses };
+        ensures reads { OnlyReads result (state self.old) (state self.new) };
 
     /// Puts the bytes under the name, in the place of what was there, and leaves the other names
     /// alone. There is no limit.
@@ -58,10 +50,5 @@ pub trait Folder {
         ensures nothing { IsErrOf result FileFault.NoMemory →
             (state self.new).files ≡ (state self.old).files }
         ensures kinds { IfErr result (λ e. (e ≡ FileFault.Failed) ⊎ (e ≡ FileFault.NoMemory)) }
-        ensures writes { OnlyWrites (IsErrOf result FileFault.Failed)
-            (state self.old) (state self.new) }
-
-        // Each failure is counted once, and nothing else is.
-        ensures write_faults { CountsEach (IsErrOf result FileFault.Failed)
-            (state self.old).write_faults (state self.new).write_faults };
+        ensures writes { OnlyWrites result (state self.old) (state self.new) };
 }

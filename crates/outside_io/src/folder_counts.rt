@@ -1,7 +1,7 @@
 // The three counts of a folder. The implementations here hand it what each call returns, and
 // nothing else moves a count.
 ghost use Rattle.std.specs.Prelude.{◌≡◌, IsErrOf, IsErrAnd};
-ghost use Rattle.outside_io.specs.Count.{HasCause, CountsEach};
+ghost use Rattle.outside_io.specs.Count.{CountsEach};
 ghost use Rattle.outside_io.specs.Files.{IsMiss};
 
 use crate::FileFault;
@@ -28,16 +28,10 @@ impl FolderCounts {
 
     /// Counts what a read returns.
     pub(crate) fn count_read(&mut self, outcome: &Result<Vec<u8>, FileFault>)
-        ensures read_faults { HasCause (IsErrOf outcome.now FileFault.Failed)
+        ensures read_faults { CountsEach (IsErrOf outcome.now FileFault.Failed)
             self.old.read_faults self.new.read_faults }
-        ensures misses { HasCause (IsErrAnd outcome.now IsMiss) self.old.misses self.new.misses }
+        ensures misses { CountsEach (IsErrAnd outcome.now IsMiss) self.old.misses self.new.misses }
         ensures write_faults { self.new.write_faults ≡ self.old.write_faults }
-
-        // By one, and for nothing else.
-        ensures each_read_fault { CountsEach (IsErrOf outcome.now FileFault.Failed)
-            self.old.read_faults self.new.read_faults }
-        ensures each_miss { CountsEach (IsErrAnd outcome.now IsMiss)
-            self.old.misses self.new.misses }
     {
         match outcome {
             Err(FileFault::Failed) => self.read_faults = self.read_faults.saturating_add(1),
@@ -50,14 +44,10 @@ impl FolderCounts {
 
     /// Counts what a write returns.
     pub(crate) fn count_write(&mut self, outcome: &Result<(), FileFault>)
-        ensures write_faults { HasCause (IsErrOf outcome.now FileFault.Failed)
+        ensures write_faults { CountsEach (IsErrOf outcome.now FileFault.Failed)
             self.old.write_faults self.new.write_faults }
         ensures read_faults { self.new.read_faults ≡ self.old.read_faults }
         ensures misses { self.new.misses ≡ self.old.misses }
-
-        // By one, and for nothing else.
-        ensures each_write_fault { CountsEach (IsErrOf outcome.now FileFault.Failed)
-            self.old.write_faults self.new.write_faults }
     {
         if let Err(FileFault::Failed) = outcome {
             self.write_faults = self.write_faults.saturating_add(1);

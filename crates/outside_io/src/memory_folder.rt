@@ -1,11 +1,10 @@
 // A folder in memory, whose files are known. It fails at the calls whose numbers it was given, and
 // never at another; one that fails changes nothing.
-ghost use Rattle.std.specs.Prelude.{◌≡◌, ◌⊎◌, ◌↔◌, OnOk, OnErr, IfErr, IsErrOf, IsErrAnd};
+ghost use Rattle.std.specs.Prelude.{◌≡◌, ◌⊎◌, ◌↔◌, OnOk, OnErr, IfErr, IsErrOf};
 ghost use Rattle.std.specs.Prelude.{IsTrue, option_map};
 ghost use Rattle.std.specs.FinMap as finite;
-ghost use Rattle.outside_io.specs.Files.{IsReadAnswer, KeepsFileLimit, IsMiss, OnlyReads};
+ghost use Rattle.outside_io.specs.Files.{IsReadAnswer, KeepsFileLimit, OnlyReads};
 ghost use Rattle.outside_io.specs.Files.{OnlyWrites, held_file, with_file};
-ghost use Rattle.outside_io.specs.Count.{CountsEach};
 ghost use Rattle.outside_io.specs.Calls.{no_calls, fails_next, after_call};
 ghost use Rattle.outside_io.specs.Memory.{named_files, folder_state_of};
 
@@ -86,17 +85,11 @@ impl Folder for MemoryFolder {
     fn read(&mut self, alloc: Global, name: &str) -> Result<Vec<u8>, FileFault>
         ensures known { IsReadAnswer self.old.files name.now result }
         ensures within { KeepsFileLimit result }
-        ensures reads { OnlyReads (IsErrOf result FileFault.Failed) (IsErrAnd result IsMiss)
-            (folder_state_of self.old) (folder_state_of self.new) }
+        ensures reads { OnlyReads result (folder_state_of self.old) (folder_state_of self.new) }
 
         // The calls that are to fail do, and no others.
         ensures fails { IsErrOf result FileFault.Failed ↔ IsTrue (fails_next self.old.calls) }
         ensures counted { self.new.calls ≡ after_call self.old.calls }
-
-        // Each failure and each miss is counted once, and nothing else is.
-        ensures read_faults { CountsEach (IsErrOf result FileFault.Failed)
-            self.old.read_faults self.new.read_faults }
-        ensures misses { CountsEach (IsErrAnd result IsMiss) self.old.misses self.new.misses }
     {
         let outcome = if self.calls.next_fails() {
             Err(FileFault::Failed)
@@ -112,16 +105,11 @@ impl Folder for MemoryFolder {
             self.new.files ≡ with_file self.old.files name.now bytes.now) }
         ensures kept { OnErr result (self.new.files ≡ self.old.files) }
         ensures kinds { IfErr result (λ e. (e ≡ FileFault.Failed) ⊎ (e ≡ FileFault.NoMemory)) }
-        ensures writes { OnlyWrites (IsErrOf result FileFault.Failed)
-            (folder_state_of self.old) (folder_state_of self.new) }
+        ensures writes { OnlyWrites result (folder_state_of self.old) (folder_state_of self.new) }
 
         // The calls that are to fail do, and no others.
         ensures fails { IsErrOf result FileFault.Failed ↔ IsTrue (fails_next self.old.calls) }
         ensures counted { self.new.calls ≡ after_call self.old.calls }
-
-        // Each failure is counted once, and nothing else is.
-        ensures write_faults { CountsEach (IsErrOf result FileFault.Failed)
-            self.old.write_faults self.new.write_faults }
     {
         let outcome = if self.calls.next_fails() {
             Err(FileFault::Failed)

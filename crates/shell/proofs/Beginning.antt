@@ -1,6 +1,6 @@
 -- A run that put one text, or its beginning.
 use Rattle.std.proofs.Common.{◌≡◌, ◌⊎◌, inl, inr, ℕ, ◌≤◌, List, length, take, Option, refl, subst, sym, arith}
-use Rattle.std.specs.Io.KnownBytes.{Appends}
+use Rattle.std.specs.Io.KnownBytes.{Appends, Keeps}
 use Rattle.std.proofs.lemmas.List.{take_all}
 use Rattle.shell.specs.declared.status.Status.{Status}
 use Rattle.shell.specs.declared.status.Status.TheVariants as status
@@ -25,23 +25,15 @@ refused_not_done ended (inl refused) is = cc (refused, is)
 refused_not_done ended (inr (inl fault)) is = cc (fault, is)
 refused_not_done ended (inr (inr memory)) is = cc (memory, is)
 
-pub refused_no_fault : (ended : Status) → IsRefused ended → (ended ≡ status.BadWords → ⊥) × (ended ≡ status.ReadFault → ⊥)
-refused_no_fault ended (inl refused) = (λ is. cc (refused, is), λ is. cc (refused, is))
-refused_no_fault ended (inr (inl fault)) = (λ is. cc (fault, is), λ is. cc (fault, is))
-refused_no_fault ended (inr (inr memory)) = (λ is. cc (memory, is), λ is. cc (memory, is))
-
 not_bad_words : (ended : Status) → IsUnput ended → ended ≡ status.BadWords → ⊥
 not_bad_words ended (inl fault) is = cc (fault, is)
 not_bad_words ended (inr memory) is = cc (memory, is)
 
-pub unput_not_read : (ended : Status) → IsUnput ended → ended ≡ status.ReadFault → ⊥
-unput_not_read ended (inl fault) is = cc (fault, is)
-unput_not_read ended (inr memory) is = cc (memory, is)
-
-pub words_part : (line : List ℕ) (ended : Status) (old new : Option (List ℕ)) → IsUnput ended → ((n : ℕ) × Appends old new (take n line)) → RefusesWords line ended old new
-words_part line ended old new unput part = record {
+pub words_part : (line : List ℕ) (ended : Status) (old new : Option (List ℕ)) → IsUnput ended → ((n : ℕ) × Appends old new (take n line)) → (ended ≡ status.NoMemory → Keeps old new) → RefusesWords line ended old new
+words_part line ended old new unput part nothing = record {
   kinds = inr unput;
   whole = λ is. absurd (not_bad_words ended unput is);
+  nothing = nothing;
   beginning = part;
 }
 
@@ -49,5 +41,6 @@ pub words_whole : (line : List ℕ) (old new : Option (List ℕ)) → Appends ol
 words_whole line old new put = record {
   kinds = inl refl;
   whole = λ _. put;
+  nothing = λ is. cc is;
   beginning = whole_begins old new line put;
 }

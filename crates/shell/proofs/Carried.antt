@@ -2,8 +2,10 @@
 use Rattle.std.proofs.Common.{◌≡◌, ◌∙◌, ◌⊎◌, inl, inr, ℕ, ◌+◌, List, [], ◌∷◌, Option, None, refl, sym, ap, subst, arith, false, Some}
 use Rattle.std.specs.Prelude.{IsErrOf, MatchOption, OnOk, Vec, Result, Ok, Err}
 use Rattle.std.specs.declared.alloc.Global.{Global}
-use Rattle.outside_io.specs.Count.{Rose}
+use Rattle.outside_io.specs.Count.{Rose, raised}
 use Rattle.outside_io.specs.Files.{FolderState, KeepsOthers, OnlyWrites}
+use Rattle.outside_io.specs.declared.fault.FileFault.{FileFault}
+use Rattle.outside_io.specs.declared.fault.FileFault.TheVariants as fault
 use Rattle.sql_parse.specs.Trees.{StatementTree}
 use Rattle.session.specs.Begins.{BeginsAsDue, pending_outcome}
 use Rattle.session.specs.Given.{at_file}
@@ -17,12 +19,12 @@ use Rattle.session.specs.declared.begun.GivenFile.{GivenFile}
 use Rattle.session.specs.declared.stop.Stop.{Stop}
 use Rattle.session.specs.declared.stop.Stop.TheVariants as stop
 use Rattle.shell.specs.Due.{CarriesDue, GivesFile, IsCarriedOut, state_of}
-use Rattle.shell.specs.Script.{IsGiven, IsGivenFor, Step, with_saved, printed_by, left_by}
-use Rattle.shell.specs.Serve.{AsksNext, BreaksBefore, NeverFalls}
+use Rattle.shell.specs.Script.{IsGiven, IsGivenFor, IsGivenStep, IsMissing, Step, with_saved, printed_by, left_by}
+use Rattle.shell.specs.Serve.{AsksNext, BreaksBefore, NeverFalls, NoneFailed, ReadFailed}
 use Rattle.shell.specs.Serve.BreaksBefore.{no_read, no_write, no_memory}
 use Rattle.shell.specs.declared.status.Status.{Status}
 use Rattle.shell.specs.declared.status.Status.TheVariants as status
-use Rattle.shell.proofs.Folders.{counts_kept, falls_none, any_given_for}
+use Rattle.shell.proofs.Folders.{falls_none, quiet_none, any_given_for}
 
 -- a stop is never a text
 pub within_bounds : {P : Type 0} (returned : Result (Vec ℕ Global) Stop) → P → OnOk returned P
@@ -38,7 +40,7 @@ module _ (max_work : ℕ) (statement : StatementTree) (world next : World) (befo
   step = record { statement = statement; file = any.0 }
 
   unread : (returned : Result (Vec ℕ Global) Stop) → CarriesDue max_work step before before world next old new (Ok returned) → IsCarriedOut max_work statement before before world next old new (Ok returned)
-  unread returned does = record { file = any.0; given = any.1; counts = counts_kept world step before before (Ok returned) (λ is. cc is) refl refl (falls_none before); does = does }
+  unread returned does = record { file = any.0; given = record { counts = inl refl; given = any.1 }; falls = falls_none before; quiet = quiet_none before; does = does }
 
   pub carried_prints : (text : Vec ℕ Global) → BeginsAsDue max_work world statement (Ok (begun.Prints text)) next old new → IsCarriedOut max_work statement before before world next old new (Ok (Ok text))
   carried_prints text begins = unread (Ok text)
@@ -53,16 +55,19 @@ module _ (max_work : ℕ) (statement : StatementTree) (world next : World) (befo
     given_any : (file : Option (List ℕ)) × IsGivenFor before.files (Rose before.misses after.misses) statement file
     given_any = any_given_for (Rose before.misses after.misses) before.files statement
 
-    module _ {failed : Type 0} (writes : OnlyWrites failed before after) where
+    module _ {T : Type 0} (wrote : Result T FileFault) (writes : OnlyWrites wrote before after) where
       falls : NeverFalls before after
       falls = record { read_faults = omega (arith, writes.read_faults); write_faults = writes.write_faults.never_falls; misses = omega (arith, writes.misses) }
 
-      unread_but_written : (result : Result (Result (Vec ℕ Global) Stop) Status) → (IsErrOf result status.ReadFault → ⊥) → CarriesDue max_work (record { statement = statement; file = given_any.0 }) before after world next old new result
-          → IsCarriedOut max_work statement before after world next old new result
-      unread_but_written result other does = record { file = given_any.0; given = given_any.1; counts = counts_kept world _ before after result other writes.read_faults writes.misses falls; does = does }
+      quiet : ¬ IsErrOf wrote fault.Failed → NoneFailed before after
+      quiet other = record { reads = writes.read_faults; writes = writes.write_faults.kept other }
 
-      pub carried_saves : (text : Vec ℕ Global) → text.items ≡ [] → after.files ≡ with_saved name bytes.items before.files → IsCarriedOut max_work statement before after world next old new (Ok (Ok text))
-      carried_saves text none written = unread_but_written (Ok (Ok text)) (λ is. cc is) (record {
+      unread_but_written : (result : Result (Result (Vec ℕ Global) Stop) Status) → OnOk result (NoneFailed before after) → CarriesDue max_work (record { statement = statement; file = given_any.0 }) before after world next old new result
+          → IsCarriedOut max_work statement before after world next old new result
+      unread_but_written result none does = record { file = given_any.0; given = record { counts = inl writes.misses; given = given_any.1 }; falls = falls; quiet = none; does = does }
+
+      pub carried_saves : ¬ IsErrOf wrote fault.Failed → (text : Vec ℕ Global) → text.items ≡ [] → after.files ≡ with_saved name bytes.items before.files → IsCarriedOut max_work statement before after world next old new (Ok (Ok text))
+      carried_saves other text none written = unread_but_written (Ok (Ok text)) (quiet other) (record {
         work = 0;
         prints = ap printed_by (begins.0.due given_any.0) ∙ (λ i. record { text = sym none i; work = 0; refused = false });
         leaves = ap (λ (due : Outcome). left_by due (state_of world before)) (begins.0.due given_any.0) ∙ (λ i. Some (record { world = sym begins.1 i; files = sym written i }));
@@ -70,47 +75,46 @@ module _ (max_work : ℕ) (statement : StatementTree) (world next : World) (befo
         kept = λ some. absurd (some none);
       })
 
-      pub carried_unsaved : Rose before.write_faults after.write_faults → KeepsOthers name before.files after.files → IsCarriedOut max_work statement before after world next old new (Err status.WriteFault)
-      carried_unsaved rose others = unread_but_written (Err status.WriteFault) (λ is. cc is)
-          (begins.2, λ later. no_write rose (record { name = name; writes = begins.0.writes; others = others }))
+      pub carried_unsaved : IsErrOf wrote fault.Failed → KeepsOthers name before.files after.files → IsCarriedOut max_work statement before after world next old new (Err status.WriteFault)
+      carried_unsaved failed others = unread_but_written (Err status.WriteFault) tt
+          (begins.2, λ later. no_write (record { reads = writes.read_faults; writes = writes.write_faults.counted failed }) (record { name = name; writes = begins.0.writes; others = others }))
 
-      pub carried_no_room : after.files ≡ before.files → IsCarriedOut max_work statement before after world next old new (Err status.NoMemory)
-      carried_no_room kept = unread_but_written (Err status.NoMemory) (λ is. cc is) (begins.2, λ later. no_memory 0 (omega arith) kept)
+      pub carried_no_room : ¬ IsErrOf wrote fault.Failed → after.files ≡ before.files → IsCarriedOut max_work statement before after world next old new (Err status.NoMemory)
+      carried_no_room other kept = unread_but_written (Err status.NoMemory) tt (begins.2, λ later. no_memory 0 (omega arith) (quiet other) kept)
 
 -- a file was asked for
 module _ (max_work : ℕ) (statement : StatementTree) (world : World) (before after : FolderState) (old new : ℕ) (asked : Asked) (mid : World)
     (begins : BeginsAsDue max_work world statement (Ok (begun.Asks asked)) mid old new) where
-  given_for : (file : Option (List ℕ)) → IsGiven before.files (Rose before.misses after.misses) asked.name file → IsGivenFor before.files (Rose before.misses after.misses) statement file
-  given_for file given = subst (λ (name : Option (List ℕ)). MatchOption name (file ≡ None) (λ n. IsGiven before.files (Rose before.misses after.misses) n file)) (sym begins.0.name) given
+  given_for : (gives : Option (List ℕ)) → IsGiven before.files (Rose before.misses after.misses) asked.name gives → ((after.misses ≡ before.misses) ⊎ (IsMissing gives × (after.misses ≡ raised before.misses)))
+      → IsGivenStep (state_of world before) (record { statement = statement; file = gives }) before.misses after.misses
+  given_for file given counts = record {
+    counts = elim counts [ inl same ↦ inl same | inr missed ↦ inr (begins.0.asks, missed.0, missed.1) ];
+    given = subst (λ (name : Option (List ℕ)). MatchOption name (file ≡ None) (λ n. IsGiven before.files (Rose before.misses after.misses) n file)) (sym begins.0.name) given;
+  }
 
   -- it couldn't be had
   pub carried_unread : (ended : Status) → GivesFile asked.name before after (Err ended) → IsCarriedOut max_work statement before after world mid old new (Err ended)
   carried_unread ended gives = record {
     file = gives.file;
-    given = given_for gives.file gives.given;
-    counts = record {
-      read_faults = record {
-        counted = λ is. let same : ended ≡ status.ReadFault = cc is in gives.reads.read_faults.counted (ap Err same);
-        kept = λ other. gives.reads.read_faults.kept (λ is. let same : ended ≡ status.ReadFault = cc is in other (ap Err same));
-      };
-      misses = gives.reads.misses;
-      unasked = λ none. absurd (none begins.0.asks);
-      falls = gives.reads.falls;
-    };
-    does = (begins.2, λ later. broke (record { statement = statement; file = gives.file } ∷ later) begins.0.asks gives.ends);
+    given = given_for gives.file gives.given gives.counts;
+    falls = gives.falls;
+    quiet = tt;
+    does = (begins.2, λ later. broke (record { statement = statement; file = gives.file } ∷ later) begins.0.asks gives.reads);
   }
     where
-      broke : (steps : List Step) → AsksNext (state_of world before) steps → ((ended ≡ status.ReadFault) × Rose before.read_faults after.read_faults) ⊎ (ended ≡ status.NoMemory) → BreaksBefore max_work ⊥ before after (state_of world before) steps ended [] 0
-      broke steps asks (inl fault) = rw fault.0 (no_read fault.1 asks gives.reads.files)
-      broke steps asks (inr memory) = rw memory (no_memory 0 (omega arith) gives.reads.files)
+      broke : (steps : List Step) → AsksNext (state_of world before) steps → ((ended ≡ status.ReadFault) × ReadFailed before after) ⊎ ((ended ≡ status.NoMemory) × NoneFailed before after)
+          → BreaksBefore max_work ⊥ before after (state_of world before) steps ended [] 0
+      broke steps asks (inl failed) = rw failed.0 (no_read failed.1 asks gives.files)
+      broke steps asks (inr memory) = rw memory.0 (no_memory 0 (omega arith) memory.1 gives.files)
 
   -- it was given, and the statement finished with it
   pub carried_with_file : (file : GivenFile) (returned : Result (Vec ℕ Global) Stop) (next : World) → (gives : GivesFile asked.name before after (Ok file))
       → ReturnsFree (at_file asked.name (pending_outcome mid asked.pending) gives.file) returned next → IsCarriedOut max_work statement before after world next old new (Ok returned)
   carried_with_file file returned next gives returns = record {
     file = gives.file;
-    given = given_for gives.file gives.given;
-    counts = record { read_faults = record { counted = λ is. cc is; kept = λ _. gives.reads.read_faults.kept (λ is. cc is) }; misses = gives.reads.misses; unasked = λ none. absurd (none begins.0.asks); falls = gives.reads.falls };
+    given = given_for gives.file gives.given gives.counts;
+    falls = gives.falls;
+    quiet = gives.reads.1;
     does = by returned (subst (λ (due : Outcome). ReturnsFree due returned next) (sym is) returns);
   }
     where
@@ -121,11 +125,11 @@ module _ (max_work : ℕ) (statement : StatementTree) (world : World) (before af
       by (Ok text) due = record {
         work = 0;
         prints = ap printed_by due;
-        leaves = ap (λ (o : Outcome). left_by o (state_of world before)) due ∙ (λ i. Some (record { world = next; files = sym gives.reads.files i }));
+        leaves = ap (λ (o : Outcome). left_by o (state_of world before)) due ∙ (λ i. Some (record { world = next; files = sym gives.files i }));
         spent = omega (arith, begins.2);
-        kept = λ _. gives.reads.files;
+        kept = λ _. gives.files;
       }
       by (Err (stop.Refused why)) due =
           let paid : new ≡ old + refused_work why = omega (arith, begins.2, due.1) in
-          (due.0, paid, gives.reads.files)
-      by (Err stop.NoMemory) due = gives.reads.files
+          (due.0, paid, gives.files)
+      by (Err stop.NoMemory) due = gives.files

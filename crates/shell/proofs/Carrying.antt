@@ -1,16 +1,16 @@
 -- What the statements of a script did, as far as they were carried out.
 use Rattle.std.proofs.Common.{◌≡◌, ◌⊎◌, inl, inr, ℕ, ◌+◌, ◌<◌, ◌≤◌, min, true, false, List, [], ◌∷◌, ◌++◌, length, take, drop, get_or, Option, Some, None, refl, sym, ap, ◌∙◌, subst, arith, append_assoc}
-use Rattle.std.specs.Prelude.{IfSome}
+use Rattle.std.specs.Prelude.{IfSome, MatchOption}
 use Rattle.std.specs.Option.{option_and_then, option_map_or}
 use Rattle.std.specs.Io.KnownBytes.{Appends}
 use Rattle.std.proofs.Math.Seq.{take-append-add}
 use Rattle.std.proofs.lemmas.List.{append-nil, take_min, take_all, take-append-le, map-append, take_more, take-append-drop}
 use Rattle.std.proofs.KnownBytes.{Appends-nil, Appends-trans}
-use Rattle.outside_io.specs.Count.{Rose}
+use Rattle.outside_io.specs.Count.{raised}
 use Rattle.outside_io.specs.Files.{FolderState}
 use Rattle.sql_parse.specs.Trees.{StatementTree}
 use Rattle.session.specs.Bounds.{IsAnsweredWithin}
-use Rattle.shell.specs.Script.{IsGivenFor, Answer, AreAnsweredWithin, AreGiven, ScriptState, Step, and_then, at_start, files_after, left_by, printed_by, script_answer, state_after}
+use Rattle.shell.specs.Script.{IsGivenStep, Answer, AreAnsweredWithin, AreGiven, ScriptState, Step, and_then, at_start, files_after, left_by, printed_by, script_answer, state_after}
 use Rattle.session.specs.Outcome.{Outcome, Refuses, refused_work}
 use Rattle.session.specs.Refusal.{line_of}
 use Rattle.session.specs.Statements.{statement_outcome}
@@ -18,12 +18,12 @@ use Rattle.session.specs.World.{World, nothing_made}
 use Rattle.session.specs.declared.refusal.Refusal.{Refusal}
 use Rattle.shell.specs.declared.status.Status.{Status}
 use Rattle.shell.specs.declared.status.Status.TheVariants as status
-use Rattle.shell.specs.Due.{CarriesAll, EndsAt, LeadsOn, state_of}
+use Rattle.shell.specs.Due.{CarriesAll, EndsAt, HasCauses, LeadsOn, state_of}
 use Rattle.shell.specs.Due.EndsAt.{refuses, breaks}
-use Rattle.shell.specs.Serve.{BreaksBefore, NeverFalls, next_text, statements_of_steps}
+use Rattle.shell.specs.Serve.{BreaksBefore, EndsAsDue, NeverFalls, NoneFailed, next_text, statements_of_steps}
 use Rattle.shell.specs.Serve.BreaksBefore.{no_read, no_write, no_put, no_memory}
 use Rattle.shell.proofs.Beginning.{whole_begins}
-use Rattle.shell.proofs.Folders.{falls_none, falls_on, rose_in, given_for_wider}
+use Rattle.shell.proofs.Folders.{falls_none, falls_on, quiet_none, quiet_on}
 use Rattle.shell.proofs.Steps.{StepsFrom, steps_behind}
 
 -- an answer after a text and its work
@@ -47,27 +47,26 @@ nothing_after text work =
     let none : work + 0 ≡ work = omega arith in
     λ i. record { text = same i; work = none i; refused = false }
 
--- what went out when a run broke off is a beginning of the next text; the run didn't end as its text does, nor without a cause
-pub record IsBroken (max_work : ℕ) (sink_failed : Type 0) (old new : FolderState) (state : ScriptState) (later : List Step) (ended : Status) (part : List ℕ) : Type 0 where
+-- what went out when a run broke off is a beginning of the next text; it didn't end as its text does, nor without a cause
+pub record IsBroken (max_work : ℕ) (source_failed sink_failed : Type 0) (old new : FolderState) (state : ScriptState) (later : List Step) (ended : Status) (part : List ℕ) : Type 0 where
   pub begins : (n : ℕ) × (part ≡ take n (next_text max_work state later))
-  pub kinds : (ended ≡ status.Done → ⊥) × (ended ≡ status.Refused → ⊥) × (ended ≡ status.BadWords → ⊥)
-  pub read_fault : ended ≡ status.ReadFault → Rose old.read_faults new.read_faults
-  pub write_fault : ended ≡ status.WriteFault → sink_failed ⊎ Rose old.write_faults new.write_faults
+  pub other : ¬ EndsAsDue ended
+  pub causes : HasCauses source_failed sink_failed old new ended
 
-pub broken_by : {max_work : ℕ} {sink_failed : Type 0} {old new : FolderState} {state : ScriptState} {later : List Step} {ended : Status} {part : List ℕ} {spent : ℕ}
-    → BreaksBefore max_work sink_failed old new state later ended part spent → IsBroken max_work sink_failed old new state later ended part
-broken_by (no_read rose asks kept) = record { begins = (0, refl); kinds = (λ is. cc is, λ is. cc is, λ is. cc is); read_fault = λ is. rose; write_fault = λ is. cc is }
-broken_by (no_write rose fails) = record { begins = (0, refl); kinds = (λ is. cc is, λ is. cc is, λ is. cc is); read_fault = λ is. cc is; write_fault = λ is. inr rose }
-broken_by (no_put failed some kept n) = record { begins = (n, refl); kinds = (λ is. cc is, λ is. cc is, λ is. cc is); read_fault = λ is. cc is; write_fault = λ is. inl failed }
-broken_by (no_memory spent within kept) = record { begins = (0, refl); kinds = (λ is. cc is, λ is. cc is, λ is. cc is); read_fault = λ is. cc is; write_fault = λ is. cc is }
+pub broken_by : {max_work : ℕ} {source_failed sink_failed : Type 0} {old new : FolderState} {state : ScriptState} {later : List Step} {ended : Status} {part : List ℕ} {spent : ℕ}
+    → BreaksBefore max_work sink_failed old new state later ended part spent → IsBroken max_work source_failed sink_failed old new state later ended part
+broken_by (no_read failed asks kept) = record { begins = (0, refl); other = λ due. elim due [ inl is ↦ cc is | inr is ↦ cc is ]; causes = record { words = λ is. cc is; read_fault = λ _. inr (omega (arith, failed.reads)); write_fault = λ is. cc is } }
+broken_by (no_write failed fails) = record { begins = (0, refl); other = λ due. elim due [ inl is ↦ cc is | inr is ↦ cc is ]; causes = record { words = λ is. cc is; read_fault = λ is. cc is; write_fault = λ _. inr (omega (arith, failed.writes)) } }
+broken_by (no_put failed some quiet kept n) = record { begins = (n, refl); other = λ due. elim due [ inl is ↦ cc is | inr is ↦ cc is ]; causes = record { words = λ is. cc is; read_fault = λ is. cc is; write_fault = λ _. inl failed } }
+broken_by (no_memory spent within quiet kept) = record { begins = (0, refl); other = λ due. elim due [ inl is ↦ cc is | inr is ↦ cc is ]; causes = record { words = λ is. cc is; read_fault = λ is. cc is; write_fault = λ is. cc is } }
 
--- a cause in a part of a run is one in the run
-pub breaks_in : {max_work : ℕ} {failed sink_failed : Type 0} {before mid now : FolderState} {state : ScriptState} {later : List Step} {ended : Status} {part : List ℕ} {spent : ℕ} → (failed → sink_failed) → NeverFalls before mid
+-- a cause in a part of a run, before which no call of the folder failed, is one in the run
+pub breaks_in : {max_work : ℕ} {failed sink_failed : Type 0} {before mid now : FolderState} {state : ScriptState} {later : List Step} {ended : Status} {part : List ℕ} {spent : ℕ} → (failed → sink_failed) → NoneFailed before mid
     → BreaksBefore max_work failed mid now state later ended part spent → BreaksBefore max_work sink_failed before now state later ended part spent
-breaks_in sinks first (no_read rose asks kept) = no_read (rose_in first.read_faults (omega arith) rose) asks kept
-breaks_in sinks first (no_write rose fails) = no_write (rose_in first.write_faults (omega arith) rose) fails
-breaks_in sinks first (no_put failed some kept n) = no_put (sinks failed) some kept n
-breaks_in sinks first (no_memory spent within kept) = no_memory spent within kept
+breaks_in sinks first (no_read failed asks kept) = no_read (record { reads = failed.reads ∙ ap raised first.reads; writes = failed.writes ∙ first.writes }) asks kept
+breaks_in sinks first (no_write failed fails) = no_write (record { reads = failed.reads ∙ first.reads; writes = failed.writes ∙ ap raised first.writes }) fails
+breaks_in {before = before} {mid = mid} {now = now} sinks first (no_put failed some quiet kept n) = no_put (sinks failed) some (quiet_on before mid now first quiet) kept n
+breaks_in {before = before} {mid = mid} {now = now} sinks first (no_memory spent within quiet kept) = no_memory spent within (quiet_on before mid now first quiet) kept
 
 -- the text so far is there and paid; and whatever the statements from i on do, in the state that the ones before leave, is what
 -- the whole does behind them
@@ -79,10 +78,10 @@ pub record IsCarried (max_work : ℕ) (all : List StatementTree) (i : ℕ) (befo
   pub whole : (rest : List Step) → script_answer max_work (at_start before.files) (steps ++ rest) ≡ after printed paid (script_answer max_work (state_of world now) rest)
   pub leaves : (rest : List Step) → state_after max_work (at_start before.files) (steps ++ rest) ≡ state_after max_work (state_of world now) rest
   pub files : (rest : List Step) → files_after max_work (at_start before.files) (steps ++ rest) ≡ files_after max_work (state_of world now) rest
-  pub given : (last : ℕ) → now.misses ≤ last → (rest : List Step) → AreGiven (Rose before.misses last) max_work (state_of world now) rest
-      → AreGiven (Rose before.misses last) max_work (at_start before.files) (steps ++ rest)
+  pub given : (last : ℕ) (rest : List Step) → AreGiven max_work (state_of world now) rest now.misses last → AreGiven max_work (at_start before.files) (steps ++ rest) before.misses last
   pub answered : (rest : List Step) → AreAnsweredWithin max_work (state_of world now) rest → AreAnsweredWithin max_work (at_start before.files) (steps ++ rest)
   pub falls : NeverFalls before now
+  pub quiet : NoneFailed before now
 
 pub carried_none : (max_work : ℕ) (all : List StatementTree) (before : FolderState) (had : Option (List ℕ)) → IsCarried max_work all 0 before before nothing_made had had 0
 carried_none max_work all before had = record {
@@ -93,9 +92,10 @@ carried_none max_work all before had = record {
   whole = λ rest. after_nothing (script_answer max_work (at_start before.files) rest);
   leaves = λ rest. refl;
   files = λ rest. refl;
-  given = λ last past rest given. given;
+  given = λ last rest given. given;
   answered = λ rest within. within;
   falls = falls_none before;
+  quiet = quiet_none before;
 }
 
 -- the statement at i comes after those before it
@@ -146,7 +146,7 @@ module _ (max_work : ℕ) (all : List StatementTree) (i : ℕ) (before now : Fol
       record {
         steps = carried.steps;
         are = carried.are ∙ take_all i all past;
-        given = subst (AreGiven (Rose before.misses now.misses) max_work (at_start before.files)) alone (carried.given now.misses (omega arith) [] tt);
+        given = subst (λ (steps : List Step). AreGiven max_work (at_start before.files) steps before.misses now.misses) alone (carried.given now.misses [] refl);
         falls = carried.falls;
         carries = record {
           done = λ _. (ap (λ (a : Answer). a.refused) answer_so_far, whole);
@@ -155,6 +155,8 @@ module _ (max_work : ℕ) (all : List StatementTree) (i : ℕ) (before now : Fol
         };
         whole = λ _. record {
           files = sym (ap (files_after max_work (at_start before.files)) (sym alone) ∙ carried.files []);
+          untouched = tt;
+          quiet = carried.quiet;
           pays = sym (ap (λ (a : Answer). a.work) answer_so_far);
           bounds = within_so_far;
         };
@@ -163,7 +165,7 @@ module _ (max_work : ℕ) (all : List StatementTree) (i : ℕ) (before now : Fol
 
 module _ (max_work : ℕ) (all : List StatementTree) (i : ℕ) (before mid now : FolderState) (world : World) (statement : StatementTree) (file : Option (List ℕ)) (had got new : Option (List ℕ)) (paid due : ℕ)
     (below : i < length all) (is : get_or all i statement ≡ statement) (last : NeverFalls mid now)
-    (carried : IsCarried max_work all i before mid world had got paid) (given : IsGivenFor mid.files (Rose mid.misses now.misses) statement file) where
+    (carried : IsCarried max_work all i before mid world had got paid) (given : IsGivenStep (state_of world mid) (record { statement = statement; file = file }) mid.misses now.misses) where
   abbrev start : ScriptState
   start = at_start before.files
 
@@ -180,21 +182,19 @@ module _ (max_work : ℕ) (all : List StatementTree) (i : ℕ) (before mid now :
   one_more : (rest : List Step) → (carried.steps ++ here ∷ []) ++ rest ≡ carried.steps ++ here ∷ rest
   one_more rest = append_assoc carried.steps (here ∷ []) rest
 
-  given_here : (end : ℕ) → now.misses ≤ end → (rest : List Step) → IfSome (left_by what state) (λ next. AreGiven (Rose before.misses end) max_work next rest)
-      → AreGiven (Rose before.misses end) max_work start (carried.steps ++ here ∷ rest)
-  given_here end past rest others =
-      let until : mid.misses ≤ end = omega (arith, last.misses, past) in
-      carried.given end until (here ∷ rest) (given_for_wider mid.files statement file (rose_in carried.falls.misses past) given, others)
+  given_here : (end : ℕ) (rest : List Step) → MatchOption (left_by what state) (end ≡ now.misses) (λ next. AreGiven max_work next rest now.misses end) → AreGiven max_work start (carried.steps ++ here ∷ rest) before.misses end
+  given_here end rest others = carried.given end (here ∷ rest) (now.misses, given, others)
 
   -- a statement behind which the run goes on
-  pub carried_on : (next : World) → LeadsOn what state (state_of next now) got new paid due → IsAnsweredWithin world statement → IsCarried max_work all (i + 1) before now next had new due
-  carried_on next goes within =
+  pub carried_on : (next : World) → NoneFailed mid now → LeadsOn what state (state_of next now) got new paid due → IsAnsweredWithin world statement → IsCarried max_work all (i + 1) before now next had new due
+  carried_on next quiet goes within =
       let there = state_of next now in
       record {
         steps = carried.steps ++ here ∷ [];
         are = are_on all i carried.steps here below is carried.are;
         printed = carried.printed ++ goes.text;
         falls = falls_on before mid now carried.falls last;
+        quiet = quiet_on before mid now carried.quiet quiet;
         put = Appends-trans had got new carried.printed goes.text carried.put goes.put;
         whole = λ rest.
             ap (script_answer max_work start) (one_more rest) ∙ carried.whole (here ∷ rest)
@@ -207,17 +207,17 @@ module _ (max_work : ℕ) (all : List StatementTree) (i : ℕ) (before mid now :
         files = λ rest.
             ap (files_after max_work start) (one_more rest) ∙ carried.files (here ∷ rest)
             ∙ ap (λ (o : Option ScriptState). option_map_or (λ s. files_after max_work s rest) o mid.files) goes.leaves;
-        given = λ last past rest later.
-            subst (AreGiven (Rose before.misses last) max_work start) (sym (one_more rest))
-            (given_here last past rest (subst (λ (o : Option ScriptState). IfSome o (λ s. AreGiven (Rose before.misses last) max_work s rest)) (sym goes.leaves) later));
+        given = λ last rest later.
+            subst (λ (steps : List Step). AreGiven max_work start steps before.misses last) (sym (one_more rest))
+            (given_here last rest (subst (λ (o : Option ScriptState). MatchOption o (last ≡ now.misses) (λ s. AreGiven max_work s rest now.misses last)) (sym goes.leaves) later));
         answered = λ rest later.
             subst (AreAnsweredWithin max_work start) (sym (one_more rest))
             (carried.answered (here ∷ rest) (subst (λ (o : Option ScriptState). IfSome o (λ s. IsAnsweredWithin world statement × AreAnsweredWithin max_work s rest)) (sym goes.leaves) (within, later)));
       }
 
   -- the statements after this one, as steps, and the whole answer
-  abbrev others : StepsFrom (Rose before.misses now.misses) max_work (drop (i + 1) all) (left_by what state)
-  others = steps_behind (Rose before.misses now.misses) max_work (drop (i + 1) all) state (left_by what state)
+  abbrev others : StepsFrom max_work (drop (i + 1) all) (left_by what state) now.misses
+  others = steps_behind max_work now.misses (drop (i + 1) all) state (left_by what state)
 
   abbrev all_steps : List Step
   all_steps = carried.steps ++ here ∷ others.0
@@ -238,7 +238,7 @@ module _ (max_work : ℕ) (all : List StatementTree) (i : ℕ) (before mid now :
   -- a run that ends at this statement
   pub carried_to : (failed sink_failed : Type 0) (ended : Status) → (failed → sink_failed) → EndsAt max_work failed here state mid now got new paid due ended
       → CarriesAll max_work sink_failed all before now ended had new due
-  carried_to failed sink_failed ended sinks (refuses why is_refused put spent kept) =
+  carried_to failed sink_failed ended sinks (refuses why is_refused put spent quiet kept) =
       let whole : script_answer max_work start all_steps ≡ record { text = carried.printed ++ line_of why; work = paid + refused_work why; refused = true } =
       answer_here ∙ ap (after carried.printed paid) (refused_whole what state (λ s. script_answer max_work s others.0) why is_refused) in
       let none : left_by what state ≡ None = ap (λ (o : Outcome). left_by o state) is_refused in
@@ -246,7 +246,7 @@ module _ (max_work : ℕ) (all : List StatementTree) (i : ℕ) (before mid now :
       record {
         steps = all_steps;
         are = all_are;
-        given = given_here now.misses (omega arith) others.0 others.2;
+        given = given_here now.misses others.0 others.2;
         falls = falls_on before mid now carried.falls last;
         carries = record {
           done = λ e. cc e;
@@ -255,6 +255,8 @@ module _ (max_work : ℕ) (all : List StatementTree) (i : ℕ) (before mid now :
         };
         whole = λ _. record {
           files = kept ∙ sym (carried.files (here ∷ others.0) ∙ ap (λ (o : Option ScriptState). option_map_or (λ s. files_after max_work s others.0) o mid.files) none);
+          untouched = tt;
+          quiet = quiet_on before mid now carried.quiet quiet;
           pays = spent ∙ sym (ap (λ (a : Answer). a.work) whole);
           bounds = carried.answered (here ∷ others.0) (subst (λ (o : Option ScriptState). IfSome o (λ s. IsAnsweredWithin world statement × AreAnsweredWithin max_work s others.0)) (sym none) tt);
         };
@@ -265,7 +267,7 @@ module _ (max_work : ℕ) (all : List StatementTree) (i : ℕ) (before mid now :
       let more = begins there (left_by what state) (λ s. script_answer max_work s others.0) in
       let text : (script_answer max_work start all_steps).text ≡ carried.printed ++ (there.text ++ more.0) = ap (λ (a : Answer). a.text) answer_here ∙ ap (λ (l : List ℕ). carried.printed ++ l) more.1 in
       let here_is = cause others.0 in
-      let here_broken = broken_by here_is in
+      let here_broken : IsBroken max_work ⊥ failed mid now state (here ∷ others.0) ended part = broken_by here_is in
       let of_next = here_broken.begins in
       let out : Appends had new (carried.printed ++ part) = Appends-trans had got new carried.printed part carried.put put in
       let so_far = answer_so_far max_work all i before mid world had got paid carried in
@@ -273,17 +275,17 @@ module _ (max_work : ℕ) (all : List StatementTree) (i : ℕ) (before mid now :
       record {
         steps = all_steps;
         are = all_are;
-        given = given_here now.misses (omega arith) others.0 others.2;
+        given = given_here now.misses others.0 others.2;
         falls = falls_on before mid now carried.falls last;
         carries = record {
-          done = λ e. absurd (here_broken.kinds.0 e);
-          refused = λ e. absurd (here_broken.kinds.1 e);
+          done = λ e. absurd (here_broken.other (inl e));
+          refused = λ e. absurd (here_broken.other (inr e));
           beginning = (
             length carried.printed + min of_next.0 (length there.text),
             rw (text, cut of_next.0 carried.printed there.text more.0, ← of_next.1) out,
           );
         };
-        whole = λ e. elim e [ inl done ↦ absurd (here_broken.kinds.0 done) | inr refused ↦ absurd (here_broken.kinds.1 refused) ];
+        whole = λ e. absurd (here_broken.other e);
         broken = λ _. record {
           earlier = carried.steps;
           later = here ∷ others.0;
@@ -292,7 +294,7 @@ module _ (max_work : ℕ) (all : List StatementTree) (i : ℕ) (before mid now :
           reached = state_so_far max_work all i before mid world had got paid carried;
           part = part;
           spent = spent;
-          cause = breaks_in sinks carried.falls here_is;
+          cause = breaks_in sinks carried.quiet here_is;
           put = rw so_far out;
           pays = omega (arith, work, pays);
           bounds = within_so_far max_work all i before mid world had got paid carried;

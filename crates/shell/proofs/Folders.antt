@@ -1,9 +1,9 @@
 -- The file that a folder gives, and how its counts moved.
-use Rattle.std.proofs.Common.{◌≡◌, ◌⊎◌, inl, inr, ℕ, zero, suc, ◌<◌, ◌≤◌, List, [], ◌∷◌, length, Option, Some, None, refl, sym, ap, arith}
-use Rattle.std.specs.Prelude.{IfSome, IsErrAnd, IsErrOf, IsSome, IsSomeAnd, MatchOption, Vec, Result, Ok, Err}
+use Rattle.std.proofs.Common.{◌≡◌, ◌⊎◌, inl, inr, ℕ, zero, suc, ◌<◌, ◌≤◌, List, [], ◌∷◌, length, Option, Some, None, refl, sym, ap, ◌∙◌, arith}
+use Rattle.std.specs.Prelude.{IfSome, IsSome, IsSomeAnd, MatchOption, Vec, Result, Ok, Err}
 use Rattle.std.specs.declared.alloc.Global.{Global}
-use Rattle.outside_io.specs.Count.{CountsEach, Rose}
-use Rattle.outside_io.specs.Files.{Files, FolderState, IsMiss, IsReadAnswer, KeepsFileLimit, OnlyReads, held_file}
+use Rattle.outside_io.specs.Count.{Rose, raised}
+use Rattle.outside_io.specs.Files.{Files, FolderState, IsReadAnswer, KeepsFileLimit, OnlyReads, held_file}
 use Rattle.outside_io.specs.declared.fault.FileFault.{FileFault}
 use Rattle.outside_io.specs.declared.fault.FileFault.TheVariants as fault
 use Rattle.sql_values.specs.Limits.{max_file_bytes}
@@ -11,12 +11,11 @@ use Rattle.sql_parse.specs.Trees.{StatementTree}
 use Rattle.session.specs.Statements.{asked_name}
 use Rattle.session.specs.declared.begun.GivenFile.{GivenFile}
 use Rattle.session.specs.declared.begun.GivenFile.TheVariants as given
-use Rattle.shell.specs.Due.{GivesFile, ReadsOnly, CountsItsFile}
-use Rattle.shell.specs.Script.{IsGiven, IsGivenFor, IsMissing, Step}
+use Rattle.shell.specs.Due.{GivesFile, ReadsFile}
+use Rattle.shell.specs.Script.{IsGiven, IsGivenFor, IsMissing}
 use Rattle.shell.specs.declared.status.Status.{Status}
 use Rattle.shell.specs.declared.status.Status.TheVariants as status
-use Rattle.session.specs.World.{World}
-use Rattle.shell.specs.Serve.{NeverFalls}
+use Rattle.shell.specs.Serve.{NeverFalls, NoneFailed}
 
 -- a count that rose in a part of a run rose in the run
 pub rose_in : {before low high last : ℕ} → before ≤ low → high ≤ last → Rose low high → Rose before last
@@ -28,37 +27,11 @@ falls_none state = record { read_faults = omega arith; write_faults = omega arit
 pub falls_on : (before mid now : FolderState) → NeverFalls before mid → NeverFalls mid now → NeverFalls before now
 falls_on before mid now first last = record { read_faults = omega (arith, first.read_faults, last.read_faults); write_faults = omega (arith, first.write_faults, last.write_faults); misses = omega (arith, first.misses, last.misses) }
 
--- a run ended at a failed read
-abbrev pub FailedToRead : {T : Type 0} → Result T Status → Type 0
-FailedToRead result = IsErrOf result status.ReadFault
+pub quiet_none : (state : FolderState) → NoneFailed state state
+quiet_none state = record { reads = refl; writes = refl }
 
-module _ {T : Type 0} (world : World) (step : Step) (before after : FolderState) where
-  -- nothing was read
-  pub counts_kept : (result : Result T Status) → ¬ FailedToRead result → after.read_faults ≡ before.read_faults → after.misses ≡ before.misses → NeverFalls before after → CountsItsFile world step result before after
-  counts_kept result other reads misses falls = record { read_faults = record { counted = λ is. absurd (other is); kept = λ _. reads }; misses = λ _. misses; unasked = λ _. (reads, misses); falls = falls }
-
-  -- what was put doesn't move them
-  pub counts_on : {U : Type 0} (one : Result U Status) (result : Result T Status) → (FailedToRead one → FailedToRead result) → (FailedToRead result → FailedToRead one) → CountsItsFile world step one before after
-      → CountsItsFile world step result before after
-  counts_on one result to from counts = record {
-    read_faults = record { counted = λ is. counts.read_faults.counted (from is); kept = λ other. counts.read_faults.kept (λ is. other (to is)) };
-    misses = counts.misses;
-    unasked = counts.unasked;
-    falls = counts.falls;
-  }
-
--- a miss in a part of a run is one in the run
-given_wider : {missed more : Type 0} (held : Option Files) (name : List ℕ) (file : Option (List ℕ)) → (missed → more) → IsGiven held missed name file → IsGiven held more name file
-given_wider None name file so (inl within) = inl within
-given_wider None name file so (inr miss) = inr (so miss)
-given_wider (Some files) name file so given = given
-
-pub given_for_wider : {missed more : Type 0} (held : Option Files) (statement : StatementTree) (file : Option (List ℕ)) → (missed → more) → IsGivenFor held missed statement file → IsGivenFor held more statement file
-given_for_wider {missed} {more} held statement file so given = by (asked_name statement) given
-  where
-    by : (asked : Option (List ℕ)) → MatchOption asked (file ≡ None) (λ name. IsGiven held missed name file) → MatchOption asked (file ≡ None) (λ name. IsGiven held more name file)
-    by None given = given
-    by (Some name) given = given_wider held name file so given
+pub quiet_on : (before mid now : FolderState) → NoneFailed before mid → NoneFailed mid now → NoneFailed before now
+quiet_on before mid now first last = record { reads = last.reads ∙ first.reads; writes = last.writes ∙ first.writes }
 
 -- some file is given under every name, and for every statement
 any_given : (missed : Type 0) (held : Option Files) (name : List ℕ) → (file : Option (List ℕ)) × IsGiven held missed name file
@@ -90,9 +63,6 @@ long_text zero = ([], refl)
 long_text (suc len) = let more = long_text len in (0 ∷ more.0, ap suc more.1)
 
 module _ (name : List ℕ) (before after : FolderState) where
-  abbrev Gives : Option (List ℕ) → Type 0
-  Gives file = IsGiven before.files (Rose before.misses after.misses) name file
-
   -- one that is found is given; where the files are unknown, it could be read, or a miss was counted
   found_given : (held : Option Files) (missed : Type 0) (file : Option (List ℕ)) → IfSome held (λ files. held_file files name ≡ file) → IsSomeAnd file (λ bytes. length bytes ≤ max_file_bytes) ⊎ missed → IsGiven held missed name file
   found_given None missed file known either = either
@@ -116,40 +86,34 @@ module _ (name : List ℕ) (before after : FolderState) where
   given_as (Err fault.Failed) = Err status.ReadFault
   given_as (Err fault.NoMemory) = Err status.NoMemory
 
-  module _ (read : Result (Vec ℕ Global) FileFault) (reads : OnlyReads (IsErrOf read fault.Failed) (IsErrAnd read IsMiss) before after)
-      (read_faults : CountsEach (IsErrOf read fault.Failed) before.read_faults after.read_faults) (misses : CountsEach (IsErrAnd read IsMiss) before.misses after.misses) where
-    only : (file : Option (List ℕ)) → (IsErrOf (given_as read) status.ReadFault → IsErrOf read fault.Failed) → (IsErrOf read fault.Failed → IsErrOf (given_as read) status.ReadFault) → (¬ IsMissing file → ¬ IsErrAnd read IsMiss)
-        → ReadsOnly file (given_as read) before after
-    only file to from there = record {
-      files = reads.files;
-      read_faults = record { counted = λ is. read_faults.counted (to is); kept = λ other. read_faults.kept (λ is. other (from is)) };
-      misses = λ present. misses.kept (there present);
-      falls = record { read_faults = reads.read_faults.never_falls; write_faults = omega (arith, reads.write_faults); misses = reads.misses.never_falls };
-    }
+  only : (read : Result (Vec ℕ Global) FileFault) (reads : OnlyReads read before after) (file : Option (List ℕ)) → IsGiven before.files (Rose before.misses after.misses) name file
+      → ((after.misses ≡ before.misses) ⊎ (IsMissing file × (after.misses ≡ raised before.misses))) → ReadsFile file before after (given_as read) → GivesFile name before after (given_as read)
+  only read reads file given counts ends = record {
+    file = file;
+    given = given;
+    counts = counts;
+    files = reads.files;
+    falls = record { read_faults = reads.read_faults.never_falls; write_faults = omega (arith, reads.write_faults); misses = reads.misses.never_falls };
+    reads = ends;
+  }
 
-  pub gives_file : (read : Result (Vec ℕ Global) FileFault) → IfSome before.files (λ files. IsReadAnswer files name read) → KeepsFileLimit read → OnlyReads (IsErrOf read fault.Failed) (IsErrAnd read IsMiss) before after
-      → CountsEach (IsErrOf read fault.Failed) before.read_faults after.read_faults → CountsEach (IsErrAnd read IsMiss) before.misses after.misses → GivesFile name before after (given_as read)
-  gives_file (Ok bytes) known within reads faults misses = record {
-    file = Some bytes.items;
-    given = found_given before.files _ (Some bytes.items) known (inl within);
-    stands = (refl, within);
-    ends = tt;
-    reads = only (Ok bytes) reads faults misses (Some bytes.items) (λ is. cc is) (λ is. cc is) (λ _ no. no);
-  }
-  gives_file (Err fault.Absent) known within reads faults misses = record {
-    file = None;
-    given = found_given before.files _ None known (inr (reads.misses.rose tt));
-    stands = refl;
-    ends = tt;
-    reads = only (Err fault.Absent) reads faults misses None (λ is. cc is) (λ is. cc is) (λ there. absurd (there tt));
-  }
-  gives_file (Err (fault.TooLong len)) known within reads faults misses =
-      let long = long_given before.files (Rose before.misses after.misses) len known within (reads.misses.rose tt) in
+  pub gives_file : (read : Result (Vec ℕ Global) FileFault) → IfSome before.files (λ files. IsReadAnswer files name read) → KeepsFileLimit read → OnlyReads read before after → GivesFile name before after (given_as read)
+  gives_file (Ok bytes) known within reads =
+      let quiet : NoneFailed before after = record { reads = reads.read_faults.kept (λ is. cc is); writes = reads.write_faults } in
+      only (Ok bytes) reads (Some bytes.items) (found_given before.files _ (Some bytes.items) known (inl within)) (inl (reads.misses.kept (λ no. no))) ((refl, within), quiet)
+  gives_file (Err fault.Absent) known within reads =
+      let missed = reads.misses.counted tt in
+      let quiet : NoneFailed before after = record { reads = reads.read_faults.kept (λ is. cc is); writes = reads.write_faults } in
+      only (Err fault.Absent) reads None (found_given before.files _ None known (inr (omega (arith, missed)))) (inr (tt, missed)) (refl, quiet)
+  gives_file (Err (fault.TooLong len)) known within reads =
+      let missed = reads.misses.counted tt in
+      let quiet : NoneFailed before after = record { reads = reads.read_faults.kept (λ is. cc is); writes = reads.write_faults } in
+      let long = long_given before.files (Rose before.misses after.misses) len known within (omega (arith, missed)) in
       let past : max_file_bytes < length long.0 = omega (arith, long.1, within) in
-      record { file = Some long.0; given = long.2; stands = (long.1, within); ends = tt; reads = only (Err (fault.TooLong len)) reads faults misses (Some long.0) (λ is. cc is) (λ is. cc is) (λ there. absurd (there past)) }
-  gives_file (Err fault.Failed) known within reads faults misses =
+      only (Err (fault.TooLong len)) reads (Some long.0) long.2 (inr (past, missed)) ((long.1, within), quiet)
+  gives_file (Err fault.Failed) known within reads =
       let any = any_given (Rose before.misses after.misses) before.files name in
-      record { file = any.0; given = any.1; stands = tt; ends = inl (refl, reads.read_faults.rose refl); reads = only (Err fault.Failed) reads faults misses any.0 (λ is. refl) (λ is. refl) (λ _ no. no) }
-  gives_file (Err fault.NoMemory) known within reads faults misses =
+      only (Err fault.Failed) reads any.0 any.1 (inl (reads.misses.kept (λ no. no))) (inl (refl, record { reads = reads.read_faults.counted refl; writes = reads.write_faults }))
+  gives_file (Err fault.NoMemory) known within reads =
       let any = any_given (Rose before.misses after.misses) before.files name in
-      record { file = any.0; given = any.1; stands = tt; ends = inr refl; reads = only (Err fault.NoMemory) reads faults misses any.0 (λ is. cc is) (λ is. cc is) (λ _ no. no) }
+      only (Err fault.NoMemory) reads any.0 any.1 (inl (reads.misses.kept (λ no. no))) (inr (refl, record { reads = reads.read_faults.kept (λ is. cc is); writes = reads.write_faults }))

@@ -43,12 +43,6 @@ reads_whole left read reads = elim (cut left) [
   | inr long ↦ reads_long (take enough left) left read long.1 long.0 reads
 ]
 
-pub reads_cut : (left : List ℕ) (why : Refusal) → IsScript left (Err why) → IsScript (take enough left) (Err why)
-reads_cut left why reads = elim (cut left) [
-  | inl whole ↦ subst (λ (l : List ℕ). IsScript l (Err why)) (sym whole) reads
-  | inr long ↦ reads_long left (take enough left) (Err why) long.0 long.1 reads
-]
-
 -- every script is read
 pub some_reading : (script : List ℕ) → (read : Read) × IsScript script read
 some_reading script = elim (cases_lt max_script_bytes (length script)) [

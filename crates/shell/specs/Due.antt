@@ -1,42 +1,40 @@
 -- What a run of statements did, held against what is due to them.
-use Rattle.std.specs.Prelude.{◌≡◌, ◌≢◌, ◌⊎◌, ℕ, ◌+◌, ⊤, false, Result, Ok, Err, IfErr, OnOk, IfSome, List, ◌∷◌, Option, Some, IfOk, IsErrOf, Vec, []}
+use Rattle.std.specs.Prelude.{◌≡◌, ◌≢◌, ◌⊎◌, ℕ, ◌+◌, ⊤, false, Result, Ok, Err, IfErr, OnOk, IfSome, List, ◌∷◌, Option, Some, Vec, []}
 use Rattle.std.specs.Io.KnownBytes.{Appends}
-use Rattle.outside_io.specs.Count.{Rose, CountsEach}
+use Rattle.outside_io.specs.Count.{Rose, raised}
 use Rattle.outside_io.specs.Files.{FolderState}
 use Rattle.sql_parse.specs.Trees.{StatementTree}
 use Rattle.session.specs.Bounds.{IsAnsweredWithin}
 use Rattle.session.specs.Outcome.{Outcome, Refuses, refused_work}
 use Rattle.session.specs.Refusal.{line_of}
-use Rattle.session.specs.Statements.{statement_outcome, AsksForFile}
+use Rattle.session.specs.Statements.{statement_outcome}
 use Rattle.session.specs.World.{World}
 use Rattle.session.specs.declared.refusal.Refusal.{Refusal}
 use Rattle.shell.specs.declared.script.ScriptFault.{ScriptFault}
 use Rattle.shell.specs.declared.script.ScriptFault.TheVariants as script_fault
 use Rattle.shell.specs.declared.status.Status.{Status}
 use Rattle.shell.specs.declared.status.Status.TheVariants as status
-use Rattle.shell.specs.Script.{IsGivenFor, AreGiven, ScriptState, Step, at_start, left_by, printed_by, script_answer, step_outcome, IsGiven, IsMissing}
-use Rattle.shell.specs.Serve.{BreaksBefore, BreaksOff, Carries, EndsAsDue, EndsWhole, IsScript, NeverFalls, Serves, statements_of_steps}
+use Rattle.shell.specs.Script.{AreGiven, IsGivenStep, ScriptState, Step, at_start, left_by, printed_by, script_answer, step_outcome, IsGiven, IsMissing}
+use Rattle.shell.specs.Serve.{BreaksBefore, BreaksOff, Carries, EndsAsDue, EndsWhole, IsScript, NeverFalls, NoneFailed, ReadFailed, Serves, statements_of_steps}
 use Rattle.std.specs.declared.alloc.Global.{Global}
 use Rattle.session.specs.Given.{IsFileGiven}
 use Rattle.session.specs.declared.begun.GivenFile.{GivenFile}
 use Rattle.session.specs.declared.stop.Stop.{Stop}
 use Rattle.session.specs.declared.stop.Stop.TheVariants as stop
 
--- how reading one file moved what is known of a folder, and this file was given: a failed read was counted once, and the run ends
--- there; a miss was counted only where the file is missing; nothing else moved
-pub record ReadsOnly {T : Type 0} (file : Option (List ℕ)) (result : Result T Status) (before after : FolderState) : Type 0 where
-  pub files : after.files ≡ before.files
-  pub read_faults : CountsEach (IsErrOf result status.ReadFault) before.read_faults after.read_faults
-  pub misses : ¬ IsMissing file → after.misses ≡ before.misses
-  pub falls : NeverFalls before after
+-- what a read gave stands for the file, and nothing failed; or the run ends
+abbrev pub ReadsFile : (file : Option (List ℕ)) → (before after : FolderState) → Result GivenFile Status → Type 0
+ReadsFile file before after (Ok given) = IsFileGiven file given × NoneFailed before after
+ReadsFile file before after (Err ended) = ((ended ≡ status.ReadFault) × ReadFailed before after) ⊎ ((ended ≡ status.NoMemory) × NoneFailed before after)
 
--- a read gave the file that the folder gives under a name, or the run ends
+-- a read gave the file that the folder gives under a name, which it counted where it is missing, or the run ends
 pub record GivesFile (name : List ℕ) (before after : FolderState) (result : Result GivenFile Status) : Type 0 where
   pub file : Option (List ℕ)
   pub given : IsGiven before.files (Rose before.misses after.misses) name file
-  pub stands : IfOk result (IsFileGiven file)
-  pub ends : IfErr result (λ ended. ((ended ≡ status.ReadFault) × Rose before.read_faults after.read_faults) ⊎ (ended ≡ status.NoMemory))
-  pub reads : ReadsOnly file result before after
+  pub counts : (after.misses ≡ before.misses) ⊎ (IsMissing file × (after.misses ≡ raised before.misses))
+  pub files : after.files ≡ before.files
+  pub falls : NeverFalls before after
+  pub reads : ReadsFile file before after result
 
 -- the state of a script between two statements
 abbrev pub state_of : World → FolderState → ScriptState
@@ -62,19 +60,12 @@ CarriesDue max_work step before after world next old new (Ok (Err stop.NoMemory)
 CarriesDue max_work step before after world next old new (Err ended) =
     (new ≡ old) × ((later : List Step) → BreaksBefore max_work ⊥ before after (state_of world before) (step ∷ later) ended [] 0)
 
--- how a statement with this file moved the counts of a folder: a failed read was counted once, and the run ended there; a miss was
--- counted only where the file is missing; and one that asks for no file moved neither
-pub record CountsItsFile {T : Type 0} (world : World) (step : Step) (result : Result T Status) (before after : FolderState) : Type 0 where
-  pub read_faults : CountsEach (IsErrOf result status.ReadFault) before.read_faults after.read_faults
-  pub misses : ¬ IsMissing step.file → after.misses ≡ before.misses
-  pub unasked : ¬ AsksForFile world step.statement → (after.read_faults ≡ before.read_faults) × (after.misses ≡ before.misses)
-  pub falls : NeverFalls before after
-
--- a statement was carried out, with the file that the folder gave for it
+-- a statement was carried out, with the file that the folder gave for it, and no call of the folder failed; or the run ends
 pub record IsCarriedOut (max_work : ℕ) (statement : StatementTree) (before after : FolderState) (world next : World) (old new : ℕ) (result : Result (Result (Vec ℕ Global) Stop) Status) : Type 0 where
   pub file : Option (List ℕ)
-  pub given : IsGivenFor before.files (Rose before.misses after.misses) statement file
-  pub counts : CountsItsFile world (record { statement = statement; file = file }) result before after
+  pub given : IsGivenStep (state_of world before) (record { statement = statement; file = file }) before.misses after.misses
+  pub falls : NeverFalls before after
+  pub quiet : OnOk result (NoneFailed before after)
   pub does : CarriesDue max_work (record { statement = statement; file = file }) before after world next old new result
 
 -- a refusal of the whole script is the one that is due; out of memory fits any script
@@ -94,7 +85,7 @@ pub record LeadsOn (due : Outcome) (state next : ScriptState) (had got : Option 
 -- a step at which it ends: it is refused, and the whole line was put; or the run broke off in front of it, with this part of its
 -- text put and this much paid for it
 pub data EndsAt (max_work : ℕ) (sink_failed : Type 0) (step : Step) (state : ScriptState) (before after : FolderState) (had got : Option (List ℕ)) (old new : ℕ) : Status → Type 0 where
-  refuses : (why : Refusal) → step_outcome max_work state step ≡ Refuses why → Appends had got (line_of why) → new ≡ old + refused_work why → after.files ≡ before.files
+  refuses : (why : Refusal) → step_outcome max_work state step ≡ Refuses why → Appends had got (line_of why) → new ≡ old + refused_work why → NoneFailed before after → after.files ≡ before.files
       → EndsAt max_work sink_failed step state before after had got old new status.Refused
   breaks : (ended : Status) (part : List ℕ) (spent : ℕ) → Appends had got part → new ≡ old + spent → ((later : List Step) → BreaksBefore max_work sink_failed before after state (step ∷ later) ended part spent)
       → EndsAt max_work sink_failed step state before after had got old new ended
@@ -102,8 +93,9 @@ pub data EndsAt (max_work : ℕ) (sink_failed : Type 0) (step : Step) (state : S
 -- what came of a statement, with the file that the folder gave for it: the run goes on, an answer being within its bound, or ends
 pub record CarriesOne {T : Type 0} (max_work : ℕ) (sink_failed : Type 0) (statement : StatementTree) (before after : FolderState) (world next : World) (old new : ℕ) (result : Result T Status) (had got : Option (List ℕ)) : Type 0 where
   pub file : Option (List ℕ)
-  pub given : IsGivenFor before.files (Rose before.misses after.misses) statement file
-  pub counts : CountsItsFile world (record { statement = statement; file = file }) result before after
+  pub given : IsGivenStep (state_of world before) (record { statement = statement; file = file }) before.misses after.misses
+  pub falls : NeverFalls before after
+  pub quiet : OnOk result (NoneFailed before after)
   pub bounded : OnOk result (IsAnsweredWithin world statement)
   pub goes : OnOk result (LeadsOn (statement_outcome max_work world statement file) (state_of world before) (state_of next after) had got old new)
   pub ends : IfErr result (EndsAt max_work sink_failed (record { statement = statement; file = file }) (state_of world before) before after had got old new)
@@ -112,18 +104,22 @@ pub record CarriesOne {T : Type 0} (max_work : ℕ) (sink_failed : Type 0) (stat
 pub record CarriesAll (max_work : ℕ) (sink_failed : Type 0) (statements : List StatementTree) (before after : FolderState) (ended : Status) (had got : Option (List ℕ)) (paid : ℕ) : Type 0 where
   pub steps : List Step
   pub are : statements_of_steps steps ≡ statements
-  pub given : AreGiven (Rose before.misses after.misses) max_work (at_start before.files) steps
+  pub given : AreGiven max_work (at_start before.files) steps before.misses after.misses
   pub falls : NeverFalls before after
   pub carries : Carries (script_answer max_work (at_start before.files) steps) ended had got
   pub whole : EndsAsDue ended → EndsWhole max_work before after (script_answer max_work (at_start before.files) steps) paid (Ok steps)
   pub broken : ¬ EndsAsDue ended → BreaksOff max_work sink_failed ended before after had got paid steps
 
+-- a status names what failed
+pub record HasCauses (source_failed sink_failed : Type 0) (before after : FolderState) (ended : Status) : Type 0 where
+  pub words : ended ≢ status.BadWords
+  pub read_fault : ended ≡ status.ReadFault → source_failed ⊎ Rose before.read_faults after.read_faults
+  pub write_fault : ended ≡ status.WriteFault → sink_failed ⊎ Rose before.write_faults after.write_faults
+
 -- a run over a script, where it is known, up to its end or as far as it got: what is said of every such run. Nothing was paid before
 pub record RunsScript (max_work : ℕ) (source_failed sink_failed : Type 0) (script : Option (List ℕ)) (before after : FolderState) (ended : Status) (had got : Option (List ℕ)) (paid : ℕ) : Type 0 where
   pub serves : IfSome script (λ bytes. Serves max_work source_failed sink_failed bytes before after ended had got paid)
-  pub kinds : ended ≢ status.BadWords
+  pub causes : HasCauses source_failed sink_failed before after ended
   pub folder : NeverFalls before after
   pub unread : IfSome script (λ bytes. (why : Refusal) → IsScript bytes (Err why) → after ≡ before)
   pub unpaid : IfSome script (λ bytes. (why : Refusal) → IsScript bytes (Err why) → paid ≡ 0)
-  pub read_fault : ended ≡ status.ReadFault → source_failed ⊎ Rose before.read_faults after.read_faults
-  pub write_fault : ended ≡ status.WriteFault → sink_failed ⊎ Rose before.write_faults after.write_faults

@@ -1,12 +1,13 @@
 -- The answer to a script: its statements one after another, up to and with the first that is refused.
 use Rattle.std.specs.Prelude.{ℕ, ⊤, ◌+◌, Bool, true, false, List, [], ◌∷◌, ◌++◌, Option, Some, None, IfSome, option_map, Result, Ok, Err, ◌≡◌, ◌⊎◌, ◌<◌, ◌≤◌, length, IsSomeAnd, MatchOption}
 use Rattle.std.specs.Option.{option_and_then, option_map_or}
+use Rattle.outside_io.specs.Count.{Rose, raised}
 use Rattle.outside_io.specs.Files.{Files, with_file, held_file}
 use Rattle.sql_parse.specs.Trees.{StatementTree}
 use Rattle.session.specs.Bounds.{IsAnsweredWithin}
 use Rattle.session.specs.Outcome.{Outcome, Prints, Saves, Refuses, refused_work}
 use Rattle.session.specs.Refusal.{line_of}
-use Rattle.session.specs.Statements.{statement_outcome, asked_name}
+use Rattle.session.specs.Statements.{AsksForFile, statement_outcome, asked_name}
 use Rattle.session.specs.World.{World, nothing_made}
 use Rattle.session.specs.declared.refusal.Refusal.{Refusal}
 use Rattle.sql_values.specs.Limits.{max_file_bytes}
@@ -92,12 +93,21 @@ files_after max_work state [] = state.files
 files_after max_work state (step ∷ rest) =
     option_map_or (λ next. files_after max_work next rest) (left_by (step_outcome max_work state step) state) state.files
 
--- the folder gives each step's file, up to and with the first that is refused; or, where its files are unknown, it missed one
-abbrev pub AreGiven : (missed : Type 0) → (max_work : ℕ) → ScriptState → List Step → Type 0
-AreGiven missed max_work state [] = ⊤
-AreGiven missed max_work state (step ∷ rest) =
-    IsGivenFor state.files missed step.statement step.file
-    × IfSome (left_by (step_outcome max_work state step) state) (λ next. AreGiven missed max_work next rest)
+-- a step's own count of misses: it stayed, or it is one higher, as the statement asks for a file that is missing
+abbrev pub CountsMiss : World → Step → (before after : ℕ) → Type 0
+CountsMiss world step before after = (after ≡ before) ⊎ (AsksForFile world step.statement × IsMissing step.file × (after ≡ raised before))
+
+-- the folder gives the file of a step, whose own miss is counted while the count goes from here to there
+pub record IsGivenStep (state : ScriptState) (step : Step) (before after : ℕ) : Type 0 where
+  pub counts : CountsMiss state.world step before after
+  pub given : IsGivenFor state.files (Rose before after) step.statement step.file
+
+-- the folder gives each step's file, up to and with the first that is refused, and its count of misses goes from step to step
+abbrev pub AreGiven : (max_work : ℕ) → ScriptState → List Step → (before after : ℕ) → Type 0
+AreGiven max_work state [] before after = after ≡ before
+AreGiven max_work state (step ∷ rest) before after =
+    (now : ℕ) × IsGivenStep state step before now
+    × MatchOption (left_by (step_outcome max_work state step) state) (after ≡ now) (λ next. AreGiven max_work next rest now after)
 
 -- each query among these steps that is answered is within the bound
 abbrev pub AreAnsweredWithin : (max_work : ℕ) → ScriptState → List Step → Type 0

@@ -1,7 +1,7 @@
 -- What is due to a script, and what a run of the program did of it.
 use Rattle.std.specs.Prelude.{◌≡◌, ◌≢◌, ◌⊎◌, ℕ, ◌+◌, ◌<◌, ◌≤◌, true, false, List, [], ◌∷◌, ◌++◌, take, length, map, codes, Option, Some, Result, Ok, Err, IfOk, IfErr, if◌then◌else◌}
 use Rattle.std.specs.Io.KnownBytes.{Appends, Keeps}
-use Rattle.outside_io.specs.Count.{Rose}
+use Rattle.outside_io.specs.Count.{Rose, raised}
 use Rattle.outside_io.specs.Files.{Files, FolderState, KeepsOthers}
 use Rattle.sql_lex.specs.declared.token.Token.{Token}
 use Rattle.sql_lex.specs.declared.fault.LexFault.{LexFault}
@@ -55,7 +55,7 @@ statements_read (Err why) = Err why
 pub record IsAnswer (max_work : ℕ) (script : List ℕ) (old new : FolderState) (answer : Answer) : Type 0 where
   pub steps : Result (List Step) Refusal
   pub reads : IsScript script (statements_read steps)
-  pub given : IfOk steps (AreGiven (Rose old.misses new.misses) max_work (at_start old.files))
+  pub given : IfOk steps (λ these. AreGiven max_work (at_start old.files) these old.misses new.misses)
   pub is : answer ≡ answer_of max_work old.files steps
 
 -- a sink that held `old` got the whole text where the run ended as the text does, and a beginning of it in any
@@ -69,10 +69,27 @@ pub record Carries (answer : Answer) (ended : Status) (old new : Option (List �
 abbrev pub EndsAsDue : Status → Type 0
 EndsAsDue ended = (ended ≡ status.Done) ⊎ (ended ≡ status.Refused)
 
--- a run that ended so: the folder holds what the steps leave, exactly the work that the text prints was paid, and each query
--- was answered within its bound
+-- so often a folder's reads and its writes failed
+pub record HasFaults (read_faults write_faults : ℕ) (folder : FolderState) : Type 0 where
+  pub reads : folder.read_faults ≡ read_faults
+  pub writes : folder.write_faults ≡ write_faults
+
+-- none of its calls failed; one read did, and no write; one write did, and no read
+abbrev pub NoneFailed : (old new : FolderState) → Type 0
+NoneFailed old new = HasFaults old.read_faults old.write_faults new
+
+abbrev pub ReadFailed : (old new : FolderState) → Type 0
+ReadFailed old new = HasFaults (raised old.read_faults) old.write_faults new
+
+abbrev pub WriteFailed : (old new : FolderState) → Type 0
+WriteFailed old new = HasFaults old.read_faults (raised old.write_faults) new
+
+-- a run that ended so: the folder holds what the steps leave, and was left alone by a script that is refused whole; none of its calls
+-- failed, exactly the work that the text prints was paid, and each query was answered within its bound
 pub record EndsWhole (max_work : ℕ) (old new : FolderState) (answer : Answer) (paid : ℕ) (steps : Result (List Step) Refusal) : Type 0 where
   pub files : IfOk steps (λ these. new.files ≡ files_after max_work (at_start old.files) these)
+  pub untouched : IfErr steps (λ _. new ≡ old)
+  pub quiet : NoneFailed old new
   pub pays : paid ≡ answer.work
   pub bounds : IfOk steps (AreAnsweredWithin max_work (at_start old.files))
 
@@ -112,15 +129,15 @@ FailsNext left state (step ∷ later) = FailsToWrite state.world step.statement 
 -- why a run broke off in front of these steps, how it ended, which part of the next one's text went out, and what was paid for
 -- it. Where the sink failed, a beginning went out, and all that the step costs was paid. Where the folder failed, nothing went
 -- out, and nothing was paid. Where memory ran out, nothing went out, and at most what a query may cost was paid. The folder holds
--- what the steps before leave, but for a file that couldn't be written
+-- what the steps before leave, but for a file that couldn't be written; one of its calls failed, or none
 pub data BreaksBefore (max_work : ℕ) (sink_failed : Type 0) (old new : FolderState) (state : ScriptState) (later : List Step) : Status → (part : List ℕ) → (spent : ℕ) → Type 0 where
-  no_read : Rose old.read_faults new.read_faults → AsksNext state later → new.files ≡ state.files
+  no_read : ReadFailed old new → AsksNext state later → new.files ≡ state.files
       → BreaksBefore max_work sink_failed old new state later status.ReadFault [] 0
-  no_write : Rose old.write_faults new.write_faults → FailsNext new.files state later
+  no_write : WriteFailed old new → FailsNext new.files state later
       → BreaksBefore max_work sink_failed old new state later status.WriteFault [] 0
-  no_put : sink_failed → next_text max_work state later ≢ [] → new.files ≡ state.files → (n : ℕ)
+  no_put : sink_failed → next_text max_work state later ≢ [] → NoneFailed old new → new.files ≡ state.files → (n : ℕ)
       → BreaksBefore max_work sink_failed old new state later status.WriteFault (take n (next_text max_work state later)) (next_work max_work state later)
-  no_memory : (spent : ℕ) → spent ≤ max_work → new.files ≡ state.files
+  no_memory : (spent : ℕ) → spent ≤ max_work → NoneFailed old new → new.files ≡ state.files
       → BreaksBefore max_work sink_failed old new state later status.NoMemory [] spent
 
 -- a run that broke off among these steps: the texts of the earlier ones, none of which is refused, went out whole, and that part
@@ -146,8 +163,19 @@ pub record BreaksOffLine (sink_failed : Type 0) (ended : Status) (old new : Fold
   pub folder : new ≡ old
   pub unpaid : paid ≡ 0
 
--- an answer is due to the script; a run that ended as its text does did all of it, and every other broke off before the script
--- was read, among its steps or at the line that refuses it
+-- neither the source nor the sink failed, and no count of the folder's faults rose
+pub record MeetsNoFault (source_failed sink_failed : Type 0) (old new : FolderState) : Type 0 where
+  pub source : ¬ source_failed
+  pub sink : ¬ sink_failed
+  pub reads : ¬ Rose old.read_faults new.read_faults
+  pub writes : ¬ Rose old.write_faults new.write_faults
+
+-- the run ended as this answer does, or out of memory
+abbrev pub EndsBy : Answer → Status → Type 0
+EndsBy answer ended = (ended ≡ (if answer.refused then status.Refused else status.Done)) ⊎ (ended ≡ status.NoMemory)
+
+-- one answer is due to the script; a run that ended as its text does did all of it, and every other broke off before the script
+-- was read, among its steps or at the line that refuses it; one that met no fault ended as the answer does, or out of memory
 pub record Serves (max_work : ℕ) (source_failed sink_failed : Type 0) (script : List ℕ) (old new : FolderState) (ended : Status) (before after : Option (List ℕ)) (paid : ℕ) : Type 0 where
   pub answer : Answer
   pub due : IsAnswer max_work script old new answer
@@ -156,25 +184,19 @@ pub record Serves (max_work : ℕ) (source_failed sink_failed : Type 0) (script 
   pub broken : ¬ EndsAsDue ended → IsUnread source_failed ended old new before after paid
       ⊎ (IfOk due.steps (BreaksOff max_work sink_failed ended old new before after paid)
       × IfErr due.steps (λ why. BreaksOffLine sink_failed ended old new before after paid (line_of why)))
-
--- the run ended as the script's text does, or out of memory
-pub record IsDecided (max_work : ℕ) (script : List ℕ) (old new : FolderState) (ended : Status) : Type 0 where
-  pub answer : Answer
-  pub due : IsAnswer max_work script old new answer
-  pub ends : (ended ≡ (if answer.refused then status.Refused else status.Done)) ⊎ (ended ≡ status.NoMemory)
+  pub decided : MeetsNoFault source_failed sink_failed old new → EndsBy answer ended
 
 -- the folder of the demonstration of this number, before its script is carried out
 abbrev pub demo_folder : ℕ → FolderState
 demo_folder number = record { files = Some (demo_files number); read_faults = 0; write_faults = 0; misses = 0 }
 
--- a run of the demonstration of this number: its script was carried out over its folder, of which afterwards this is known, no call
--- of it failed, and where the sink didn't fail either, the run ended as the script's text does, or out of memory
+-- a run of the demonstration of this number: its script was carried out over its folder, of which afterwards this is known, and no
+-- call of it failed; so where the sink didn't fail either, the run ended as its answer does, or out of memory
 pub record Demonstrates (max_work number : ℕ) (sink_failed : Type 0) (ended : Status) (before after : Option (List ℕ)) (paid : ℕ) : Type 0 where
   pub left : FolderState
   pub serves : Serves max_work ⊥ sink_failed demo_script (demo_folder number) left ended before after paid
   pub no_read_failed : left.read_faults ≡ 0
   pub no_write_failed : left.write_faults ≡ 0
-  pub decided : ¬ sink_failed → IsDecided max_work demo_script (demo_folder number) left ended
 
 -- no count of a folder falls
 pub record NeverFalls (old new : FolderState) : Type 0 where
@@ -186,9 +208,10 @@ pub record NeverFalls (old new : FolderState) : Type 0 where
 abbrev pub usage_line : List ℕ
 usage_line = codes "usage: bouquet [--max-work N] [--demo N]\n"
 
--- a run whose arguments were refused: the sink got the whole usage line where the run ended so, and a beginning
--- of it in any case (after a fault that may be the whole line too)
+-- a run whose arguments were refused: the sink got the whole usage line where the run ended so, nothing where memory ran out, and
+-- a beginning of the line in any case (after a fault that may be the whole line too)
 pub record RefusesWords (line : List ℕ) (ended : Status) (old new : Option (List ℕ)) : Type 0 where
   pub kinds : (ended ≡ status.BadWords) ⊎ ((ended ≡ status.WriteFault) ⊎ (ended ≡ status.NoMemory))
   pub whole : ended ≡ status.BadWords → Appends old new line
+  pub nothing : ended ≡ status.NoMemory → Keeps old new
   pub beginning : (n : ℕ) × Appends old new (take n line)

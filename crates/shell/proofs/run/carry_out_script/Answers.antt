@@ -2,18 +2,28 @@
 use Rattle.std.proofs.Common.{inr, map, Some, refl}
 use Rattle.sql_parse.specs.Trees.{statement_tree}
 use Rattle.shell.specs.declared.status.Status.TheVariants as status
-use Rattle.shell.proofs.Runs.{runs_nothing, runs_refusal, runs_statements}
+use Rattle.shell.proofs.Folders.{falls_none}
+use Rattle.shell.proofs.Runs.{runs_nothing, runs_script, serves_refusal, serves_statements}
 use Rattle.shell.proofs.run.carry_out_script.Goals as goal
 
 pub returns-in-Ok-clause-runs : goal.returns-in-Ok-clause-runs
 returns-in-Ok-clause-runs g c =
-    runs_statements c.args.max_work ⊥ _ c.carry_out_all.result (g.K.Sink.got c.args.sink.now) (g.K.Sink.got c.carry_out_all.new.sink) c.carry_out_all.new.book c.args.script.now (map statement_tree c.in-Ok.statements.items)
-    (g.F.Folder.state c.args.folder.now) (g.F.Folder.state c.carry_out_all.new.folder) c.in-Ok.ensures.read (rw c.deref.ensures.value at c.carry_out_all.ensures.carries)
+    let carried = rw c.deref.ensures.value at c.carry_out_all.ensures.carries in
+    let before = g.F.Folder.state c.args.folder.now in
+    let after = g.F.Folder.state c.carry_out_all.new.folder in
+    let had = g.K.Sink.got c.args.sink.now in
+    let got = g.K.Sink.got c.carry_out_all.new.sink in
+    runs_script c.args.max_work ⊥ _ c.carry_out_all.result had got c.carry_out_all.new.book c.args.script.now before after carried.falls
+    (serves_statements c.args.max_work _ c.args.script.now (map statement_tree c.in-Ok.statements.items) before after c.carry_out_all.result had got c.carry_out_all.new.book c.in-Ok.ensures.read carried)
 
 pub returns-in-Err-Refused-clause-runs : goal.returns-in-Err-Refused-clause-runs
 returns-in-Err-Refused-clause-runs g c =
-    runs_refusal c.args.max_work ⊥ _ c.put_refusal.result (g.K.Sink.got c.args.sink.now) (g.K.Sink.got c.put_refusal.new.sink) c.args.book.now c.args.script.now c.in-Err-Refused.refusal (g.F.Folder.state c.args.folder.now) c.requires.unpaid
-    (rw c.in-Err-Refused.field-0-is at c.in-Err-Refused.ensures.refused) c.put_refusal.ensures.whole c.put_refusal.ensures.part c.put_refusal.ensures.nothing c.put_refusal.ensures.kinds c.put_refusal.ensures.sink.rose
+    let folder = g.F.Folder.state c.args.folder.now in
+    let had = g.K.Sink.got c.args.sink.now in
+    let got = g.K.Sink.got c.put_refusal.new.sink in
+    runs_script c.args.max_work ⊥ _ c.put_refusal.result had got c.args.book.now c.args.script.now folder folder (falls_none folder)
+    (serves_refusal c.args.max_work _ c.args.script.now c.in-Err-Refused.refusal folder c.put_refusal.result had got c.args.book.now c.requires.unpaid
+    (rw c.in-Err-Refused.field-0-is at c.in-Err-Refused.ensures.refused) c.put_refusal.ensures.whole c.put_refusal.ensures.part c.put_refusal.ensures.nothing c.put_refusal.ensures.kinds c.put_refusal.ensures.sink.rose)
 
 pub returns-in-Err-NoMemory-clause-runs : goal.returns-in-Err-NoMemory-clause-runs
 returns-in-Err-NoMemory-clause-runs g c =
