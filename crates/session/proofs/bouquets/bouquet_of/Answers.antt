@@ -45,7 +45,7 @@ returns-in_err-stats-clause-due c =
     let stop = err_from_is_err_and c.from_residual-in_err-stats.result c.from_residual-in_err-stats.ensures.1 in
     rw (stop.1, stop.2) (counts_stop (λ found. bouquet_due database query c.args.levels c.args.threshold ≡ Err found) c.in_err-stats.field-0.0
     (λ value is. decided database query c.args.levels c.args.threshold block None (Some (refusal.PastLimit limit.Product value)) c.in_ok-block.ensures.refuses.answered c.in_ok-block.ensures.block few
-      (past_product database block value ((c.in_err-stats.ensures.product_limit value).0 (ap Err is)))))
+    (past_product database block value ((c.in_err-stats.ensures.product_limit value).0 (ap Err is)))))
 
 pub returns-clause-due : goal.returns-clause-due
 returns-clause-due c =
