@@ -1,16 +1,32 @@
--- A statement begins so, whose call returned what is due.
-use Rattle.std.proofs.Common.{◌≡◌, ◌∙◌, ℕ, ◌+◌, List, Option, None, arith}
+-- What the calls of statements say of what they returned, as a statement begins.
+use Rattle.std.proofs.Common.{◌≡◌, ◌≢◌, ◌∙◌, ℕ, ◌+◌, List, Option, sym, ap, subst, arith}
 use Rattle.std.specs.Prelude.{Result, Ok, Err, Vec}
 use Rattle.std.specs.declared.alloc.Global.{Global}
 use Rattle.sql_parse.specs.Trees.{StatementTree}
 use Rattle.session.specs.Begins.{BeginsAsDue, begun_with}
+use Rattle.session.specs.Bounds.{Answers}
 use Rattle.session.specs.Outcome.{Outcome, refused_work}
 use Rattle.session.specs.Returns.{ReturnsDue, ReturnsFree}
 use Rattle.session.specs.Statements.{statement_outcome}
-use Rattle.session.specs.Stop.{StopsAt}
+use Rattle.session.specs.Stop.{StopsAt, StopsWhere, TellsFault}
 use Rattle.session.specs.World.{World}
+use Rattle.session.specs.declared.refusal.Refusal.{Refusal}
 use Rattle.session.specs.declared.stop.Stop.{Stop}
 use Rattle.session.specs.declared.stop.Stop.TheVariants as stop
+
+-- a fault that a call ended with is told
+pub told_free : {F : Type 0} (holds : Refusal → Type 0) (none : F) (told : F → Refusal) (fault : F) (why : Stop) → TellsFault none told fault why → (fault ≢ none → holds (told fault))
+    → refused_work (told fault) ≡ 0 → StopsWhere holds why
+told_free holds none told fault stop.NoMemory tells is free = tt
+told_free holds none told fault (stop.Refused why) tells is free =
+    let other : fault ≢ none = λ memory. cc (tells.memory memory) in
+    let same : why ≡ told fault = cc (tells.refused other) in
+    (subst holds (sym same) (is other), ap refused_work same ∙ free)
+
+-- a refusal leads to another
+pub stops_so : (P Q : Refusal → Type 0) → ((found : Refusal) → P found → Q found) → (why : Stop) → StopsWhere P why → StopsWhere Q why
+stops_so P Q leads (stop.Refused why) stops = (leads why stops.0, stops.1)
+stops_so P Q leads stop.NoMemory stops = tt
 
 -- what costs nothing is paid
 pub returns_free : (next : World) (due : Outcome) (result : Result (Vec ℕ Global) Stop) (paid : ℕ) → ReturnsFree due result next → ReturnsDue due result next paid paid
@@ -21,28 +37,24 @@ returns_free next due (Err (stop.Refused why)) paid returns =
     (returns.0, nothing)
 returns_free next due (Err stop.NoMemory) paid returns = tt
 
-module _ (max_work : ℕ) (world next : World) (statement : StatementTree) where
+module _ (max_work : ℕ) (world : World) (statement : StatementTree) where
   abbrev outcome : Option (List ℕ) → Outcome
   outcome file = statement_outcome max_work world statement file
 
-  -- it stops whatever the file is
-  pub stops_free : (why : Stop) (paid : ℕ) → ((file : Option (List ℕ)) → StopsAt (outcome file) why) → BeginsAsDue max_work world statement (Err why) next paid paid
-  stops_free (stop.Refused why) paid stops =
-      let none : refused_work why ≡ 0 = (stops None).1 in
-      let nothing : paid ≡ paid + refused_work why = omega (arith, none) in
-      (λ file. (stops file).0, nothing)
-  stops_free stop.NoMemory paid stops = tt
+  -- a query stops before anything is paid
+  pub answers_unpaid : (why : Stop) (paid : ℕ) → ((file : Option (List ℕ)) → StopsAt (outcome file) why) → Answers max_work world statement (Err why) paid paid
+  answers_unpaid why paid stops = record {
+    due = λ file. returns_free world (outcome file) (Err why) paid (stops file);
+    bounded = tt;
+    pays = record { never_falls = omega arith; within = omega arith };
+  }
 
-  -- it prints a text, or is refused, whatever the file is
-  module _ (due : Outcome) (is : (file : Option (List ℕ)) → outcome file ≡ due) (result : Result (Vec ℕ Global) Stop) where
-    pub prints_due : (old new : ℕ) → ReturnsDue due result next old new → BeginsAsDue max_work world statement (begun_with result) next old new
-    prints_due old new returns = by result returns
-      where
-        by : (r : Result (Vec ℕ Global) Stop) → ReturnsDue due r next old new → BeginsAsDue max_work world statement (begun_with r) next old new
-        by (Ok text) returns = (returns.0, λ file. is file ∙ returns.1, returns.2)
-        by (Err (stop.Refused why)) returns = (λ file. is file ∙ returns.0, returns.1)
-        by (Err stop.NoMemory) returns = tt
+  -- a statement prints a text or stops, for work or for none
+  pub begins_due : (next : World) (result : Result (Vec ℕ Global) Stop) (old new : ℕ) → ((file : Option (List ℕ)) → ReturnsDue (outcome file) result next old new)
+      → BeginsAsDue max_work world statement (begun_with result) next old new
+  begins_due next (Ok text) old new returns = returns
+  begins_due next (Err why) old new returns = returns
 
-    -- which costs nothing
-    pub prints_free : (paid : ℕ) → ReturnsFree due result next → BeginsAsDue max_work world statement (begun_with result) next paid paid
-    prints_free paid returns = prints_due paid paid (returns_free next due result paid returns)
+  pub begins_free : (next : World) (result : Result (Vec ℕ Global) Stop) (paid : ℕ) → ((file : Option (List ℕ)) → ReturnsFree (outcome file) result next)
+      → BeginsAsDue max_work world statement (begun_with result) next paid paid
+  begins_free next result paid returns = begins_due next result paid paid (λ file. returns_free next (outcome file) result paid (returns file))

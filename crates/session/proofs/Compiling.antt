@@ -1,27 +1,38 @@
 -- What is due to COMPILE, where neither its name nor its numbers are refused, and the state that it leaves.
 use Rattle.std.proofs.Common.{◌≡◌, ◌∙◌, ℕ, List, [], ◌∷◌, ◌++◌, map, Option, None, sym, ap}
-use Rattle.std.specs.Prelude.{unwrap_or}
+use Rattle.std.specs.Prelude.{Result, Err, codes, unwrap_or}
 use Rattle.std.specs.Option.{option_or}
 use Rattle.std.proofs.lemmas.List.{map-append}
 use Rattle.sql_values.specs.Limits.{default_threshold}
+use Rattle.sql_parse.specs.Canonical.{canonical_query}
 use Rattle.sql_parse.specs.Trees.{QueryTree}
+use Rattle.bouquet_type.specs.Trees.{BouquetTree}
 use Rattle.db_catalog.specs.Database.{DatabaseState}
-use Rattle.session.specs.Bouquets.{with_due}
-use Rattle.session.specs.Compile.{bouquet_kept, compile_outcome, levels_refusal, taken_refusal, threshold_refusal, unless_refused}
+use Rattle.session.specs.Bouquets.{GivesBouquet, bouquet_due, kept_as, with_due}
+use Rattle.session.specs.Compile.{compile_outcome, levels_refusal, taken_refusal, threshold_refusal, unless_refused}
 use Rattle.session.specs.States.{NamedShape, named_of, world_of}
+use Rattle.session.specs.Outcome.{Outcome, Refuses}
+use Rattle.session.specs.Stop.{StopsAt}
+use Rattle.session.specs.declared.refusal.Refusal.{Refusal}
+use Rattle.session.specs.declared.stop.Stop.{Stop}
+use Rattle.session.proofs.Beginning.{stops_so}
 use Rattle.session.specs.World.{World, named_in, with_bouquet}
-use Rattle.session.proofs.Queries.{query_due}
+
+-- what comes of its query's bouquet
+abbrev pub kept : World → (name : List ℕ) → QueryTree → BouquetTree → Outcome
+kept world name query = kept_as (codes "-- compile points=") world name (canonical_query query)
 
 -- what its query's bouquet is decides
 pub unrefused : (world : World) (name : List ℕ) (levels threshold : Option ℕ) (percent : ℕ) (query : QueryTree) → named_in name world.bouquets ≡ None → levels_refusal levels ≡ None → threshold_refusal threshold ≡ None
     → percent ≡ unwrap_or threshold default_threshold
-    → compile_outcome world name levels threshold query ≡ with_due (query_due world.database query levels percent) (bouquet_kept world name query)
+    → compile_outcome world name levels threshold query ≡ with_due (bouquet_due world.database query levels percent) (kept world name query)
 unrefused world name levels threshold percent query free low small is =
-    let due = λ (n : ℕ). with_due (query_due world.database query levels n) (bouquet_kept world name query) in
-    ap (λ found. unless_refused (option_or (taken_refusal name found) (option_or (levels_refusal levels) (threshold_refusal threshold))) (due (unwrap_or threshold default_threshold))) free
-    ∙ ap (λ found. unless_refused (option_or found (threshold_refusal threshold)) (due (unwrap_or threshold default_threshold))) low
-    ∙ ap (λ found. unless_refused found (due (unwrap_or threshold default_threshold))) small
-    ∙ ap due (sym is)
+    let due = λ (n : ℕ). with_due (bouquet_due world.database query levels n) (kept world name query) in
+    λ i. unless_refused (option_or (taken_refusal name (free i)) (option_or (low i) (small i))) (due (sym is i))
+
+-- without a bouquet a statement stops
+pub stops : (due : Result BouquetTree Refusal) (go : BouquetTree → Outcome) (why : Stop) → GivesBouquet due (Err why) → StopsAt (with_due due go) why
+stops due go why gives = stops_so (λ found. due ≡ Err found) (λ found. with_due due go ≡ Refuses found) (λ found is. ap (λ d. with_due d go) is) why gives
 
 -- the state with a bouquet more
 pub world_kept : (database : DatabaseState) (old new : List NamedShape) (kept : NamedShape) → new ≡ old ++ kept ∷ []

@@ -5,6 +5,7 @@ use Rattle.plan_tree.specs.Plans.{PlanTree, plan_tree}
 use Rattle.std.proofs.lemmas.List.{take_more, map-append, length-map, length-take-le}
 use Rattle.plan_tree.specs.declared.plan.Plan.{Plan}
 use Rattle.plan_tree.specs.Text.{plan_text_of}
+use Rattle.bouquet_type.specs.Budgets.{budget_of}
 use Rattle.bouquet_type.specs.Trees.{ContourTree, contour_tree}
 use Rattle.bouquet_type.specs.declared.contour.Contour.{Contour}
 use Rattle.session.specs.Printed.{plan_texts, contour_line, contour_lines}
@@ -22,15 +23,17 @@ plan_texts-more (q ∷ other ∷ more) p =
     ∙ sym (append_assoc (plan_text_of q) (codes " " ++ plan_texts (other ∷ more)) (codes " " ++ plan_text_of p))
 
 pub contour_lines-more : (threshold number : ℕ) (contours : List ContourTree) (contour : ContourTree)
-    → contour_lines threshold number (contours ++ contour ∷ []) ≡ contour_lines threshold number contours ++ contour_line threshold (number + length contours) contour
+    → contour_lines threshold number (contours ++ contour ∷ []) ≡ contour_lines threshold number contours ++ contour_line (number + length contours) (budget_of threshold contour.cost) contour
 contour_lines-more threshold number [] contour =
+    let line = λ (n : ℕ) (one : ContourTree). contour_line n (budget_of threshold one.cost) one in
     let same : number ≡ number + 0 = omega arith in
-    append-nil (contour_line threshold number contour) ∙ ap (λ n. contour_line threshold n contour) same
+    append-nil (line number contour) ∙ ap (λ n. line n contour) same
 contour_lines-more threshold number (first ∷ more) contour =
+    let line = λ (n : ℕ) (one : ContourTree). contour_line n (budget_of threshold one.cost) one in
     let same : number + 1 + length more ≡ number + suc (length more) = omega arith in
-    ap (λ l. contour_line threshold number first ++ l) (contour_lines-more threshold (number + 1) more contour)
-    ∙ sym (append_assoc (contour_line threshold number first) (contour_lines threshold (number + 1) more) _)
-    ∙ ap (λ n. contour_line threshold number first ++ contour_lines threshold (number + 1) more ++ contour_line threshold n contour) same
+    ap (λ l. line number first ++ l) (contour_lines-more threshold (number + 1) more contour)
+    ∙ sym (append_assoc (line number first) (contour_lines threshold (number + 1) more) _)
+    ∙ ap (λ n. line number first ++ contour_lines threshold (number + 1) more ++ line n contour) same
 
 -- the first plans have none before them, or some
 pub unspaced : (place : ℕ) (plans : List Plan) → place ≡ 0 → space_behind (map plan_tree (take place plans)) ≡ []
@@ -60,7 +63,7 @@ plans_more place plans p start before text after there is begun spaced put =
 
 -- the line of one contour more
 pub contours_more : (threshold place : ℕ) (contours : List Contour) (contour : Contour) (before after : List ℕ) → place < length contours → contour ≡ get_or contours place contour
-    → before ≡ contour_lines threshold 1 (map contour_tree (take place contours)) → after ≡ before ++ contour_line threshold (place + 1) (contour_tree contour)
+    → before ≡ contour_lines threshold 1 (map contour_tree (take place contours)) → after ≡ before ++ contour_line (place + 1) (budget_of threshold contour.cost) (contour_tree contour)
     → after ≡ contour_lines threshold 1 (map contour_tree (take (place + 1) contours))
 contours_more threshold place contours contour before after there is begun put =
     let first = map contour_tree (take place contours) in
@@ -68,8 +71,8 @@ contours_more threshold place contours contour before after there is begun put =
     ap (map contour_tree) (take_more contours place contour there) ∙ map-append contour_tree (take place contours) (get_or contours place contour ∷ [])
     ∙ ap (λ one. first ++ contour_tree one ∷ []) (sym is) in
     let number : place + 1 ≡ 1 + length first = omega (arith, length-map (take place contours) contour_tree, length-take-le place contours (omega (arith, there))) in
-    put ∙ ap (λ l. l ++ contour_line threshold (place + 1) (contour_tree contour)) begun
-    ∙ ap (λ n. contour_lines threshold 1 first ++ contour_line threshold n (contour_tree contour)) number
+    let line = λ (n : ℕ). contour_line n (budget_of threshold contour.cost) (contour_tree contour) in
+    put ∙ ap (λ l. l ++ line (place + 1)) begun ∙ ap (λ n. contour_lines threshold 1 first ++ line n) number
     ∙ sym (contour_lines-more threshold 1 first (contour_tree contour)) ∙ ap (contour_lines threshold 1) (sym more)
 
 pub cost_there : (contours : List Contour) (place : ℕ) (contour : Contour) → place < length contours → contour ≡ get_or contours place contour

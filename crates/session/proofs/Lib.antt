@@ -11,6 +11,5 @@ pub mod NamedLists
 pub mod Opening
 pub mod PointLevels
 pub mod PointTexts
-pub mod Queries
 pub mod RowsPrinted
 pub mod Sizes

@@ -1,5 +1,5 @@
 -- What comes of AUDIT.
-use Rattle.std.specs.Prelude.{ℕ, ◌+◌, List, [], ◌∷◌, Option, Some, None, option_map, length, nat_eq, nat_lt, false, if◌then◌else◌}
+use Rattle.std.specs.Prelude.{ℕ, ◌+◌, List, [], ◌∷◌, Option, Some, None, length, nat_eq, nat_lt, false, if◌then◌else◌}
 use Rattle.sql_values.specs.Limits.{max_plans}
 use Rattle.sql_values.specs.declared.limit.LimitName.TheVariants as limit
 use Rattle.sql_parse.specs.declared.tree.AuditDef.{AuditDef}
@@ -15,14 +15,14 @@ use Rattle.session.specs.Present.{at_present}
 use Rattle.session.specs.World.{World}
 
 -- the first of these levels that an axis of so many hasn't
-abbrev pub first_missing : (count : ℕ) → (levels : List ℕ) → Option ℕ
-first_missing count [] = None
-first_missing count (level ∷ more) = if nat_lt level count then first_missing count more else Some level
+abbrev pub level_refusal : (count : ℕ) → (levels : List ℕ) → Option Refusal
+level_refusal count [] = None
+level_refusal count (level ∷ more) = if nat_lt level count then level_refusal count more else Some (refusal.PastLimit limit.Level level)
 
 -- levels that are no point of a grid: they aren't one for each axis, or one of them is too high
 abbrev pub point_refusal : GridShape → (levels : List ℕ) → Option Refusal
 point_refusal grid levels =
-    if nat_eq (length levels) grid.axes then option_map (λ level. refusal.PastLimit limit.Level level) (first_missing grid.levels levels)
+    if nat_eq (length levels) grid.axes then level_refusal grid.levels levels
     else Some (refusal.PastLimit limit.Coordinates (length levels))
 
 -- what is told of a bouquet at a point, unless its levels are refused; a block has to have few enough plans, and their work

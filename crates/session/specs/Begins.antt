@@ -1,5 +1,5 @@
 -- How a statement begins, held against what is due to it, and what is to be done with the bytes of a file that it asks for.
-use Rattle.std.specs.Prelude.{◌≡◌, ℕ, ◌<◌, List, length, None, ◌+◌, ⊤, Option, Some, Result, Ok, Err, Vec}
+use Rattle.std.specs.Prelude.{◌≡◌, ℕ, ◌<◌, List, length, None, Option, Some, Result, Ok, Err, Vec}
 use Rattle.std.specs.Str.{IsUtf8}
 use Rattle.query_block.specs.Blocks.{block_tree}
 use Rattle.db_catalog.specs.Fits.{Fits}
@@ -10,7 +10,8 @@ use Rattle.session.specs.declared.begun.Pending.{Pending}
 use Rattle.session.specs.declared.begun.Pending.TheVariants as pending
 use Rattle.session.specs.Load.{load_bytes}
 use Rattle.session.specs.Open.{open_with}
-use Rattle.session.specs.Outcome.{Outcome, Prints, Saves, Refuses, refused_work}
+use Rattle.session.specs.Outcome.{Outcome, Saves}
+use Rattle.session.specs.Returns.{ReturnsDue, ReturnsFree}
 use Rattle.session.specs.World.{World, named_in}
 use Rattle.std.specs.declared.alloc.Global.{Global}
 use Rattle.sql_parse.specs.Trees.{StatementTree}
@@ -18,8 +19,8 @@ use Rattle.session.specs.declared.begun.Asked.{Asked}
 use Rattle.session.specs.declared.begun.Begun.{Begun}
 use Rattle.session.specs.declared.begun.Begun.TheVariants as begun
 use Rattle.session.specs.declared.stop.Stop.{Stop}
-use Rattle.session.specs.declared.stop.Stop.TheVariants as stop
-use Rattle.session.specs.Given.{at_file}
+use Rattle.session.specs.declared.begun.GivenFile.{GivenFile}
+use Rattle.session.specs.Given.{IsFileGiven, at_file}
 use Rattle.session.specs.Statements.{AsksForFile, WritesFile, asked_name, statement_outcome}
 
 -- what comes of the statement with these bytes
@@ -59,13 +60,20 @@ abbrev pub begun_with : Result (Vec ℕ Global) Stop → Result Begun Stop
 begun_with (Ok text) = Ok (begun.Prints text)
 begun_with (Err why) = Err why
 
--- what is printed is due whatever the file, for work that was paid, and so is a refusal, for which the work that it prints was
--- paid; or a file is to be written or asked for, and nothing was paid
+-- a text and a stop are due whatever the file; or a file is to be written or asked for, nothing was paid, and the state stays
 abbrev pub BeginsAsDue : (max_work : ℕ) → World → StatementTree → Result Begun Stop → (next : World) → (old new : ℕ) → Type 0
 BeginsAsDue max_work world statement (Ok (begun.Prints text)) next old new =
-    (work : ℕ) × ((file : Option (List ℕ)) → statement_outcome max_work world statement file ≡ Prints text.items work next) × (new ≡ old + work)
+    (file : Option (List ℕ)) → ReturnsDue (statement_outcome max_work world statement file) (Ok text) next old new
 BeginsAsDue max_work world statement (Ok (begun.Saves name bytes)) next old new = SavesAsDue max_work world statement name bytes × (next ≡ world) × (new ≡ old)
 BeginsAsDue max_work world statement (Ok (begun.Asks asked)) next old new = AsksAsDue max_work world statement asked × (next ≡ world) × (new ≡ old)
-BeginsAsDue max_work world statement (Err (stop.Refused why)) next old new =
-    ((file : Option (List ℕ)) → statement_outcome max_work world statement file ≡ Refuses why) × (new ≡ old + refused_work why)
-BeginsAsDue max_work world statement (Err stop.NoMemory) next old new = ⊤
+BeginsAsDue max_work world statement (Err why) next old new =
+    (file : Option (List ℕ)) → ReturnsDue (statement_outcome max_work world statement file) (Err why) next old new
+
+-- so a statement begins that costs nothing and leaves the state
+abbrev pub BeginsFree : World → StatementTree → Result Begun Stop → Type 0
+BeginsFree world statement result = (max_work paid : ℕ) → BeginsAsDue max_work world statement result world paid paid
+
+-- what a statement returns that asked for a file is due with each file for which the given value stands
+abbrev pub FinishesAsDue : World → Asked → GivenFile → Result (Vec ℕ Global) Stop → (next : World) → Type 0
+FinishesAsDue world asked given result next =
+    (file : Option (List ℕ)) → IsFileGiven file given → ReturnsFree (at_file asked.name (pending_outcome world asked.pending) file) result next

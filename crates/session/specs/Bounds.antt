@@ -1,7 +1,9 @@
--- The bound on the work that a query prints.
-use Rattle.std.specs.Prelude.{⊤, None, IfOk, IfSome}
+-- The answer of a query, and the bound on the work that it prints.
+use Rattle.std.specs.Prelude.{⊤, ℕ, List, None, Option, Result, Vec, IfOk, IfSome, OnOk}
+use Rattle.std.specs.declared.alloc.Global.{Global}
 use Rattle.sql_values.specs.Limits.{default_threshold}
 use Rattle.sql_parse.specs.Trees.{StatementTree, Select, Run}
+use Rattle.db_catalog.specs.Database.{DatabaseState}
 use Rattle.bouquet_type.specs.Trees.{BouquetTree}
 use Rattle.bouquet_type.specs.Compiled.{IsCompiled}
 use Rattle.bouquet_type.specs.Sound.{IsSound}
@@ -10,18 +12,27 @@ use Rattle.bouquet_type.specs.Bounded.{MeetsBound}
 use Rattle.bouquet_run.specs.Outcomes.{works_over}
 use Rattle.session.specs.Bouquets.{bouquet_due}
 use Rattle.session.specs.Counted.{HasCountsOf}
-use Rattle.session.specs.World.{World, named_in}
+use Rattle.session.specs.Returns.{PaysAtMost, ReturnsDue}
+use Rattle.session.specs.Statements.{statement_outcome}
+use Rattle.session.specs.World.{World, bouquet_in}
+use Rattle.session.specs.declared.stop.Stop.{Stop}
 
--- its counts are those of the world's tables, and the work of its run over them meets the bound, which holds of sound bouquets
-pub record RunsWithinBound (world : World) (bouquet : BouquetTree) : Type 0 where
-  pub counts : HasCountsOf world.database.tables bouquet
-  pub bound : let work = works_over world.database bouquet in MeetsBound bouquet work (total_work bouquet work)
+-- its counts are those of the tables, and the work of its run over them meets the bound, which holds of sound bouquets; it is
+-- sound where it is compiled, though it were opened from a file
+pub record RunsWithinBound (database : DatabaseState) (bouquet : BouquetTree) : Type 0 where
+  pub counts : HasCountsOf database.tables bouquet
+  pub bound : let work = works_over database bouquet in MeetsBound bouquet work (total_work bouquet work)
+  pub sound : IsCompiled bouquet → IsSound bouquet
 
--- so it is for the bouquet by which a query is answered: that of a SELECT is sound, and one kept under a name is where it is
--- compiled, though it were opened from a file
+-- so it is for the bouquet by which a query is answered; that of a SELECT is sound
 abbrev pub IsAnsweredWithin : World → StatementTree → Type 0
 IsAnsweredWithin world (Select query) =
-    IfOk (bouquet_due world.database query None default_threshold) (λ bouquet. IsSound bouquet × RunsWithinBound world bouquet)
-IsAnsweredWithin world (Run name) =
-    IfSome (named_in name world.bouquets) (λ named. (IsCompiled named.bouquet → IsSound named.bouquet) × RunsWithinBound world named.bouquet)
+    IfOk (bouquet_due world.database query None default_threshold) (λ bouquet. IsSound bouquet × RunsWithinBound world.database bouquet)
+IsAnsweredWithin world (Run name) = IfSome (bouquet_in name world.bouquets) (RunsWithinBound world.database)
 IsAnsweredWithin world other = ⊤
+
+-- what a query's statement returned is due to it, an answer is within its bound, and no more was paid than may be
+pub record Answers (max_work : ℕ) (world : World) (statement : StatementTree) (result : Result (Vec ℕ Global) Stop) (old new : ℕ) : Type 0 where
+  pub due : (file : Option (List ℕ)) → ReturnsDue (statement_outcome max_work world statement file) result world old new
+  pub bounded : OnOk result (IsAnsweredWithin world statement)
+  pub pays : PaysAtMost max_work old new

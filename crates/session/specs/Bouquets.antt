@@ -1,10 +1,12 @@
 -- The bouquet of a query, and what a bouquet answers.
-use Rattle.std.specs.Prelude.{◌≡◌, ⊤, ℕ, ◌^◌, nat_le, nat_lt, true, Option, Some, None, option_map, Result, Ok, Err, if◌then◌else◌}
+use Rattle.std.specs.Prelude.{◌≡◌, ℕ, ◌^◌, ◌≤◌, nat_le, nat_lt, true, List, Option, Some, None, IfSome, option_map, Result, Ok, Err, if◌then◌else◌}
 use Rattle.std.specs.Option.{option_or}
-use Rattle.sql_values.specs.Limits.{max_points}
+use Rattle.sql_values.specs.Limits.{min_levels, max_levels, max_points, max_script_bytes}
 use Rattle.sql_values.specs.declared.limit.LimitName.TheVariants as limit
 use Rattle.query_block.specs.Blocks.{BlockTree, axes_of}
 use Rattle.sql_parse.specs.Trees.{QueryTree}
+use Rattle.sql_parse.specs.WellFormed.{IsWellFormedQuery}
+use Rattle.sql_parse.specs.Counts.{of_condition, predicates_in}
 use Rattle.db_catalog.specs.Database.{DatabaseState}
 use Rattle.sql_bind.specs.declared.fault.BindFault.{BindFault}
 use Rattle.sql_bind.specs.Binding.{bind_fault, block_of}
@@ -17,13 +19,22 @@ use Rattle.bouquet_type.specs.Trees.{BouquetTree, bouquet_tree}
 use Rattle.bouquet_type.specs.Compiled.{compiled}
 use Rattle.bouquet_type.specs.Runs.{run_end}
 use Rattle.bouquet_run.specs.Outcomes.{works_over}
-use Rattle.session.specs.Printed.{answer_text}
+use Rattle.session.specs.Printed.{answer_text, size_line}
 use Rattle.session.specs.declared.refusal.Refusal.{Refusal}
 use Rattle.session.specs.declared.refusal.Refusal.TheVariants as refusal
 use Rattle.session.specs.declared.stop.Stop.{Stop}
-use Rattle.session.specs.declared.stop.Stop.TheVariants as stop
-use Rattle.session.specs.Outcome.{Outcome, Prints, Refuses, refused_work}
-use Rattle.session.specs.World.{World}
+use Rattle.session.specs.Outcome.{Outcome, Prints, Refuses}
+use Rattle.session.specs.Stop.{StopsWhere}
+use Rattle.session.specs.World.{World, with_bouquet}
+
+-- a query as a script may have it: of the grammar's form, with no more predicates than a script may have bytes
+pub record IsScriptQuery (query : QueryTree) : Type 0 where
+  pub well_formed : IsWellFormedQuery query
+  pub predicates : of_condition predicates_in query.condition ≤ max_script_bytes
+
+-- levels that an axis may have, where they are given
+abbrev pub AreLevels : (levels : Option ℕ) → Type 0
+AreLevels levels = IfSome levels (λ given. (min_levels ≤ given) × (given ≤ max_levels))
 
 -- what the costs of a block's plans depend on: the counts of its tables, and a grid of its axes, each with so many levels,
 -- or as many as none given say
@@ -53,8 +64,7 @@ compiled_over database levels threshold block None = Ok (compiled (costing_over 
 -- the bouquet that is due is returned, or why there is none, which costs nothing
 abbrev pub GivesBouquet : Result BouquetTree Refusal → Result BouquetShape Stop → Type 0
 GivesBouquet due (Ok bouquet) = due ≡ Ok (bouquet_tree bouquet)
-GivesBouquet due (Err (stop.Refused why)) = (due ≡ Err why) × (refused_work why ≡ 0)
-GivesBouquet due (Err stop.NoMemory) = ⊤
+GivesBouquet due (Err why) = StopsWhere (λ found. due ≡ Err found) why
 
 -- of a query: it is refused by binding, by the points of its grid, or by the product of its tables' rows; else this is its bouquet
 abbrev pub bouquet_unless : DatabaseState → QueryTree → (levels : Option ℕ) → (threshold : ℕ) → Option BindFault → Result BouquetTree Refusal
@@ -70,6 +80,11 @@ bouquet_due database query levels threshold = bouquet_unless database query leve
 abbrev pub with_due : Result BouquetTree Refusal → (BouquetTree → Outcome) → Outcome
 with_due (Ok bouquet) go = go bouquet
 with_due (Err why) go = Refuses why
+
+-- a bouquet is kept under a name, with the text of its query, and its size is printed behind a label
+abbrev pub kept_as : (label : List ℕ) → World → (name text : List ℕ) → BouquetTree → Outcome
+kept_as label world name text bouquet =
+    Prints (size_line label bouquet) 0 (with_bouquet world (record { name = name; query = text; bouquet = bouquet }))
 
 -- the answer of a bouquet: the rows of its block and how its run ends, for the work of the whole run; where that is more than
 -- may be spent it is refused, when so much is spent

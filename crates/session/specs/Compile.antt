@@ -1,17 +1,15 @@
 -- What comes of COMPILE.
-use Rattle.std.specs.Prelude.{ℕ, ◌||◌, nat_lt, List, Option, Some, None, unwrap_or, if◌then◌else◌}
+use Rattle.std.specs.Prelude.{ℕ, ◌||◌, nat_lt, List, Option, Some, None, codes, unwrap_or, if◌then◌else◌}
 use Rattle.std.specs.Option.{option_or}
 use Rattle.sql_values.specs.Limits.{min_levels, max_levels, max_threshold, default_threshold}
 use Rattle.sql_values.specs.declared.limit.LimitName.TheVariants as limit
 use Rattle.sql_parse.specs.Trees.{QueryTree}
 use Rattle.sql_parse.specs.Canonical.{canonical_query}
-use Rattle.bouquet_type.specs.Trees.{BouquetTree}
-use Rattle.session.specs.Bouquets.{bouquet_due, with_due}
-use Rattle.session.specs.Printed.{compile_line}
+use Rattle.session.specs.Bouquets.{bouquet_due, kept_as, with_due}
 use Rattle.session.specs.declared.refusal.Refusal.{Refusal}
 use Rattle.session.specs.declared.refusal.Refusal.TheVariants as refusal
-use Rattle.session.specs.Outcome.{Outcome, Prints, Refuses}
-use Rattle.session.specs.World.{World, NamedBouquet, named_in, with_bouquet}
+use Rattle.session.specs.Outcome.{Outcome, Refuses}
+use Rattle.session.specs.World.{World, NamedBouquet, named_in}
 
 -- a bouquet has the name
 abbrev pub taken_refusal : (name : List ℕ) → Option NamedBouquet → Option Refusal
@@ -34,16 +32,12 @@ abbrev pub compile_refusal : World → (name : List ℕ) → (levels threshold :
 compile_refusal world name levels threshold =
     option_or (taken_refusal name (named_in name world.bouquets)) (option_or (levels_refusal levels) (threshold_refusal threshold))
 
--- the bouquet is kept under its name, with the canonical text of its query
-abbrev pub bouquet_kept : World → (name : List ℕ) → QueryTree → BouquetTree → Outcome
-bouquet_kept world name query bouquet =
-    Prints (compile_line bouquet) 0 (with_bouquet world (record { name = name; query = canonical_query query; bouquet = bouquet }))
-
 abbrev pub unless_refused : Option Refusal → Outcome → Outcome
 unless_refused (Some why) due = Refuses why
 unless_refused None due = due
 
+-- the bouquet that is due is kept, with the canonical text of its query
 abbrev pub compile_outcome : World → (name : List ℕ) → (levels threshold : Option ℕ) → QueryTree → Outcome
 compile_outcome world name levels threshold query =
     unless_refused (compile_refusal world name levels threshold)
-    (with_due (bouquet_due world.database query levels (unwrap_or threshold default_threshold)) (bouquet_kept world name query))
+    (with_due (bouquet_due world.database query levels (unwrap_or threshold default_threshold)) (kept_as (codes "-- compile points=") world name (canonical_query query)))

@@ -1,6 +1,6 @@
 -- What comes of EXPLAIN.
 use Rattle.std.specs.Prelude.{ℕ, List}
-use Rattle.session.specs.Printed.{contour_lines}
+use Rattle.session.specs.Printed.{explain_text}
 use Rattle.session.specs.Present.{at_bouquet}
 use Rattle.session.specs.Outcome.{Outcome, Prints}
 use Rattle.session.specs.World.{World, named_in}
@@ -8,4 +8,4 @@ use Rattle.session.specs.World.{World, named_in}
 -- a line for each contour of the bouquet of this name, stale or not
 abbrev pub explain_outcome : World → (name : List ℕ) → Outcome
 explain_outcome world name =
-    at_bouquet name (λ named. Prints (contour_lines named.bouquet.threshold 1 named.bouquet.contours) 0 world) (named_in name world.bouquets)
+    at_bouquet name (λ named. Prints (explain_text named.bouquet) 0 world) (named_in name world.bouquets)

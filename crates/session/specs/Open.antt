@@ -1,5 +1,5 @@
 -- What comes of OPEN.
-use Rattle.std.specs.Prelude.{ℕ, List, Option, Some, None, Result, Ok, Err}
+use Rattle.std.specs.Prelude.{ℕ, List, Option, Some, None, Result, Ok, Err, codes}
 use Rattle.std.specs.Option.{option_or}
 use Rattle.query_block.specs.Blocks.{BlockTree}
 use Rattle.sql_parse.specs.Trees.{QueryTree}
@@ -12,14 +12,13 @@ use Rattle.cost_model.specs.declared.stats.Stats.{Stats}
 use Rattle.bouquet_type.specs.Trees.{BouquetTree}
 use Rattle.bouquet_file.specs.declared.fault.OpenFault.{OpenFault}
 use Rattle.bouquet_file.specs.Opened.{file_of, json_value}
-use Rattle.session.specs.Bouquets.{product_refusal}
+use Rattle.session.specs.Bouquets.{kept_as, product_refusal}
 use Rattle.session.specs.Compile.{taken_refusal, unless_refused}
 use Rattle.session.specs.Given.{at_file}
-use Rattle.session.specs.Printed.{open_line}
 use Rattle.session.specs.declared.refusal.Refusal.{Refusal}
 use Rattle.session.specs.declared.refusal.Refusal.TheVariants as refusal
-use Rattle.session.specs.Outcome.{Outcome, Prints, Refuses}
-use Rattle.session.specs.World.{World, named_in, with_bouquet}
+use Rattle.session.specs.Outcome.{Outcome, Refuses}
+use Rattle.session.specs.World.{World, named_in}
 
 -- a query that can't be bound, or whose tables have too many combinations of rows
 abbrev pub query_refusal : DatabaseState → QueryTree → Option BindFault → Option Refusal
@@ -33,8 +32,7 @@ open_refusal world name query =
 
 -- the bouquet that a file says, kept under the name with the text of the query; or the file is refused
 abbrev pub opened_kept : World → (name text : List ℕ) → Result BouquetTree OpenFault → Outcome
-opened_kept world name text (Ok bouquet) =
-    Prints (open_line bouquet) 0 (with_bouquet world (record { name = name; query = text; bouquet = bouquet }))
+opened_kept world name text (Ok bouquet) = kept_as (codes "-- open points=") world name text bouquet
 opened_kept world name text (Err fault) = Refuses (refusal.NotOpened fault)
 
 -- of these bytes, for the query of this text, this block and these counts

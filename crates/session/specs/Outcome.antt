@@ -1,5 +1,5 @@
 -- What comes of a statement.
-use Rattle.std.specs.Prelude.{◌≡◌, ℕ, true, List, Option, None, Some}
+use Rattle.std.specs.Prelude.{◌≡◌, ℕ, true, List, Option, None, Some, Result, OnOk, IfErr}
 use Rattle.db_catalog.specs.Database.{table_number}
 use Rattle.session.specs.World.{World}
 use Rattle.session.specs.declared.refusal.Refusal.{Refusal}
@@ -20,6 +20,11 @@ refused_work why = 0
 -- a refusal that was found, and costs nothing
 abbrev pub RefusesFree : Option Refusal → Refusal → Type 0
 RefusesFree found why = (found ≡ Some why) × (refused_work why ≡ 0)
+
+-- a call is refused so, and only then
+pub record RefusesFound {T : Type 0} (found : Option Refusal) (result : Result T Refusal) : Type 0 where
+  pub answered : OnOk result (found ≡ None)
+  pub refused : IfErr result (RefusesFree found)
 
 -- what comes of the statement at the table of this number, where the name has one; else it is refused
 abbrev pub at_number : List ℕ → (ℕ → Outcome) → Option ℕ → Outcome

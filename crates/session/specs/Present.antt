@@ -1,5 +1,5 @@
 -- What comes of a statement at the bouquet of a name.
-use Rattle.std.specs.Prelude.{◌≡◌, ℕ, List, Option, Some, None, option_map}
+use Rattle.std.specs.Prelude.{◌≡◌, ℕ, List, Option, Some, None}
 use Rattle.cost_model.specs.declared.stale.Stale.{Stale}
 use Rattle.table_stats.specs.Fresh.{first_stale}
 use Rattle.db_catalog.specs.Database.{DatabaseState}
@@ -7,7 +7,9 @@ use Rattle.bouquet_type.specs.Trees.{BouquetTree}
 use Rattle.session.specs.Counted.{HasCountsOf}
 use Rattle.session.specs.declared.refusal.Refusal.TheVariants as refusal
 use Rattle.session.specs.Outcome.{Outcome, Refuses}
-use Rattle.session.specs.World.{World, NamedBouquet, named_in}
+use Rattle.session.specs.Stop.{StopsAt}
+use Rattle.session.specs.World.{World, NamedBouquet, bouquet_in, named_in}
+use Rattle.session.specs.declared.stop.Stop.{Stop}
 
 -- at the bouquet of this name; it is refused where none has it
 abbrev pub at_bouquet : (name : List ℕ) → (NamedBouquet → Outcome) → Option NamedBouquet → Outcome
@@ -29,6 +31,10 @@ at_present world name go =
 
 -- this is the bouquet of the name, and its counts are those of the tables
 pub record IsPresent (world : World) (name : List ℕ) (bouquet : BouquetTree) : Type 0 where
-  pub named : option_map (λ named. named.bouquet) (named_in name world.bouquets) ≡ Some bouquet
+  pub named : bouquet_in name world.bouquets ≡ Some bouquet
   pub due : (go : BouquetTree → Outcome) → at_present world name go ≡ go bouquet
   pub counts : HasCountsOf world.database.tables bouquet
+
+-- there is none: whatever is asked of it stops so
+abbrev pub IsAbsent : World → (name : List ℕ) → Stop → Type 0
+IsAbsent world name why = (go : BouquetTree → Outcome) → StopsAt (at_present world name go) why

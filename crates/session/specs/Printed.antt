@@ -49,13 +49,6 @@ size_line label bouquet =
     label ++ (decimal (grid.levels ^ grid.axes) ++ (codes " contours=" ++ (decimal (length bouquet.contours)
     ++ (codes " r=" ++ (decimal (most_plans bouquet.contours) ++ codes "\n")))))
 
--- what a compiled bouquet prints, and one of a file
-abbrev pub compile_line : BouquetTree → List ℕ
-compile_line bouquet = size_line (codes "-- compile points=") bouquet
-
-abbrev pub open_line : BouquetTree → List ℕ
-open_line bouquet = size_line (codes "-- open points=") bouquet
-
 -- the texts of plans, a space before each but the first
 abbrev pub plan_texts : List PlanTree → List ℕ
 plan_texts [] = []
@@ -63,15 +56,20 @@ plan_texts (p ∷ []) = plan_text_of p
 plan_texts (p ∷ other ∷ more) = plan_text_of p ++ (codes " " ++ plan_texts (other ∷ more))
 
 -- the line of a contour of this number: its cost, its budget, its plans in the order in which they are tried
-abbrev pub contour_line : (threshold number : ℕ) → ContourTree → List ℕ
-contour_line threshold number contour =
+abbrev pub contour_line : (number budget : ℕ) → ContourTree → List ℕ
+contour_line number budget contour =
     codes "-- contour=" ++ (decimal number ++ (codes " cost=" ++ (decimal contour.cost ++ (codes " budget="
-    ++ (decimal (budget_of threshold contour.cost) ++ (codes " plans=" ++ (plan_texts contour.plans ++ codes "\n")))))))
+    ++ (decimal budget ++ (codes " plans=" ++ (plan_texts contour.plans ++ codes "\n")))))))
 
 -- the lines of contours of which the first has this number
 abbrev pub contour_lines : (threshold number : ℕ) → List ContourTree → List ℕ
 contour_lines threshold number [] = []
-contour_lines threshold number (contour ∷ more) = contour_line threshold number contour ++ contour_lines threshold (number + 1) more
+contour_lines threshold number (contour ∷ more) =
+    contour_line number (budget_of threshold contour.cost) contour ++ contour_lines threshold (number + 1) more
+
+-- the contours of a bouquet
+abbrev pub explain_text : BouquetTree → List ℕ
+explain_text bouquet = contour_lines bouquet.threshold 1 bouquet.contours
 
 -- the levels of a point, a comma before each but the first; a dash where there is no axis
 abbrev pub levels_text : List ℕ → List ℕ

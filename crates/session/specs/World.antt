@@ -1,5 +1,5 @@
 -- The state of a script.
-use Rattle.std.specs.Prelude.{ℕ, List, [], ◌∷◌, ◌++◌, Option, Some, None, if◌then◌else◌}
+use Rattle.std.specs.Prelude.{ℕ, List, [], ◌∷◌, ◌++◌, Option, Some, None, option_map, if◌then◌else◌}
 use Rattle.std.specs.Str.{bytes_eq}
 use Rattle.db_catalog.specs.Database.{DatabaseState}
 use Rattle.bouquet_type.specs.Trees.{BouquetTree}
@@ -31,3 +31,6 @@ nothing_made = record { database = record { tables = []; texts = []; index_names
 abbrev pub named_in : (name : List ℕ) → List NamedBouquet → Option NamedBouquet
 named_in name [] = None
 named_in name (named ∷ more) = if bytes_eq name named.name then Some named else named_in name more
+
+abbrev pub bouquet_in : (name : List ℕ) → List NamedBouquet → Option BouquetTree
+bouquet_in name bouquets = option_map (λ named. named.bouquet) (named_in name bouquets)

@@ -1,9 +1,9 @@
 // AUDIT: every plan of a bouquet's block is executed, for what its costs at a point are worth. No book takes in what that
 // spends.
-ghost use Rattle.std.specs.Prelude.{◌≡◌, IfErr, IfOk, None, OnOk, option_map};
+ghost use Rattle.std.specs.Prelude.{◌≡◌, IfOk};
 ghost use Rattle.ess_grid.specs.Points.{IsPoint};
-ghost use Rattle.session.specs.Audit.{audit_outcome, first_missing, point_refusal};
-ghost use Rattle.session.specs.Outcome.{RefusesFree};
+ghost use Rattle.session.specs.Audit.{audit_outcome, level_refusal, point_refusal};
+ghost use Rattle.session.specs.Outcome.{RefusesFound};
 ghost use Rattle.session.specs.Returns.{ReturnsFree};
 ghost use Rattle.session.specs.States.{world_of};
 
@@ -18,9 +18,7 @@ use std::alloc::Global;
 
 // Refuses the first of these levels that an axis of so many hasn't.
 fn check_point(count: usize, levels: &[u64]) -> Result<(), Refusal>
-    ensures none { OnOk result (first_missing count levels.now ≡ None) }
-    ensures refusal { IfErr result (RefusesFree
-        (option_map (Refusal.PastLimit LimitName.Level) (first_missing count levels.now))) }
+    ensures { RefusesFound (level_refusal count levels.now) result }
 {
     for level in levels {
         if *level >= count as u64 {
@@ -34,8 +32,7 @@ fn check_point(count: usize, levels: &[u64]) -> Result<(), Refusal>
 fn point_of(grid: &Grid, levels: &[u64]) -> Result<Point, Refusal>
     ensures point { IfOk result (λ point. point ≡ levels.now) }
     ensures of_grid { IfOk result (IsPoint grid.now) }
-    ensures none { OnOk result (point_refusal grid.now levels.now ≡ None) }
-    ensures refusal { IfErr result (RefusesFree (point_refusal grid.now levels.now)) }
+    ensures refuses { RefusesFound (point_refusal grid.now levels.now) result }
 {
     if levels.len() != grid.axes() {
         return Err(Refusal::PastLimit(LimitName::Coordinates, levels.len() as u128));

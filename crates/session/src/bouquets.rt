@@ -1,20 +1,18 @@
-// The compiled bouquet of a block, and the answer of a bouquet: its run over the tables, with its rows sorted and printed, and
+// The compiled bouquet of a query, and the answer of a bouquet: its run over the tables, with its rows sorted and printed, and
 // how it ended. It reaches rows by the meter of the run alone, and never prints a work that wasn't paid into the book.
-ghost use Rattle.std.specs.Prelude.{◌≡◌, ◌+◌, ◌≤◌, IfOk, IfSome, OnOk, length};
+ghost use Rattle.std.specs.Prelude.{◌≡◌, ◌+◌, ◌≤◌, IfOk, OnOk, length};
 ghost use Rattle.work_ledger.specs.Account.{max_account};
-ghost use Rattle.sql_values.specs.Limits.{min_levels, max_levels, max_threshold};
+ghost use Rattle.sql_values.specs.Limits.{max_threshold};
 ghost use Rattle.query_block.specs.Blocks.{block_tree, width_of};
 ghost use Rattle.query_block.specs.Meaning.{meaning_of};
+ghost use Rattle.sql_parse.specs.Trees.{query_tree};
 ghost use Rattle.db_catalog.specs.Fits.{Fits};
 ghost use Rattle.exec_pipe.specs.Executions.{AreRowsOf};
 ghost use Rattle.bouquet_type.specs.Trees.{bouquet_tree};
-ghost use Rattle.bouquet_type.specs.Compiled.{IsCompiled};
 ghost use Rattle.bouquet_type.specs.Sound.{IsSound};
-ghost use Rattle.bouquet_type.specs.Bounded.{MeetsBound};
-ghost use Rattle.bouquet_type.specs.Runs.{total_work};
 ghost use Rattle.bouquet_type.specs.Reports.{told_end};
-ghost use Rattle.bouquet_run.specs.Outcomes.{works_over};
-ghost use Rattle.session.specs.Bouquets.{GivesBouquet, bouquet_answer, compiled_over, size_refusal};
+ghost use Rattle.session.specs.Bouquets.{AreLevels, GivesBouquet, IsScriptQuery, bouquet_answer, bouquet_due};
+ghost use Rattle.session.specs.Bounds.{RunsWithinBound};
 ghost use Rattle.session.specs.Counted.{HasCountsOf};
 ghost use Rattle.session.specs.Printed.{answer_text, header_of};
 ghost use Rattle.session.specs.Returns.{PaysAtMost, ReturnsDue};
@@ -32,29 +30,33 @@ use ess_grid::Grid;
 use query_block::Block;
 use result_text::print_rows;
 use row_stack::{RowStack, Space};
+use sql_bind::bind;
+use sql_parse::Query;
 use sql_values::Text;
 use std::alloc::{AllocError, Global};
 use table_stats::stats_of;
 
-/// The compiled bouquet of a block over the tables, by levels that an axis may have and a threshold in percent, at most 1000.
-/// It is refused where its grid would have too many points, or its tables have too many combinations of rows.
-pub(crate) fn compiled_over(
+/// The compiled bouquet of a query over the tables, by levels that an axis may have and a threshold in percent, at most 1000.
+/// It is refused by binding, then where its grid would have too many points, then where its tables have too many combinations
+/// of rows.
+pub(crate) fn bouquet_of(
     alloc: Global,
     database: &Database,
-    block: Block,
+    query: &Query,
     levels: Option<u64>,
     threshold: u32,
 ) -> Result<Bouquet, Stop>
-    requires fits { Fits database.now (block_tree block) }
-    requires levels { IfSome levels (λ given. (min_levels ≤ given) × (given ≤ max_levels)) }
+    requires query { IsScriptQuery (query_tree query.now) }
+    requires levels { AreLevels levels }
     requires threshold { threshold ≤ max_threshold }
-    ensures due { let tree = block_tree block in GivesBouquet (compiled_over database.now levels
-        threshold tree (size_refusal database.now tree levels)) result }
-    ensures block { IfOk result (λ bouquet. bouquet.block ≡ block) }
+    ensures due { GivesBouquet
+        (bouquet_due database.now (query_tree query.now) levels threshold) result }
+    ensures fits { IfOk result (λ bouquet. Fits database.now (block_tree bouquet.block)) }
     ensures sound { IfOk result (λ bouquet. IsSound (bouquet_tree bouquet)) }
     ensures counts { IfOk result
         (λ bouquet. HasCountsOf database.now.tables (bouquet_tree bouquet)) }
 {
+    let block = bind(alloc, database, query)?;
     let grid = Grid::new(block.axes(), levels)?;
     let stats = stats_of(alloc, database, &block)?;
     Ok(compile(alloc, block, stats, grid, threshold)?)
@@ -93,15 +95,12 @@ pub(crate) fn answer(
     book: &mut Book,
 ) -> Result<Vec<u8>, Stop>
     requires fits { Fits database.now (block_tree bouquet.now.block) }
+    requires counts { HasCountsOf database.now.tables (bouquet_tree bouquet.now) }
     requires room { book.old + max_work ≤ max_account }
     ensures due { (world : World) → world.database ≡ database.now →
         ReturnsDue (bouquet_answer max_work world (bouquet_tree bouquet.now))
         result world book.old book.new }
-    ensures bound { let tree = bouquet_tree bouquet.now in
-        let work = works_over database.now tree in
-        OnOk result (MeetsBound tree work (total_work tree work)) }
-    ensures sound { let tree = bouquet_tree bouquet.now in
-        OnOk result (IsCompiled tree → IsSound tree) }
+    ensures bound { OnOk result (RunsWithinBound database.now (bouquet_tree bouquet.now)) }
     ensures pays { PaysAtMost max_work book.old book.new }
 {
     let block = bouquet.block();

@@ -1,32 +1,28 @@
 // COMPILE: the name and the numbers are looked at before the query is bound.
-ghost use Rattle.std.specs.Prelude.{◌≡◌, ◌≤◌, OnErr, OnOk, IfOk, IfErr, IfSome, None, unwrap_or};
-ghost use Rattle.sql_values.specs.Limits.{max_levels, max_script_bytes, max_threshold, min_levels, default_threshold};
+ghost use Rattle.std.specs.Prelude.{◌≡◌, ◌≤◌, OnErr, OnOk, IfOk, unwrap_or};
+ghost use Rattle.sql_values.specs.Limits.{max_threshold, default_threshold};
 ghost use Rattle.std.specs.Str.{IsUtf8};
 ghost use Rattle.sql_parse.specs.Canonical.{canonical_query};
 ghost use Rattle.sql_parse.specs.Trees.{query_tree};
-ghost use Rattle.sql_parse.specs.WellFormed.{IsWellFormedQuery};
-ghost use Rattle.sql_parse.specs.Counts.{of_condition, predicates_in};
+ghost use Rattle.session.specs.Bouquets.{AreLevels, IsScriptQuery};
 ghost use Rattle.session.specs.Compile.{compile_outcome, levels_refusal, threshold_refusal};
-ghost use Rattle.session.specs.Outcome.{RefusesFree};
+ghost use Rattle.session.specs.Outcome.{RefusesFound};
 ghost use Rattle.session.specs.Returns.{ReturnsFree};
 ghost use Rattle.session.specs.States.{world_of};
 
-use crate::bouquets::compiled_over;
+use crate::bouquets::bouquet_of;
 use crate::named::taken;
 use crate::refusal::Refusal;
 use crate::session::Session;
 use crate::stop::Stop;
-use sql_bind::bind;
 use sql_parse::{CompileDef, print_query};
 use sql_values::{DEFAULT_THRESHOLD, LimitName, MAX_LEVELS, MAX_THRESHOLD, MIN_LEVELS};
 use std::alloc::Global;
 
 // Levels that no axis has are refused.
 fn check_levels(levels: Option<u64>) -> Result<(), Refusal>
-    ensures range { OnOk result
-        (IfSome levels (λ given. (min_levels ≤ given) × (given ≤ max_levels))) }
-    ensures none { OnOk result (levels_refusal levels ≡ None) }
-    ensures refusal { IfErr result (RefusesFree (levels_refusal levels)) }
+    ensures range { OnOk result (AreLevels levels) }
+    ensures refuses { RefusesFound (levels_refusal levels) result }
 {
     match levels {
         Some(given) if !(MIN_LEVELS..=MAX_LEVELS).contains(&given) => Err(Refusal::PastLimit(
@@ -41,8 +37,7 @@ fn check_levels(levels: Option<u64>) -> Result<(), Refusal>
 fn checked_threshold(threshold: Option<u64>) -> Result<u32, Refusal>
     ensures threshold { IfOk result (λ percent. percent ≡ unwrap_or threshold default_threshold) }
     ensures range { IfOk result (λ percent. percent ≤ max_threshold) }
-    ensures none { OnOk result (threshold_refusal threshold ≡ None) }
-    ensures refusal { IfErr result (RefusesFree (threshold_refusal threshold)) }
+    ensures refuses { RefusesFound (threshold_refusal threshold) result }
 {
     let percent = threshold.unwrap_or(DEFAULT_THRESHOLD);
     if percent > MAX_THRESHOLD {
@@ -54,10 +49,8 @@ fn checked_threshold(threshold: Option<u64>) -> Result<u32, Refusal>
 impl Session {
     /// Keeps the compiled bouquet of a query under a new name, with the canonical text of the query, and prints its size.
     pub(crate) fn compile(&mut self, alloc: Global, compile: &CompileDef) -> Result<Vec<u8>, Stop>
-        requires well_formed { IsWellFormedQuery (query_tree compile.now.query) }
+        requires query { IsScriptQuery (query_tree compile.now.query) }
         requires canonical { IsUtf8 (canonical_query (query_tree compile.now.query)) }
-        requires predicates { of_condition predicates_in (query_tree compile.now.query).condition
-            ≤ max_script_bytes }
         ensures due { ReturnsFree (compile_outcome (world_of self.old) compile.now.name
             compile.now.levels compile.now.threshold (query_tree compile.now.query))
             result (world_of self.new) }
@@ -68,8 +61,8 @@ impl Session {
         }
         check_levels(compile.levels)?;
         let threshold = checked_threshold(compile.threshold)?;
-        let block = bind(alloc, &self.database, &compile.query)?;
-        let bouquet = compiled_over(alloc, &self.database, block, compile.levels, threshold)?;
+        let levels = compile.levels;
+        let bouquet = bouquet_of(alloc, &self.database, &compile.query, levels, threshold)?;
         let query = print_query(alloc, &compile.query)?;
         self.keep(alloc, "-- compile points=", &compile.name, query, bouquet)
     }

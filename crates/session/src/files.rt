@@ -1,9 +1,7 @@
 // A file that a statement has asked for, once it is given.
-ghost use Rattle.std.specs.Prelude.{◌≡◌, ℕ, List, Option, OnErr};
+ghost use Rattle.std.specs.Prelude.{◌≡◌, OnErr};
 ghost use Rattle.std.specs.Str.{IsUtf8};
-ghost use Rattle.session.specs.Given.{IsFileGiven, at_file};
-ghost use Rattle.session.specs.Begins.{BelongsTo, pending_outcome};
-ghost use Rattle.session.specs.Returns.{ReturnsFree};
+ghost use Rattle.session.specs.Begins.{BelongsTo, FinishesAsDue};
 ghost use Rattle.session.specs.States.{world_of};
 
 use crate::begun::{Asked, GivenFile, Pending};
@@ -29,9 +27,7 @@ impl Session {
     /// stops changes nothing.
     pub fn finish(&mut self, alloc: Global, asked: Asked, given: GivenFile) -> Result<Vec<u8>, Stop>
         requires { BelongsTo (world_of self.old) asked.pending }
-        ensures due { (file : Option (List ℕ)) → IsFileGiven file given →
-            ReturnsFree (at_file asked.name (pending_outcome (world_of self.old) asked.pending) file)
-            result (world_of self.new) }
+        ensures due { FinishesAsDue (world_of self.old) asked given result (world_of self.new) }
         ensures unchanged { OnErr result (self.new ≡ self.old) }
     {
         let Asked { name, pending } = asked;

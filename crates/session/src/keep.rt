@@ -5,11 +5,10 @@ ghost use Rattle.query_block.specs.Blocks.{block_tree};
 ghost use Rattle.db_catalog.specs.Fits.{Fits};
 ghost use Rattle.bouquet_type.specs.Trees.{bouquet_tree};
 ghost use Rattle.session.specs.Counted.{HasCountsOf};
-ghost use Rattle.session.specs.Outcome.{Prints};
-ghost use Rattle.session.specs.Printed.{size_line};
+ghost use Rattle.session.specs.Bouquets.{kept_as};
 ghost use Rattle.session.specs.Returns.{ReturnsFree};
 ghost use Rattle.session.specs.States.{world_of};
-ghost use Rattle.session.specs.World.{NamedBouquet, named_in, with_bouquet};
+ghost use Rattle.session.specs.World.{named_in};
 
 use crate::lines;
 use crate::named_bouquets::KeptBouquet;
@@ -33,11 +32,9 @@ impl Session {
         requires fits { Fits self.old.database (block_tree bouquet.block) }
         requires counts { HasCountsOf self.old.database.tables (bouquet_tree bouquet) }
         requires text { IsUtf8 query.items }
-        ensures kept { let tree = bouquet_tree bouquet in
-            let named : NamedBouquet =
-            record { name = name.now; query = query.items; bouquet = tree } in
-            let next = with_bouquet (world_of self.old) named in
-            ReturnsFree (Prints (size_line label.now tree) 0 next) result (world_of self.new) }
+        ensures kept { ReturnsFree
+            (kept_as label.now (world_of self.old) name.now query.items (bouquet_tree bouquet))
+            result (world_of self.new) }
         ensures unchanged { OnErr result (self.new ≡ self.old) }
     {
         let text = lines::size_line(alloc, label, &bouquet)?;

@@ -1,12 +1,11 @@
 // The printed lines that are neither rows nor refusals.
-ghost use Rattle.std.specs.Prelude.{◌≡◌, ℕ, ◌+◌, ◌^◌, ◌<◌, ◌≤◌, [], ◌++◌, length, map, IfOk, OnOk, codes, decimal, vec_len, vec_capacity};
+ghost use Rattle.std.specs.Prelude.{◌≡◌, ◌+◌, ◌^◌, ◌<◌, ◌≤◌, [], ◌++◌, length, map, IfOk, OnOk, codes, decimal, vec_len, vec_capacity};
 ghost use Rattle.plan_tree.specs.Plans.{plan_tree};
 ghost use Rattle.audit_run.specs.Audits.{told_audit};
 ghost use Rattle.plan_tree.specs.Text.{plan_text_of};
-ghost use Rattle.bouquet_type.specs.Budgets.{budget_of};
 ghost use Rattle.bouquet_type.specs.Reports.{told_end};
 ghost use Rattle.bouquet_type.specs.Trees.{bouquet_tree, contour_tree};
-ghost use Rattle.session.specs.Printed.{report_line, load_line, size_line, contour_line, contour_lines, plan_texts, point_text, yes_or_no, audit_line};
+ghost use Rattle.session.specs.Printed.{report_line, load_line, size_line, contour_line, explain_text, plan_texts, point_text, yes_or_no, audit_line};
 
 use audit_run::Audit;
 use bouquet_type::{Bouquet, Contour, Report};
@@ -122,9 +121,8 @@ fn push_contour(
     budget: u128,
     contour: &Contour,
 ) -> Result<(), AllocError>
-    ensures { OnOk result ((threshold : ℕ) →
-        budget ≡ budget_of threshold contour.now.cost → text.new.items
-        ≡ text.old.items ++ contour_line threshold number (contour_tree contour.now)) }
+    ensures { OnOk result (text.new.items
+        ≡ text.old.items ++ contour_line number budget (contour_tree contour.now)) }
 {
     push_labelled(text, "-- contour=", number as u128)?;
     push_labelled(text, " cost=", contour.cost)?;
@@ -137,8 +135,7 @@ fn push_contour(
 
 /// A line for each contour of a bouquet.
 pub(crate) fn contour_lines(alloc: Global, bouquet: &Bouquet) -> Result<Vec<u8>, AllocError>
-    ensures { let tree = bouquet_tree bouquet.now in IfOk result (λ text. text.items
-        ≡ contour_lines tree.threshold 1 tree.contours) }
+    ensures { IfOk result (λ text. text.items ≡ explain_text (bouquet_tree bouquet.now)) }
 {
     let mut text = Vec::new(alloc);
     for (place, contour) in bouquet.contours().iter().enumerate() {

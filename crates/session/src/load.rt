@@ -1,8 +1,8 @@
 // LOAD: the rows of a file behind those of a table. The file is asked for only where the table is there.
-ghost use Rattle.std.specs.Prelude.{◌≡◌, ◌<◌, ℕ, length, OnErr};
+ghost use Rattle.std.specs.Prelude.{◌≡◌, ◌<◌, length, OnErr};
 ghost use Rattle.std.specs.Str.{IsUtf8};
 ghost use Rattle.sql_parse.specs.Trees.{Load};
-ghost use Rattle.session.specs.Begins.{BeginsAsDue};
+ghost use Rattle.session.specs.Begins.{BeginsFree};
 ghost use Rattle.session.specs.Load.{load_bytes};
 ghost use Rattle.session.specs.Returns.{ReturnsFree};
 ghost use Rattle.session.specs.States.{world_of};
@@ -19,8 +19,7 @@ impl Session {
     /// Asks for the file of a load.
     pub(crate) fn load(&self, load: &LoadDef) -> Result<Begun, Stop>
         requires { IsUtf8 load.now.file }
-        ensures { (max_work paid : ℕ) → BeginsAsDue max_work (world_of self.now) (Load load.now)
-            result (world_of self.now) paid paid }
+        ensures { BeginsFree (world_of self.now) (Load load.now) result }
     {
         let Some(table) = self.database.table_of(load.table.bytes()) else {
             return Err(no_table(&load.table));

@@ -1,14 +1,10 @@
 // OPEN: the name is looked at, the query is bound and its tables are counted before the file is asked for.
-ghost use Rattle.std.specs.Prelude.{◌≡◌, ◌≤◌, ℕ, OnErr};
+ghost use Rattle.std.specs.Prelude.{◌≡◌, OnErr};
 ghost use Rattle.std.specs.Str.{IsUtf8};
-ghost use Rattle.sql_values.specs.Limits.{max_script_bytes};
-ghost use Rattle.query_block.specs.Blocks.{block_tree};
 ghost use Rattle.sql_parse.specs.Canonical.{canonical_query};
 ghost use Rattle.sql_parse.specs.Trees.{OpenFile, query_tree};
-ghost use Rattle.sql_parse.specs.WellFormed.{IsWellFormedQuery};
-ghost use Rattle.sql_parse.specs.Counts.{of_condition, predicates_in};
-ghost use Rattle.session.specs.Begins.{BeginsAsDue, CanOpen};
-ghost use Rattle.session.specs.Open.{open_with};
+ghost use Rattle.session.specs.Begins.{BeginsFree, CanOpen, pending_outcome};
+ghost use Rattle.session.specs.Bouquets.{IsScriptQuery};
 ghost use Rattle.session.specs.Returns.{ReturnsFree};
 ghost use Rattle.session.specs.States.{world_of};
 
@@ -26,13 +22,10 @@ impl Session {
     /// Asks for the file of a bouquet, where its name is free and its query has a block and counts.
     pub(crate) fn open_file(&self, alloc: Global, opened: &OpenDef) -> Result<Begun, Stop>
         requires text { IsUtf8 opened.now.file }
-        requires well_formed { IsWellFormedQuery (query_tree opened.now.query) }
+        requires query { IsScriptQuery (query_tree opened.now.query) }
         requires canonical { IsUtf8 (canonical_query (query_tree opened.now.query)) }
-        requires predicates { of_condition predicates_in (query_tree opened.now.query).condition
-            ≤ max_script_bytes }
-        ensures { let query = query_tree opened.now.query in (max_work paid : ℕ) →
-            BeginsAsDue max_work (world_of self.now) (OpenFile opened.now.name opened.now.file query)
-            result (world_of self.now) paid paid }
+        ensures { BeginsFree (world_of self.now)
+            (OpenFile opened.now.name opened.now.file (query_tree opened.now.query)) result }
     {
         if self.bouquets.get(opened.name.bytes()).is_some() {
             return Err(taken(&opened.name));
@@ -60,8 +53,9 @@ impl Session {
         bytes: &[u8],
     ) -> Result<Vec<u8>, Stop>
         requires can { CanOpen (world_of self.old) opening }
-        ensures due { ReturnsFree (open_with (world_of self.old) opening.name opening.query.items
-            (block_tree opening.block) opening.stats bytes.now) result (world_of self.new) }
+        ensures due { ReturnsFree
+            (pending_outcome (world_of self.old) (Pending.Open opening) bytes.now)
+            result (world_of self.new) }
         ensures unchanged { OnErr result (self.new ≡ self.old) }
     {
         let Opening {

@@ -4,11 +4,9 @@ ghost use Rattle.std.specs.Prelude.{IfOk, IfErr};
 ghost use Rattle.query_block.specs.Blocks.{block_tree};
 ghost use Rattle.cost_model.specs.Staleness.{RefusesFirst};
 ghost use Rattle.db_catalog.specs.Fits.{Fits};
-ghost use Rattle.bouquet_type.specs.Trees.{BouquetTree, bouquet_tree};
-ghost use Rattle.session.specs.Outcome.{Outcome};
-ghost use Rattle.session.specs.Present.{IsPresent, at_present, stale_count};
+ghost use Rattle.bouquet_type.specs.Trees.{bouquet_tree};
+ghost use Rattle.session.specs.Present.{IsAbsent, IsPresent, stale_count};
 ghost use Rattle.session.specs.States.{world_of};
-ghost use Rattle.session.specs.Stop.{StopsAt};
 
 use crate::named::no_bouquet;
 use crate::session::Session;
@@ -34,8 +32,7 @@ impl Session {
             IsPresent (world_of self.now) name.now (bouquet_tree bouquet.now)) }
         ensures fits { IfOk result (λ bouquet.
             Fits self.now.database (block_tree bouquet.now.block)) }
-        ensures refused { IfErr result (λ why. (go : BouquetTree → Outcome) →
-            StopsAt (at_present (world_of self.now) name.now go) why) }
+        ensures refused { IfErr result (IsAbsent (world_of self.now) name.now) }
     {
         let Some(kept) = self.bouquets.get(name.bytes()) else {
             return Err(no_bouquet(name));

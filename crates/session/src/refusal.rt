@@ -1,6 +1,6 @@
 // Why a script or a statement is refused: each refusal is a value, and becomes its line here alone.
-ghost use Rattle.std.specs.Prelude.{◌≡◌, ◌++◌, IfOk, OnOk, codes, decimal};
-ghost use Rattle.session.specs.Refusal.{line_of, error_line, limit_line, no_table_line, no_column_line, duplicate_line, not_made_line, not_bound_line, field_line, fields_line, not_loaded_line, no_token_line, token_fault_word, stale_line, not_opened_line};
+ghost use Rattle.std.specs.Prelude.{◌≡◌, ◌++◌, IfOk, OnOk};
+ghost use Rattle.session.specs.Refusal.{line_of, error_line, limit_line, no_table_line, no_column_line, duplicate_line, not_made_line, not_bound_line, field_line, fields_line, not_loaded_line, no_token_line, spaced, token_fault_word, stale_line, not_opened_line};
 
 use bouquet_file::{OpenFault, path_text};
 use cost_model::Stale;
@@ -65,7 +65,7 @@ fn error_line(alloc: Global, kind: &str, about: &[u8]) -> Result<Vec<u8>, AllocE
 // The same with a number behind a space at the end.
 fn number_line(alloc: Global, kind: &str, about: &str, number: u128) -> Result<Vec<u8>, AllocError>
     ensures { IfOk result (λ line. line.items
-        ≡ error_line (kind.now ++ (about.now ++ (codes " " ++ decimal number)))) }
+        ≡ error_line (kind.now ++ (about.now ++ spaced number))) }
 {
     let mut line = Vec::from_slice(alloc, b"error ")?;
     line.extend_from_slice(kind.as_bytes())?;
@@ -77,7 +77,7 @@ fn number_line(alloc: Global, kind: &str, about: &str, number: u128) -> Result<V
 
 // A space and a number.
 fn push_number(line: &mut Vec<u8>, number: u128) -> Result<(), AllocError>
-    ensures { OnOk result (line.new.items ≡ line.old.items ++ (codes " " ++ decimal number)) }
+    ensures { OnOk result (line.new.items ≡ line.old.items ++ spaced number) }
 {
     line.push(b' ')?;
     line.extend_from_slice(Buffer::new().format(number).as_bytes())

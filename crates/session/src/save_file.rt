@@ -1,8 +1,7 @@
 // SAVE: the file of a bouquet. It looks at no table, so a bouquet whose counts are out of date is saved too.
-ghost use Rattle.std.specs.Prelude.{ℕ};
 ghost use Rattle.std.specs.Str.{IsUtf8};
 ghost use Rattle.sql_parse.specs.Trees.{SaveFile};
-ghost use Rattle.session.specs.Begins.{BeginsAsDue};
+ghost use Rattle.session.specs.Begins.{BeginsFree};
 ghost use Rattle.session.specs.States.{world_of};
 
 use crate::begun::Begun;
@@ -17,8 +16,7 @@ impl Session {
     /// The file of the bouquet of this name, with the text of its query.
     pub(crate) fn save_file(&self, alloc: Global, save: &FileDef) -> Result<Begun, Stop>
         requires { IsUtf8 save.now.file }
-        ensures { (max_work paid : ℕ) → BeginsAsDue max_work (world_of self.now) (SaveFile save.now)
-            result (world_of self.now) paid paid }
+        ensures { BeginsFree (world_of self.now) (SaveFile save.now) result }
     {
         let Some(kept) = self.bouquets.get(save.name.bytes()) else {
             return Err(no_bouquet(&save.name));

@@ -1,20 +1,15 @@
 // SELECT: a query is bound before anything else is asked of it, then compiled, then answered by a run of its bouquet.
-ghost use Rattle.std.specs.Prelude.{◌+◌, ◌≤◌, OnOk};
+ghost use Rattle.std.specs.Prelude.{◌+◌, ◌≤◌};
 ghost use Rattle.work_ledger.specs.Account.{max_account};
-ghost use Rattle.sql_values.specs.Limits.{max_script_bytes};
 ghost use Rattle.sql_parse.specs.Trees.{Select, query_tree};
-ghost use Rattle.sql_parse.specs.WellFormed.{IsWellFormedQuery};
-ghost use Rattle.sql_parse.specs.Counts.{of_condition, predicates_in};
-ghost use Rattle.session.specs.Bounds.{IsAnsweredWithin};
-ghost use Rattle.session.specs.Returns.{PaysAtMost, ReturnsDue};
-ghost use Rattle.session.specs.Select.{select_outcome};
+ghost use Rattle.session.specs.Bouquets.{IsScriptQuery};
+ghost use Rattle.session.specs.Bounds.{Answers};
 ghost use Rattle.session.specs.States.{world_of};
 
-use crate::bouquets::{answer, compiled_over};
+use crate::bouquets::{answer, bouquet_of};
 use crate::session::Session;
 use crate::stop::Stop;
 use bouquet_run::Book;
-use sql_bind::bind;
 use sql_parse::Query;
 use sql_values::DEFAULT_THRESHOLD;
 use std::alloc::Global;
@@ -28,19 +23,13 @@ impl Session {
         query: &Query,
         book: &mut Book,
     ) -> Result<Vec<u8>, Stop>
-        requires well_formed { IsWellFormedQuery (query_tree query.now) }
-        requires predicates { of_condition predicates_in (query_tree query.now).condition
-            ≤ max_script_bytes }
+        requires query { IsScriptQuery (query_tree query.now) }
         requires room { book.old + max_work ≤ max_account }
-        ensures due { ReturnsDue
-            (select_outcome max_work (world_of self.now) (query_tree query.now))
-            result (world_of self.now) book.old book.new }
-        ensures bounded { OnOk result
-            (IsAnsweredWithin (world_of self.now) (Select (query_tree query.now))) }
-        ensures pays { PaysAtMost max_work book.old book.new }
+        ensures { Answers max_work (world_of self.now) (Select (query_tree query.now))
+            result book.old book.new }
     {
-        let block = bind(alloc, &self.database, query)?;
-        let bouquet = compiled_over(alloc, &self.database, block, None, DEFAULT_THRESHOLD as u32)?;
+        let threshold = DEFAULT_THRESHOLD as u32;
+        let bouquet = bouquet_of(alloc, &self.database, query, None, threshold)?;
         answer(alloc, max_work, &self.database, &bouquet, book)
     }
 }

@@ -60,10 +60,11 @@ impl From<LoadFault> for Stop {
 }
 
 impl From<BindFault> for Stop {
-    ghost use Rattle.std.specs.Prelude.{◌≡◌};
-    ghost use Rattle.session.specs.Stop.{stop_of_binding};
+    ghost use Rattle.session.specs.Stop.{TellsFault};
+    ghost use Rattle.sql_bind.specs.declared.fault.BindFault.TheVariants as bind;
+    ghost use Rattle.session.specs.declared.refusal.Refusal.TheVariants as refusal;
 
-    ghost from_gives = { λ fault stop. stop ≡ stop_of_binding fault };
+    ghost from_gives = { TellsFault bind.NoMemory refusal.NotBound };
 
     fn from(fault: BindFault) -> Stop {
         match fault {
@@ -74,10 +75,11 @@ impl From<BindFault> for Stop {
 }
 
 impl From<OpenFault> for Stop {
-    ghost use Rattle.std.specs.Prelude.{◌≡◌};
-    ghost use Rattle.session.specs.Stop.{stop_of_opening};
+    ghost use Rattle.session.specs.Stop.{TellsFault};
+    ghost use Rattle.bouquet_file.specs.declared.fault.OpenFault.TheVariants as opening;
+    ghost use Rattle.session.specs.declared.refusal.Refusal.TheVariants as refusal;
 
-    ghost from_gives = { λ fault stop. stop ≡ stop_of_opening fault };
+    ghost from_gives = { TellsFault opening.NoMemory refusal.NotOpened };
 
     fn from(fault: OpenFault) -> Stop {
         match fault {

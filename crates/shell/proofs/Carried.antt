@@ -44,10 +44,10 @@ module _ (max_work : ℕ) (statement : StatementTree) (world next : World) (befo
 
   pub carried_prints : (text : Vec ℕ Global) → BeginsAsDue max_work world statement (Ok (begun.Prints text)) next old new → IsCarriedOut max_work statement before before world next old new (Ok (Ok text))
   carried_prints text begins = unread (Ok text)
-      (record { work = begins.0; prints = ap printed_by (begins.1 any.0); leaves = ap (λ (due : Outcome). left_by due (state_of world before)) (begins.1 any.0); spent = begins.2; kept = λ _. refl })
+      (let due = begins any.0 in record { work = due.0; prints = ap printed_by due.1; leaves = ap (λ (o : Outcome). left_by o (state_of world before)) due.1; spent = due.2; kept = λ _. refl })
 
   pub carried_stops : (why : Stop) → BeginsAsDue max_work world statement (Err why) next old new → IsCarriedOut max_work statement before before world next old new (Ok (Err why))
-  carried_stops (stop.Refused why) begins = unread (Err (stop.Refused why)) (begins.0 any.0, begins.1, refl)
+  carried_stops (stop.Refused why) begins = unread (Err (stop.Refused why)) ((begins any.0).0, (begins any.0).1, refl)
   carried_stops stop.NoMemory begins = unread (Err stop.NoMemory) refl
 
   -- a file was to be written

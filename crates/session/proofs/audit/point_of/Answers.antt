@@ -2,7 +2,7 @@
 use Rattle.std.proofs.Common.{rules, arith, ◌≡◌, None, length, sym, subst}
 use Rattle.std.proofs.lemmas.Grind.{common_steps}
 use Rattle.ess_grid.specs.Points.{IsPoint}
-use Rattle.session.specs.Audit.{first_missing}
+use Rattle.session.specs.Audit.{level_refusal}
 use Rattle.session.proofs.PointLevels.{none_missing}
 use Rattle.session.proofs.audit.point_of.Goals as goal
 
@@ -12,5 +12,5 @@ returns-clause-of_grid c =
     let levels = c.args.levels.now in
     let same : c.new.result ≡ levels = grind (arith, common_steps) in
     let axes : length levels ≡ grid.axes = search rules in
-    let none : first_missing grid.levels levels ≡ None = subst (λ count. first_missing count levels ≡ None) c.levels.ensures.levels c.in_ok-check_point.ensures.none in
+    let none : level_refusal grid.levels levels ≡ None = subst (λ count. level_refusal count levels ≡ None) c.levels.ensures.levels c.in_ok-check_point.ensures.answered in
     subst (IsPoint grid) (sym same) (record { axes = axes; levels = none_missing grid.levels levels none })

@@ -18,7 +18,9 @@ new-space-requires c =
 
 pub returns-in-Ok-clause-bound : goal.returns-in-Ok-clause-bound
 returns-in-Ok-clause-bound c =
-    bouquet-bound c.args.bouquet.now c.block-block.ensures.bouquet (works_over c.args.database.now (bouquet_tree c.args.bouquet.now))
-
-pub returns-in-Ok-clause-sound : goal.returns-in-Ok-clause-sound
-returns-in-Ok-clause-sound c = compiled-sound (bouquet_tree c.args.bouquet.now) c.block-block.ensures.bouquet.costing
+    let bouquet = c.args.bouquet.now in
+    record {
+      counts = c.requires.counts;
+      bound = bouquet-bound bouquet c.block-block.ensures.bouquet (works_over c.args.database.now (bouquet_tree bouquet));
+      sound = compiled-sound (bouquet_tree bouquet) c.block-block.ensures.bouquet.costing;
+    }

@@ -16,4 +16,4 @@ loop-place-preserved c =
     let first : place + 1 - 1 ≡ place = omega arith in
     let budget : c.budget.result ≡ budget_of threshold contour.cost =
     c.budget.ensures.budget ∙ ap (λ n. budget_of threshold (get_or (map (λ (one : Contour). one.cost) contours) n 0)) first ∙ ap (budget_of threshold) (cost_there contours place contour there is) in
-    contours_more threshold place contours contour c.loop-place.text.items c.push_contour.new.text.items there is c.loop-place.invariant (c.in_ok-push_contour.ensures threshold budget)
+    contours_more threshold place contours contour c.loop-place.text.items c.push_contour.new.text.items there is c.loop-place.invariant (rw budget at c.in_ok-push_contour.ensures)

@@ -9,16 +9,15 @@ in_turn : (text a b c d e f : List ℕ) → (((((text ++ a) ++ b) ++ c) ++ d) ++
 in_turn text a b c d e f = simp append_assoc
 
 pub returns : goal.returns
-returns c = λ threshold is.
+returns c =
     let number = codes "-- contour=" ++ decimal c.args.number in
     let cost = codes " cost=" ++ decimal c.args.contour.now.cost in
-    let budget = λ (n : ℕ). codes " budget=" ++ decimal n in
+    let budget = codes " budget=" ++ decimal c.args.budget in
     let plans = plan_texts (map plan_tree c.args.contour.now.plans.items) in
     let start = c.args.text.now.items in
-    let labelled : c.push_labelled-3.new.text.items ≡ ((start ++ number) ++ cost) ++ budget c.args.budget =
-    c.in_ok-push_labelled-3.ensures ∙ ap (λ l. l ++ budget c.args.budget) (c.in_ok-push_labelled-2.ensures ∙ ap (λ l. l ++ cost) c.in_ok-push_labelled.ensures) in
-    let listed : c.push_plans.new.text.items ≡ ((((start ++ number) ++ cost) ++ budget c.args.budget) ++ codes " plans=") ++ plans =
+    let labelled : c.push_labelled-3.new.text.items ≡ ((start ++ number) ++ cost) ++ budget =
+    c.in_ok-push_labelled-3.ensures ∙ ap (λ l. l ++ budget) (c.in_ok-push_labelled-2.ensures ∙ ap (λ l. l ++ cost) c.in_ok-push_labelled.ensures) in
+    let listed : c.push_plans.new.text.items ≡ ((((start ++ number) ++ cost) ++ budget) ++ codes " plans=") ++ plans =
     c.in_ok-push_plans.ensures ∙ ap (λ ps. c.extend_from_slice.new.self.items ++ plan_texts (map plan_tree ps)) c.as_slice.ensures.value ∙ ap (λ l. l ++ plans) (c.in_ok-extend_from_slice.ensures.items ∙ ap (λ l. l ++ codes " plans=") labelled) in
     c.in_ok-push.ensures.items ∙ ap (λ l. l ++ codes "\n") listed
-    ∙ in_turn start number cost (budget c.args.budget) (codes " plans=") plans (codes "\n")
-    ∙ ap (λ n. start ++ (number ++ (cost ++ (budget n ++ (codes " plans=" ++ (plans ++ codes "\n")))))) is
+    ∙ in_turn start number cost budget (codes " plans=") plans (codes "\n")

@@ -25,7 +25,7 @@ returns-in_err-point c =
     let levels = c.args.audit.now.levels in
     let present = c.in_ok-bouquet.ensures.present in
     let bouquet : BouquetTree = bouquet_tree c.in_ok-bouquet.bouquet.now in
-    let none : RefusesFree (point_refusal bouquet.costing.grid levels) c.in_err-point.field-0.0 = rw (c.grid.ensures, c.as_slice.ensures) at c.in_err-point.ensures.refusal in
+    let none : RefusesFree (point_refusal bouquet.costing.grid levels) c.in_err-point.field-0.0 = rw (c.grid.ensures, c.as_slice.ensures) at c.in_err-point.ensures.refuses.refused in
     let stop = err_from_is_err_and c.from_residual-in_err-point.result c.from_residual-in_err-point.ensures.1 in
     rw (stop.1, stop.2, present.due (audited c.args.max_work world levels)) (no_point c.args.max_work world bouquet levels _ none)
 
@@ -35,7 +35,7 @@ returns-in_err-told c =
     let levels = c.args.audit.now.levels in
     let present = rw (← c.self.view_is) at c.in_ok-bouquet.ensures.present in
     let bouquet : BouquetTree = bouquet_tree c.in_ok-bouquet.bouquet.now in
-    let none : point_refusal bouquet.costing.grid levels ≡ None = rw (c.grid.ensures, c.as_slice.ensures) at c.in_ok-point.ensures.none in
+    let none : point_refusal bouquet.costing.grid levels ≡ None = rw (c.grid.ensures, c.as_slice.ensures) at c.in_ok-point.ensures.refuses.answered in
     let stop = err_from_is_err_and c.from_residual-in_err-told.result c.from_residual-in_err-told.ensures.1 in
     rw (← c.self.view_is, stop.1, stop.2, present.due (audited c.args.max_work world levels)) (refused c.args.max_work world bouquet levels none c.in_err-told.field-0.0 c.in_err-told.ensures.refuses)
 
@@ -45,7 +45,7 @@ returns c =
     let levels = c.args.audit.now.levels in
     let present = rw (← c.self.view_is) at c.in_ok-bouquet.ensures.present in
     let bouquet : BouquetTree = bouquet_tree c.in_ok-bouquet.bouquet.now in
-    let none : point_refusal bouquet.costing.grid levels ≡ None = rw (c.grid.ensures, c.as_slice.ensures) at c.in_ok-point.ensures.none in
+    let none : point_refusal bouquet.costing.grid levels ≡ None = rw (c.grid.ensures, c.as_slice.ensures) at c.in_ok-point.ensures.refuses.answered in
     let point : c.in_ok-point.point ≡ levels = c.in_ok-point.ensures.point ∙ c.as_slice.ensures in
     let told : told_audit c.in_ok-told.told ≡ audit_of bouquet world.database levels = c.in_ok-told.ensures.audit ∙ ap (audit_of bouquet world.database) point in
     let due = answered c.args.max_work world bouquet levels none c.in_ok-told.told told c.in_ok-told.ensures.few c.in_ok-told.ensures.within in

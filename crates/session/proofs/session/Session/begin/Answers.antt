@@ -1,32 +1,31 @@
 -- What a statement prints it prints as it begins.
-use Rattle.std.proofs.Common.{refl}
 use Rattle.sql_parse.specs.Trees.{Audit, Compile, CreateIndex, CreateTable, Explain, Run, Select, query_tree}
 use Rattle.session.specs.States.{world_of}
-use Rattle.session.proofs.Beginning.{prints_due, prints_free}
+use Rattle.session.proofs.Beginning.{begins_due, begins_free}
 use Rattle.session.proofs.session.Session.begin.Goals as goal
 
 pub returns-in-CreateTable-clause-begins : goal.returns-in-CreateTable-clause-begins
-returns-in-CreateTable-clause-begins c = rw (c.in-CreateTable.is, c.prints.ensures) (prints_free c.args.max_work (world_of c.args.self.now) (world_of c.create_table.new.self) (CreateTable c.in-CreateTable.table) _ (λ file. refl) c.create_table.result c.args.book.now c.create_table.ensures.due)
+returns-in-CreateTable-clause-begins c = rw (c.in-CreateTable.is, c.prints.ensures) (begins_free c.args.max_work (world_of c.args.self.now) (CreateTable c.in-CreateTable.table) (world_of c.create_table.new.self) c.create_table.result c.args.book.now (λ file. c.create_table.ensures.due))
 
 pub returns-in-CreateIndex-clause-begins : goal.returns-in-CreateIndex-clause-begins
-returns-in-CreateIndex-clause-begins c = rw (c.in-CreateIndex.is, c.prints-in-CreateIndex.ensures) (prints_free c.args.max_work (world_of c.args.self.now) (world_of c.create_index.new.self) (CreateIndex c.in-CreateIndex.index) _ (λ file. refl) c.create_index.result c.args.book.now c.create_index.ensures.due)
+returns-in-CreateIndex-clause-begins c = rw (c.in-CreateIndex.is, c.prints-in-CreateIndex.ensures) (begins_free c.args.max_work (world_of c.args.self.now) (CreateIndex c.in-CreateIndex.index) (world_of c.create_index.new.self) c.create_index.result c.args.book.now (λ file. c.create_index.ensures.due))
 
 pub returns-in-Select-clause-begins : goal.returns-in-Select-clause-begins
-returns-in-Select-clause-begins c = rw (c.in-Select.is, c.prints-in-Select.ensures) (prints_due c.args.max_work (world_of c.args.self.now) (world_of c.args.self.now) (Select (query_tree c.in-Select.query)) _ (λ file. refl) c.select.result c.args.book.now c.select.new.book c.select.ensures.due)
+returns-in-Select-clause-begins c = rw (c.in-Select.is, c.prints-in-Select.ensures) (begins_due c.args.max_work (world_of c.args.self.now) (Select (query_tree c.in-Select.query)) (world_of c.args.self.now) c.select.result c.args.book.now c.select.new.book c.select.ensures.due)
 
 pub returns-in-Compile-clause-begins : goal.returns-in-Compile-clause-begins
 returns-in-Compile-clause-begins c =
     let compile = c.in-Compile.compile in
-    rw (c.in-Compile.is, c.prints-in-Compile.ensures) (prints_free c.args.max_work (world_of c.args.self.now) (world_of c.compile.new.self) (Compile compile.name compile.levels compile.threshold (query_tree compile.query)) _ (λ file. refl) c.compile.result c.args.book.now c.compile.ensures.due)
+    rw (c.in-Compile.is, c.prints-in-Compile.ensures) (begins_free c.args.max_work (world_of c.args.self.now) (Compile compile.name compile.levels compile.threshold (query_tree compile.query)) (world_of c.compile.new.self) c.compile.result c.args.book.now (λ file. c.compile.ensures.due))
 
 pub returns-in-Run-clause-begins : goal.returns-in-Run-clause-begins
-returns-in-Run-clause-begins c = rw (c.in-Run.is, c.prints-in-Run.ensures) (prints_due c.args.max_work (world_of c.args.self.now) (world_of c.args.self.now) (Run c.in-Run.name) _ (λ file. refl) c.run.result c.args.book.now c.run.new.book c.run.ensures.due)
+returns-in-Run-clause-begins c = rw (c.in-Run.is, c.prints-in-Run.ensures) (begins_due c.args.max_work (world_of c.args.self.now) (Run c.in-Run.name) (world_of c.args.self.now) c.run.result c.args.book.now c.run.new.book c.run.ensures.due)
 
 pub returns-in-Explain-clause-begins : goal.returns-in-Explain-clause-begins
-returns-in-Explain-clause-begins c = rw (c.in-Explain.is, c.prints-in-Explain.ensures) (prints_free c.args.max_work (world_of c.args.self.now) (world_of c.args.self.now) (Explain c.in-Explain.name) _ (λ file. refl) c.explain.result c.args.book.now c.explain.ensures)
+returns-in-Explain-clause-begins c = rw (c.in-Explain.is, c.prints-in-Explain.ensures) (begins_free c.args.max_work (world_of c.args.self.now) (Explain c.in-Explain.name) (world_of c.args.self.now) c.explain.result c.args.book.now (λ file. c.explain.ensures))
 
 pub returns-in-Audit-clause-begins : goal.returns-in-Audit-clause-begins
-returns-in-Audit-clause-begins c = rw (c.in-Audit.is, c.prints-in-Audit.ensures) (prints_free c.args.max_work (world_of c.args.self.now) (world_of c.args.self.now) (Audit c.in-Audit.audit) _ (λ file. refl) c.audit.result c.args.book.now c.audit.ensures)
+returns-in-Audit-clause-begins c = rw (c.in-Audit.is, c.prints-in-Audit.ensures) (begins_free c.args.max_work (world_of c.args.self.now) (Audit c.in-Audit.audit) (world_of c.args.self.now) c.audit.result c.args.book.now (λ file. c.audit.ensures))
 
 pub returns-in-Load-clause-begins : goal.returns-in-Load-clause-begins
 returns-in-Load-clause-begins c = rw c.in-Load.is (c.load.ensures c.args.max_work c.args.book.now)

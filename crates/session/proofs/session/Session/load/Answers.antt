@@ -8,11 +8,12 @@ use Rattle.db_catalog.specs.Database.{table_number}
 use Rattle.sql_parse.specs.declared.tree.LoadDef.{LoadDef}
 use Rattle.sql_parse.specs.Trees.{Load}
 use Rattle.session.specs.Given.{at_file}
-use Rattle.session.specs.Load.{load_bytes}
+use Rattle.session.specs.Load.{load_bytes, load_outcome}
 use Rattle.session.specs.Outcome.{Outcome, at_number}
 use Rattle.session.specs.States.{world_of}
 use Rattle.session.specs.World.{World}
-use Rattle.session.proofs.Beginning.{stops_free}
+use Rattle.std.specs.Prelude.{Err}
+use Rattle.session.proofs.Beginning.{returns_free}
 use Rattle.session.proofs.session.Session.load.Goals as goal
 
 -- at the table of a number, where there is one
@@ -20,11 +21,11 @@ abbrev loads : World → LoadDef → (file : Option (List ℕ)) → Option ℕ �
 loads world load file found = at_number load.table (λ number. at_file load.file (load_bytes world number) file) found
 
 pub returns-in_default : goal.returns-in_default
-returns-in_default c = λ max_work paid.
+returns-in_default c = λ max_work paid file.
     let world : World = world_of c.args.self.now in
     let load = c.args.load.now in
     let none : table_number world.database load.table ≡ None = cc in
-    stops_free max_work world world (Load load) c.no_table.result paid (λ file. rw (ap (loads world load file) none) c.no_table.ensures)
+    returns_free world (load_outcome world load file) (Err c.no_table.result) paid (rw (ap (loads world load file) none) c.no_table.ensures)
 
 pub returns : goal.returns
 returns c = λ max_work paid.

@@ -1,10 +1,13 @@
 -- The file is refused, or its bouquet is kept.
-use Rattle.std.proofs.Common.{ap}
+use Rattle.std.proofs.Common.{◌≡◌, refl, ap}
 use Rattle.std.proofs.lemmas.Result.{err_from_is_err_and}
 use Rattle.session.specs.Open.{opened_kept}
 use Rattle.session.specs.States.{world_of}
 use Rattle.session.specs.World.{World}
-use Rattle.session.proofs.Opening.{open_refused}
+use Rattle.bouquet_file.specs.declared.fault.OpenFault.TheVariants as fault
+use Rattle.session.specs.Outcome.{Refuses}
+use Rattle.session.specs.declared.refusal.Refusal.TheVariants as refusal
+use Rattle.session.proofs.Beginning.{told_free}
 use Rattle.session.proofs.session.Session.open_bytes.Goals as goal
 
 pub returns-in_err-bouquet-clause-due : goal.returns-in_err-bouquet-clause-due
@@ -12,7 +15,9 @@ returns-in_err-bouquet-clause-due c =
     let world : World = world_of c.args.self.now in
     let opening = c.args.opening in
     let stop = err_from_is_err_and c.from_residual.result c.from_residual.ensures.1 in
-    rw (stop.1, stop.2) (open_refused world opening.name opening.query.items _ c.in_err-bouquet.field-0.0 (rw c.deref.ensures.value at c.in_err-bouquet.ensures.opened))
+    let opened = rw c.deref.ensures.value at c.in_err-bouquet.ensures.opened in
+    rw stop.1 (told_free (λ found. opened_kept world opening.name opening.query.items _ ≡ Refuses found) fault.NoMemory refusal.NotOpened c.in_err-bouquet.field-0.0 stop.0 stop.2
+    (λ other. ap (opened_kept world opening.name opening.query.items) (opened other)) refl)
 
 pub returns-clause-due : goal.returns-clause-due
 returns-clause-due c =

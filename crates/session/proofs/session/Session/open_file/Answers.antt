@@ -4,14 +4,18 @@ use Rattle.std.specs.Prelude.{Err, IfSome, is_some}
 use Rattle.std.proofs.lemmas.Result.{err_from_is_err_and}
 use Rattle.query_block.specs.Blocks.{block_tree}
 use Rattle.sql_parse.specs.Canonical.{canonical_query}
-use Rattle.sql_parse.specs.Trees.{OpenFile, query_tree}
+use Rattle.sql_parse.specs.Trees.{query_tree}
+use Rattle.sql_bind.specs.declared.fault.BindFault.TheVariants as bind
 use Rattle.sql_bind.specs.Binding.{bind_fault, block_of}
 use Rattle.session.specs.Bouquets.{product_refusal}
+use Rattle.session.specs.Open.{open_outcome, open_refusal}
+use Rattle.session.specs.declared.refusal.Refusal.TheVariants as refusal
 use Rattle.session.specs.States.{world_of}
+use Rattle.session.specs.Stop.{stop_of_counts}
 use Rattle.session.specs.World.{World, NamedBouquet, named_in}
-use Rattle.session.proofs.Beginning.{stops_free}
-use Rattle.session.proofs.Opening.{open_asks, open_taken, open_unbound, open_uncounted, open_with_file}
-use Rattle.session.proofs.Sizes.{small_product}
+use Rattle.session.proofs.Beginning.{returns_free, told_free}
+use Rattle.session.proofs.Opening.{open_taken, open_with_file, product_decides, query_decides, stops_open}
+use Rattle.session.proofs.Sizes.{counts_stop, past_product, small_product}
 use Rattle.session.proofs.session.Session.open_file.Goals as goal
 
 some_named : {A : Type 0} (found : Option A) (look : Option NamedBouquet) (name : A → NamedBouquet) → is_some found ≡ true → IfSome found (λ kept. look ≡ Some (name kept)) → (named : NamedBouquet) × (look ≡ Some named)
@@ -19,14 +23,14 @@ some_named None look name some named = cc some
 some_named (Some kept) look name some named = (name kept, named)
 
 pub returns-then-is_some : goal.returns-then-is_some
-returns-then-is_some c = λ max_work paid.
+returns-then-is_some c = λ max_work paid file.
     let world : World = world_of c.args.self.now in
     let opened = c.args.opened.now in
     let query = query_tree opened.query in
     let there : is_some c.get.result ≡ true = sym c.is_some.ensures ∙ c.if-is_some.true in
     let named = some_named c.get.result _ _ there c.get.ensures.named in
     let taken : named_in opened.name world.bouquets ≡ Some named.0 = rw (← c.self.view_is, ← c.bytes.ensures) named.1 in
-    stops_free max_work world world (OpenFile opened.name opened.file query) c.taken.result paid (λ file. rw (open_taken world opened.name opened.file query file named.0 taken) c.taken.ensures)
+    returns_free world (open_outcome world opened.name opened.file query file) (Err c.taken.result) paid (rw (open_taken world opened.name opened.file query file named.0 taken) c.taken.ensures)
 
 pub returns-in_err-block : goal.returns-in_err-block
 returns-in_err-block c = λ max_work paid.
@@ -36,8 +40,10 @@ returns-in_err-block c = λ max_work paid.
     let gone : is_some c.get.result ≡ false = sym c.is_some.ensures ∙ c.if-is_some.false in
     let free : named_in opened.name world.bouquets ≡ None = rw (← c.bytes.ensures) (c.get.ensures.none gone) in
     let stop = err_from_is_err_and c.from_residual.result c.from_residual.ensures.1 in
-    rw (← c.self.view_is, stop.1, stop.2) (stops_free max_work world world (OpenFile opened.name opened.file query) _ paid
-    (λ file. open_unbound world opened.name opened.file query file free c.in_err-block.field-0.0 c.in_err-block.ensures.refuses.refused))
+    let fault = c.in_err-block.field-0.0 in
+    let refused = told_free (λ found. open_refusal world opened.name query ≡ Some found) bind.NoMemory refusal.NotBound fault stop.0 stop.2
+    (λ other. query_decides world opened.name opened.file query None free (Some fault) (c.in_err-block.ensures.refuses.refused other)) refl in
+    rw (← c.self.view_is, stop.1) (λ file. returns_free world (open_outcome world opened.name opened.file query file) (Err stop.0) paid (stops_open world opened.name opened.file query file stop.0 refused))
 
 pub returns-in_err-stats : goal.returns-in_err-stats
 returns-in_err-stats c = λ max_work paid.
@@ -50,8 +56,9 @@ returns-in_err-stats c = λ max_work paid.
     let none : bind_fault world.database query ≡ None = c.in_ok-block.ensures.refuses.answered in
     let same : block ≡ block_of world.database query = c.in_ok-block.ensures.block in
     let stop = err_from_is_err_and c.from_residual-in_err-stats.result c.from_residual-in_err-stats.ensures.1 in
-    rw (← c.self.view_is, stop.1, stop.2) (stops_free max_work world world (OpenFile opened.name opened.file query) _ paid
-    (λ file. open_uncounted world opened.name opened.file query file free none block same c.in_err-stats.field-0.0 (λ value is. (c.in_err-stats.ensures.product_limit value).0 (ap Err is))))
+    let refused = counts_stop (λ found. open_refusal world opened.name query ≡ Some found) c.in_err-stats.field-0.0
+    (λ value is. product_decides world opened.name opened.file query None free none block same ∙ past_product world.database block value ((c.in_err-stats.ensures.product_limit value).0 (ap Err is))) in
+    rw (← c.self.view_is, stop.1, stop.2) (λ file. returns_free world (open_outcome world opened.name opened.file query file) (Err (stop_of_counts c.in_err-stats.field-0.0)) paid (stops_open world opened.name opened.file query file _ refused))
 
 pub returns : goal.returns
 returns c = λ max_work paid.
@@ -69,7 +76,7 @@ returns c = λ max_work paid.
     let text : c.in_ok-print_query.field-0.items ≡ canonical_query query = c.in_ok-print_query.ensures in
     rw (← c.self.view_is) (
       record {
-        asks = open_asks world opened.name opened.file query None free none block same small;
+        asks = product_decides world opened.name opened.file query None free none block same ∙ small;
         name = ap Some (sym file_name);
         text = rw file_name c.requires.text;
         pending = record {

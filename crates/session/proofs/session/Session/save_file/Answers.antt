@@ -1,16 +1,15 @@
 -- There is no such bouquet, or its file is returned: the text of its query is UTF-8.
 use Rattle.std.proofs.Common.{◌≡◌, ◌∙◌, Some, None, refl, sym, ap}
-use Rattle.std.specs.Prelude.{is_some}
+use Rattle.std.specs.Prelude.{Err, is_some}
 use Rattle.std.specs.Str.{IsUtf8}
 use Rattle.std.proofs.lemmas.List.Elements.{All-contains}
 use Rattle.bouquet_file.specs.Written.{file_text}
-use Rattle.sql_parse.specs.Trees.{SaveFile}
 use Rattle.session.specs.Outcome.{Saves}
 use Rattle.session.specs.Present.{at_bouquet}
 use Rattle.session.specs.Save.{save_outcome}
 use Rattle.session.specs.States.{NamedShape, named_of, named_shape, world_of}
 use Rattle.session.specs.World.{World, NamedBouquet, named_in}
-use Rattle.session.proofs.Beginning.{stops_free}
+use Rattle.session.proofs.Beginning.{returns_free}
 use Rattle.session.proofs.session.Session.save_file.Goals as goal
 
 pub to_bytes-requires : goal.to_bytes-requires
@@ -20,12 +19,11 @@ to_bytes-requires c =
     record { text = rw c.deref.ensures.value text }
 
 pub returns-in_default : goal.returns-in_default
-returns-in_default c = λ max_work paid.
+returns-in_default c = λ max_work paid file.
     let world : World = world_of c.args.self.now in
     let save = c.args.save.now in
     let none : named_in save.name world.bouquets ≡ None = rw (← c.self.view_is, ← c.bytes.ensures) (c.get.ensures.none (ap is_some c.in_default.is)) in
-    stops_free max_work world world (SaveFile save) c.no_bouquet.result paid
-    (λ file. rw (ap (at_bouquet save.name (λ kept. Saves save.file (file_text kept.bouquet kept.query))) none) c.no_bouquet.ensures)
+    returns_free world (save_outcome world save) (Err c.no_bouquet.result) paid (rw (ap (at_bouquet save.name (λ kept. Saves save.file (file_text kept.bouquet kept.query))) none) c.no_bouquet.ensures)
 
 pub returns : goal.returns
 returns c = λ max_work paid.
