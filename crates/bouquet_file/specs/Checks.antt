@@ -94,12 +94,22 @@ abbrev pub first_with_text : (text : List ℕ) → List PlanTree → Option Plan
 first_with_text text [] = None
 first_with_text text (p ∷ more) = if bytes_eq (plan_text_of p) text then Some p else first_with_text text more
 
+abbrev pub plan_with_text : BlockTree → (text : List ℕ) → Option PlanTree
+plan_with_text block text = first_with_text text (plans_of block)
+
 abbrev pub plan_here : BlockTree → (contour number : ℕ) → (text : List ℕ) → Checked PlanTree
-plan_here block contour number text = need (fault.NotAPlan contour number) (first_with_text text (plans_of block))
+plan_here block contour number text = need (fault.NotAPlan contour number) (plan_with_text block text)
+
+-- the plans of a contour
+abbrev pub plans_at : BlockTree → (contour : ℕ) → (texts : List (List ℕ)) → Checked (List PlanTree)
+plans_at block contour texts = each (plan_here block contour) 1 texts
 
 -- a contour that fits: its cost is one that a bouquet may have, and its texts are those of plans of the block
 abbrev pub contour_at : BlockTree → (number : ℕ) → FileContour → Checked ContourTree
 contour_at block number parts = do
   check (fault.BudgetLimit number) (nat_le parts.cost max_contour_cost)
-  plans ← each (plan_here block number) 1 parts.texts
+  plans ← plans_at block number parts.texts
   pure (record { cost = parts.cost; plans = plans })
+
+abbrev pub contours_at : BlockTree → List FileContour → Checked (List ContourTree)
+contours_at block contours = each (contour_at block) 1 contours

@@ -1,5 +1,5 @@
 -- The bouquet of a file, or the first fault.
-use Rattle.std.specs.Prelude.{ℕ, List, Option, None, bytes_eq, if◌then◌else◌}
+use Rattle.std.specs.Prelude.{◌≡◌, ℕ, List, Option, None, Ok, bytes_eq, if◌then◌else◌}
 use Rattle.std.specs.Str.{is_utf8}
 use Rattle.serde_json.specs.Data.{Data}
 use Rattle.serde_json.specs.Read.{read}
@@ -7,8 +7,8 @@ use Rattle.query_block.specs.Blocks.{BlockTree, axes_of}
 use Rattle.cost_model.specs.declared.stats.Stats.{Stats}
 use Rattle.bouquet_type.specs.Trees.{BouquetTree}
 use Rattle.bouquet_file.specs.declared.fault.OpenFault.TheVariants as fault
-use Rattle.bouquet_file.specs.Steps.{Checked, pure, ◌>>=◌, ◌>>◌, check, each}
-use Rattle.bouquet_file.specs.Checks.{changed_counts, unless_changed, contour_at}
+use Rattle.bouquet_file.specs.Steps.{Checked, pure, ◌>>=◌, ◌>>◌, check}
+use Rattle.bouquet_file.specs.Checks.{changed_counts, unless_changed, contours_at}
 use Rattle.bouquet_file.specs.Parts.{parts_of}
 
 -- the value for which the bytes of a file stand, where they are JSON
@@ -22,9 +22,17 @@ file_of value query block stats = do
   parts ← parts_of value block
   check fault.OtherQuery (bytes_eq parts.query query)
   unless_changed (changed_counts 0 parts.counts stats.relations)
-  found ← each (contour_at block) 1 parts.contours
+  found ← contours_at block parts.contours
   pure (record {
     costing = record { block = block; stats = stats; grid = record { axes = axes_of block; levels = parts.levels } };
     threshold = parts.threshold;
     contours = found;
   })
+
+-- of the bytes of a file
+abbrev pub opened : (bytes query : List ℕ) → BlockTree → Stats → Checked BouquetTree
+opened bytes query block stats = file_of (json_value bytes) query block stats
+
+-- they are opened as this bouquet, by its own block and counts
+abbrev pub OpensAs : (bytes query : List ℕ) → BouquetTree → Type 0
+OpensAs bytes query bouquet = opened bytes query bouquet.costing.block bouquet.costing.stats ≡ Ok bouquet

@@ -1,5 +1,6 @@
 -- Checks one after another: each gives a value, or the first fault ends them.
-use Rattle.std.specs.Prelude.{◌≡◌, ◌≢◌, ℕ, ◌+◌, ⊤, Bool, true, false, List, [], ◌∷◌, Option, Some, None, Result, Ok, Err}
+use Rattle.std.specs.Prelude.{◌≡◌, ◌≢◌, ℕ, ◌+◌, ⊤, Bool, true, false, List, [], ◌∷◌, map, Option, Some, None, Result, Ok, Err, Vec}
+use Rattle.std.specs.declared.alloc.Global.{Global}
 use Rattle.bouquet_file.specs.declared.fault.OpenFault.{OpenFault}
 use Rattle.bouquet_file.specs.declared.fault.OpenFault.TheVariants as fault
 
@@ -42,3 +43,7 @@ each read number (item ∷ more) = do
 abbrev pub GivesChecked : {T A : Type 0} → (view : T → A) → Result T OpenFault → Checked A → Type 0
 GivesChecked view (Ok value) due = due ≡ Ok (view value)
 GivesChecked view (Err why) due = why ≢ fault.NoMemory → due ≡ Err why
+
+-- so it gives a list, each of whose items is seen so
+abbrev pub GivesEach : {T A : Type 0} → (view : T → A) → Result (Vec T Global) OpenFault → Checked (List A) → Type 0
+GivesEach view result due = GivesChecked (λ values. map view values.items) result due

@@ -1,11 +1,18 @@
 -- What stands in a value of a file, where it is of the right kind and in its range.
-use Rattle.std.specs.Prelude.{ℕ, ◌^◌, ◌&&◌, Bool, true, nat_le, nat_lt, List, [], ◌∷◌, Option, Some, None, option_and_then, is_some, codes, if◌then◌else◌, decimal, bytes_eq, length}
+use Rattle.std.specs.Prelude.{ℕ, ◌^◌, ◌&&◌, Bool, true, nat_le, nat_lt, List, [], ◌∷◌, Option, Some, None, option_and_then, is_some, codes, if◌then◌else◌, decimal, bytes_eq, length, String}
+use Rattle.std.specs.declared.alloc.Global.{Global}
 use Rattle.std.specs.List.{list_all, list_any}
 use Rattle.std.specs.Str.Parse.{digits_value}
 use Rattle.serde_json.specs.Data.{Data, Items, no_items, item, Members, no_members, member}
+use Rattle.serde_json.specs.View.{members_view}
+use Rattle.serde_json.specs.declared.value.Value.{Value}
 use Rattle.serde_json.specs.Find.{get_member, as_number, as_u64, as_str, as_array, as_object}
 use Rattle.bouquet_file.specs.declared.values.ObjectKind.{ObjectKind}
 use Rattle.bouquet_file.specs.declared.values.ObjectKind.TheVariants.{File, Relation, Contour}
+
+-- the value of a key among the members of an object, as it is seen
+abbrev pub value_at : (key : List ℕ) → List (String Global × Value) → Option Data
+value_at key entries = get_member key (members_view entries)
 
 -- an unsigned whole number
 abbrev pub unsigned : Option Data → Option ℕ

@@ -4,11 +4,10 @@ ghost use Rattle.sql_values.specs.Limits.{max_points, max_contours};
 ghost use Rattle.serde_json.specs.View.{view, members_view};
 ghost use Rattle.query_block.specs.Blocks.{block_tree};
 ghost use Rattle.plan_tree.specs.Plans.{plan_tree};
-ghost use Rattle.plan_tree.specs.AllPlans.{plans_of};
 ghost use Rattle.plan_tree.specs.Enumerated.{IsPlan};
 ghost use Rattle.bouquet_type.specs.Trees.{IsContour, contour_tree};
-ghost use Rattle.bouquet_file.specs.Steps.{GivesChecked, each};
-ghost use Rattle.bouquet_file.specs.Checks.{cost_in, plan_fits, contour_fits, first_with_text, plan_here, contour_at};
+ghost use Rattle.bouquet_file.specs.Steps.{GivesChecked, GivesEach, each};
+ghost use Rattle.bouquet_file.specs.Checks.{cost_in, plan_fits, contour_fits, plan_with_text, plan_here, plans_at, contour_at, contours_at};
 ghost use Rattle.bouquet_file.specs.Parts.{contour_seen, HasTexts};
 
 use crate::fault::{FieldPath, OpenFault};
@@ -39,7 +38,7 @@ fn cost_in(members: &Members) -> Option<u128>
 // The texts of the plans of a contour, or the first that isn't a text.
 fn texts_of<'v>(alloc: Global, contour: u32, plans: &'v [Value]) -> Result<Vec<&'v [u8]>, OpenFault>
     requires { length plans.now ≤ max_points }
-    ensures texts { GivesChecked (λ texts. map (λ text. text.now) texts.items) result
+    ensures texts { GivesEach (λ text. text.now) result
         (each (plan_fits contour) 1 (map view plans.now)) }
     ensures count { IfOk result (λ texts. length texts.items ≡ length plans.now) }
 {
@@ -77,7 +76,7 @@ pub(crate) fn contours_fit<'v>(
     contours: &'v [Value],
 ) -> Result<Vec<ContourParts<'v>>, OpenFault>
     requires { length contours.now ≤ max_contours }
-    ensures parts { GivesChecked (λ parts. map contour_seen parts.items) result
+    ensures parts { GivesEach contour_seen result
         (each contour_fits 1 (map view contours.now)) }
     ensures texts { IfOk result (λ parts. All HasTexts parts.items) }
     ensures count { IfOk result (λ parts. length parts.items ≡ length contours.now) }
@@ -91,8 +90,8 @@ pub(crate) fn contours_fit<'v>(
 
 // The plan of the block that has this text.
 fn plan_with_text(alloc: Global, block: &Block, text: &[u8]) -> Result<Option<Plan>, AllocError>
-    ensures plan { IfOk result (λ found. option_map plan_tree found
-        ≡ first_with_text text.now (plans_of (block_tree block.now))) }
+    ensures plan { IfOk result
+        (λ p. option_map plan_tree p ≡ plan_with_text (block_tree block.now) text.now) }
     ensures is_plan { IfOk result
         (λ found. IfSome found (λ p. IsPlan (block_tree block.now) (plan_tree p))) }
 {
@@ -138,8 +137,8 @@ fn plans_of(
     texts: &[&[u8]],
 ) -> Result<Vec<Plan>, OpenFault>
     requires { length texts.now ≤ max_points }
-    ensures plans { GivesChecked (λ plans. map plan_tree plans.items) result
-        (each (plan_here (block_tree block.now) contour) 1 (map (λ text. text.now) texts.now)) }
+    ensures plans { GivesEach plan_tree result
+        (plans_at (block_tree block.now) contour (map (λ text. text.now) texts.now)) }
     ensures count { IfOk result (λ plans. length plans.items ≡ length texts.now) }
     ensures are_plans { IfOk result
         (λ plans. All (λ p. IsPlan (block_tree block.now) (plan_tree p)) plans.items) }
@@ -179,8 +178,8 @@ pub(crate) fn contours_of(
 ) -> Result<Vec<Contour>, OpenFault>
     requires few { length parts.now ≤ max_contours }
     requires texts { All HasTexts parts.now }
-    ensures contours { GivesChecked (λ contours. map contour_tree contours.items) result
-        (each (contour_at (block_tree block.now)) 1 (map contour_seen parts.now)) }
+    ensures contours { GivesEach contour_tree result
+        (contours_at (block_tree block.now) (map contour_seen parts.now)) }
     ensures count { IfOk result (λ contours. length contours.items ≡ length parts.now) }
     ensures are_contours { IfOk result
         (λ contours. All (IsContour (block_tree block.now)) contours.items) }

@@ -5,7 +5,7 @@ ghost use Rattle.query_block.specs.Blocks.{block_tree};
 ghost use Rattle.cost_model.specs.Fits.{FitsBlock};
 ghost use Rattle.bouquet_type.specs.Trees.{bouquet_tree};
 ghost use Rattle.bouquet_file.specs.Steps.{GivesChecked, need};
-ghost use Rattle.bouquet_file.specs.Opened.{file_of, json_value};
+ghost use Rattle.bouquet_file.specs.Opened.{json_value, opened};
 
 use crate::contours::contours_of;
 use crate::fault::OpenFault;
@@ -43,7 +43,7 @@ pub fn from_bytes(
 ) -> Result<Bouquet, OpenFault>
     requires stats { FitsBlock (block_tree block) stats }
     ensures opened { GivesChecked bouquet_tree result
-        (file_of (json_value bytes.now) query.now (block_tree block) stats) }
+        (opened bytes.now query.now (block_tree block) stats) }
     ensures block { IfOk result (λ bouquet. bouquet.block ≡ block) }
     ensures stats { IfOk result (λ bouquet. bouquet.stats ≡ stats) }
 {

@@ -1,12 +1,11 @@
 // The bytes that are written of a bouquet.
-ghost use Rattle.std.specs.Prelude.{◌≡◌, IfOk, Ok, map, string_bytes};
+ghost use Rattle.std.specs.Prelude.{◌≡◌, IfOk, map, string_bytes};
 ghost use Rattle.std.specs.Str.{IsUtf8};
 ghost use Rattle.serde_json.specs.View.{view, items_view};
-ghost use Rattle.query_block.specs.Blocks.{block_tree};
 ghost use Rattle.plan_tree.specs.Plans.{plan_tree};
 ghost use Rattle.bouquet_type.specs.Trees.{bouquet_tree, contour_tree};
 ghost use Rattle.bouquet_file.specs.Written.{plan_value, contour_value, relation_value, file_with, file_value, file_text};
-ghost use Rattle.bouquet_file.specs.Opened.{file_of, json_value};
+ghost use Rattle.bouquet_file.specs.Opened.{OpensAs};
 
 use bouquet_type::{Bouquet, Contour};
 use cost_model::RelationStats;
@@ -127,8 +126,8 @@ pub fn to_bytes(alloc: Global, bouquet: &Bouquet, query: &[u8]) -> Result<Vec<u8
     requires text { IsUtf8 query.now }
     ensures text { IfOk result (λ bytes. bytes.items
         ≡ file_text (bouquet_tree bouquet.now) query.now) }
-    ensures opens { IfOk result (λ bytes. file_of (json_value bytes.items) query.now
-        (block_tree bouquet.now.block) bouquet.now.stats ≡ Ok (bouquet_tree bouquet.now)) }
+    ensures opens { IfOk result
+        (λ bytes. OpensAs bytes.items query.now (bouquet_tree bouquet.now)) }
 {
     prove!(!bouquet.contours().is_empty());
     let Ok(query) = str::from_utf8(query) else {
