@@ -7,7 +7,7 @@ use Rattle.sql_lex.specs.declared.token.Token.{Token}
 use Rattle.sql_parse.specs.declared.statement.Statement.{Statement}
 use Rattle.sql_parse.specs.Lexemes.{lexeme, lexemes}
 use Rattle.sql_parse.specs.Trees.{StatementTree, statement_tree}
-use Rattle.sql_parse.specs.Counts.{condition_of, predicates_of, operands_of, IsWithinTokens}
+use Rattle.sql_parse.specs.Counts.{condition_of, predicates_of, IsWithinTokens}
 use Rattle.sql_parse.specs.Script.{is_semicolon, in_front, split, not_empty, pieces, AreStatementsOf, AreStatements}
 use Rattle.sql_parse.specs.Statements.{IsStatement}
 use Rattle.sql_parse.proofs.CountedQueries.{condition-few}

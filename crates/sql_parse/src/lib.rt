@@ -23,7 +23,7 @@ mod writer;
 pub use canonical::{canonical_text_is_read, print, print_query};
 pub use fault::SyntaxFault;
 pub use mark::Mark;
-pub use script::{one_parsing_is_due, one_statement, read_script};
+pub use script::{one_parsing_is_due, one_statement, operands_are_tokens, read_script};
 pub use statement::Statement;
 pub use tree::{
     AuditDef, ColRef, CompileDef, Cond, FileDef, IndexDef, Item, LoadDef, Name, OpenDef, Query,
