@@ -1,6 +1,6 @@
 -- Bounds on cards and costs: no pairs pass the limit of combinations, and a cost grows with the number of leaves alone.
 use Rattle.std.proofs.Common.{◌≡◌, ℕ, zero, suc, ◌+◌, ◌*◌, ◌^◌, ◌<◌, ◌≤◌, cond, max, List, [], ◌∷◌, All, length, get_or, unwrap_or, None, Some, Option, nat_eq, refl, ap, drop, sym, subst, ◌∙◌, inl, inr, arith}
-use Rattle.std.specs.Prelude.{Bool, true, false, ◌&&◌, IsFalse, IfSome}
+use Rattle.std.specs.Prelude.{Bool, true, false, ◌&&◌, IfSome}
 use Rattle.std.specs.List.{AllZip}
 use Rattle.std.proofs.Math.Nat.{mul-le-mul_left, mul-le-mul_right, mul_comm, mul_assoc, le-max_left, le-max_right}
 use Rattle.std.proofs.lemmas.Nat.{mul-le}

@@ -31,7 +31,7 @@ impl Prices<'_> {
         requires set { IsSetOf (block_at self.now) set }
         ensures { IsPrice self.now (Scan relation) set result }
     {
-        let stats = self.relation(relation);
+        let stats = self.costing.relation(relation);
         let pages = charge::PAGE * u128::from(stats.pages);
         charge::OPEN + pages + u128::from(stats.rows) + self.card(set)
     }
@@ -101,7 +101,7 @@ impl Prices<'_> {
         requires apart { bit_and left (2 ^ relation) ≡ 0 }
         ensures { IsPrice self.now (IndexLoop edge left relation) set result }
     {
-        let rows = u128::from(self.relation(relation).rows);
+        let rows = u128::from(self.costing.relation(relation).rows);
         let column = column_of_edge(self.block(), edge, relation);
         let card = self.card(left);
         let candidates = self.candidates_among(edge, card * rows);

@@ -6,15 +6,15 @@ ghost use Rattle.ess_grid.specs.Points.{IsPoint};
 ghost use Rattle.plan_tree.specs.Work.{bits};
 ghost use Rattle.query_block.specs.Blocks.{block_tree};
 ghost use Rattle.cost_model.specs.Costing.{costing_tree, IsCosting};
-ghost use Rattle.cost_model.specs.Costs.{relation_stats, index_stats, candidate_card};
-ghost use Rattle.cost_model.specs.Few.{AreFew, IsFewIndex};
+ghost use Rattle.cost_model.specs.Costs.{index_stats, candidate_card};
+ghost use Rattle.cost_model.specs.Few.{IsFewIndex};
 ghost use Rattle.cost_model.specs.Prices.{IsSetOf, AreFewCards, AreSorts, block_at, card_at};
 
 use crate::arithmetic::{scaled, times_bits};
 use crate::costing::{Costing, index_on};
 use crate::set::set_count;
 use crate::set_cards::fill_cards;
-use crate::stats::{IndexStats, RelationStats};
+use crate::stats::IndexStats;
 use ess_grid::{Grid, Point};
 use plan_tree::Subset;
 use query_block::Block;
@@ -42,7 +42,7 @@ impl PriceRoom {
 /// many plans can be costed at the point by a few look-ups a node. It takes no memory.
 #[derive(Drop)]
 pub struct Prices<'a> {
-    costing: &'a Costing<'a>,
+    pub(crate) costing: &'a Costing<'a>,
     q: &'a Point,
     room: &'a PriceRoom,
 }
@@ -140,21 +140,12 @@ impl<'a> Prices<'a> {
         scaled(pairs, self.costing.selectivity(edge, self.q))
     }
 
-    /// The counts of a relation.
-    pub(crate) fn relation(&self, relation: u8) -> &'a RelationStats
-        requires { relation < length self.now.costing.block.relations }
-        ensures stats { result.now ≡ relation_stats self.now.costing.stats relation }
-        ensures few { AreFew result.now }
-    {
-        self.costing.relation(relation)
-    }
-
     /// The counts of the index on a column.
     pub fn index(&self, relation: u8, column: u8) -> IndexStats
         requires { relation < length self.now.costing.block.relations }
         ensures stats { result ≡ index_stats self.now.costing.stats relation column }
         ensures few { IsFewIndex result }
     {
-        index_on(self.relation(relation).columns.as_slice(), column)
+        index_on(self.costing.relation(relation).columns.as_slice(), column)
     }
 }

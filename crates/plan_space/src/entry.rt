@@ -36,24 +36,16 @@ fn root_order(root: Root, other: Root) -> Ordering
     root_numbers(root).cmp(&root_numbers(other))
 }
 
-// Of two plans of equal cost, the second where its outermost node is first in plan order.
-fn keep_first(found: Entry, offered: Entry) -> Entry
-    requires { found.cost ≡ offered.cost }
-    ensures { IsFirstOf found offered result }
-{
-    match root_order(found.root, offered.root) {
-        Ordering::Greater => offered,
-        _ => found,
-    }
-}
-
 /// Of the plan that was found and the plan that is offered, the cheaper one; of equally cheap ones the first in plan order.
 pub(crate) fn keep(found: Entry, offered: Entry) -> Entry
     ensures { IsFirstOf found offered result }
 {
     match found.cost.cmp(&offered.cost) {
         Ordering::Less => found,
-        Ordering::Equal => keep_first(found, offered),
+        Ordering::Equal => match root_order(found.root, offered.root) {
+            Ordering::Greater => offered,
+            _ => found,
+        },
         Ordering::Greater => offered,
     }
 }

@@ -1,7 +1,6 @@
 // The joins that may be the outermost node of a plan of a set: each split of the set into two sides, and for each split a
 // nested loop and the joins by each edge that crosses it.
 ghost use Rattle.std.specs.Prelude.{◌≡◌, ◌-◌, ◌^◌, ◌<◌, ◌≤◌, length};
-ghost use Rattle.plan_tree.specs.declared.roots.Root.TheVariants.{Nest};
 ghost use Rattle.plan_tree.specs.Roots.{IsSplit};
 ghost use Rattle.plan_space.specs.Search.{JoinsSides};
 ghost use Rattle.plan_space.specs.Steps.{Considers, IsByEdge, IsBeforeEdge, IsByLeft, IsBeforeLeft, IsLookUpBy, IsPairBy};
@@ -11,15 +10,6 @@ use crate::steps::Search;
 use plan_tree::{Root, Subset, column_of_edge, is_crossed, is_indexed};
 
 impl Search<'_> {
-    // A nested loop of the two sides of the set.
-    fn by_nest(&self, left: Subset, start: Entry) -> Entry
-        requires { IsSplit left self.now.set }
-        ensures { Considers self.now (λ node. node ≡ Nest left) start result }
-    {
-        let own = self.prices.nest(left, self.set);
-        self.consider(Root::Nest(left.number()), own, start)
-    }
-
     // A hash join and a merge join of the two sides by an edge.
     fn by_pairs(&self, left: Subset, edge: u8, start: Entry) -> Entry
         requires { JoinsSides self.now edge left }
@@ -28,9 +18,9 @@ impl Search<'_> {
         let candidates = self.prices.candidates(edge, left, self.set);
         let side = left.number();
         let own = self.prices.hash(edge, left, self.set, candidates);
-        let found = self.consider(Root::Hash(edge, side), own, start);
+        let found = self.consider(self.offered(Root::Hash(edge, side), own), start);
         let own = self.prices.merge(edge, left, self.set, candidates);
-        self.consider(Root::Merge(edge, side), own, found)
+        self.consider(self.offered(Root::Merge(edge, side), own), found)
     }
 
     // The index loop by an edge whose right side is this one relation.
@@ -45,23 +35,11 @@ impl Search<'_> {
             return start;
         }
         let own = self.prices.index_loop(edge, left, relation, self.set);
-        self.consider(Root::IndexLoop(edge, left.number(), relation), own, start)
+        let join = self.offered(Root::IndexLoop(edge, left.number(), relation), own);
+        self.consider(join, start)
     }
 
-    // The index loop by an edge, where the right side of the set is one relation.
-    fn by_look_up(&self, left: Subset, edge: u8, start: Entry) -> Entry
-        requires { JoinsSides self.now edge left }
-        ensures { Considers self.now (IsLookUpBy edge left) start result }
-    {
-        let right = self.set.without(left).number();
-        let relation = right.trailing_zeros() as u8;
-        if right != 1 << relation {
-            return start;
-        }
-        self.by_relation(left, edge, relation, start)
-    }
-
-    // The joins of the two sides of the set by an edge.
+    // The joins of the two sides of the set by an edge: a look-up is one of them where the right side is one relation.
     fn by_edge(&self, left: Subset, edge: u8, start: Entry) -> Entry
         requires split { IsSplit left self.now.set }
         requires edge { edge < length self.now.at.costing.block.edges }
@@ -71,7 +49,12 @@ impl Search<'_> {
             return start;
         }
         let found = self.by_pairs(left, edge, start);
-        self.by_look_up(left, edge, found)
+        let right = self.set.without(left).number();
+        let relation = right.trailing_zeros() as u8;
+        if right != 1 << relation {
+            return found;
+        }
+        self.by_relation(left, edge, relation, found)
     }
 
     // The joins of the two sides of the set by all edges.
@@ -101,7 +84,8 @@ impl Search<'_> {
         if self.least_sides(left) > start.cost {
             return start;
         }
-        let found = self.by_nest(left, start);
+        let own = self.prices.nest(left, self.set);
+        let found = self.consider(self.offered(Root::Nest(left.number()), own), start);
         self.by_edges(left, found)
     }
 

@@ -6,7 +6,7 @@ ghost use Rattle.plan_tree.specs.declared.roots.Root.TheVariants.{Scan, IndexSca
 ghost use Rattle.plan_tree.specs.Roots.{Stands};
 ghost use Rattle.cost_model.specs.Prices.{block_at};
 ghost use Rattle.plan_space.specs.Search.{IsFound};
-ghost use Rattle.plan_space.specs.Steps.{Considers, ReadsRelation, IsScanBy};
+ghost use Rattle.plan_space.specs.Steps.{Considers, ReadsRelation};
 
 use crate::entry::Entry;
 use crate::steps::Search;
@@ -34,23 +34,17 @@ impl Search<'_> {
             return start;
         }
         let own = self.prices.index_scan(relation, column, self.set);
-        self.consider(Root::IndexScan(relation, column), own, start)
+        self.consider(self.offered(Root::IndexScan(relation, column), own), start)
     }
 
-    // The scans of the one relation of the set by all of its indexes.
-    fn by_columns(&self, relation: u8, start: Entry) -> Entry
-        requires { Stands (block_at self.now.at) (Scan relation) self.now.set }
-        ensures { let indexes = (relation_at (block_at self.now.at).relations relation).indexes in
-            Considers self.now (IsScanBy relation indexes) start result }
+    // The columns of a relation that have an index.
+    fn indexes(&self, relation: u8) -> &[u8]
+        requires { relation < length self.now.at.costing.block.relations }
+        ensures { result.now ≡ (relation_at (block_at self.now.at).relations relation).indexes }
     {
-        let indexes = self.prices.block().relations()[relation as usize]
+        self.prices.block().relations()[relation as usize]
             .indexes
-            .as_slice();
-        let mut found = start;
-        for i in 0..indexes.len() {
-            found = self.by_column(relation, indexes[i], found);
-        }
-        found
+            .as_slice()
     }
 
     /// All ways to read the one relation of the set.
@@ -60,7 +54,12 @@ impl Search<'_> {
         ensures all { Considers self.now ReadsRelation result result }
     {
         let own = self.prices.scan(relation, self.set);
-        let start = self.offered(Root::Scan(relation), own);
-        self.by_columns(relation, start)
+        let scan = self.offered(Root::Scan(relation), own);
+        let indexes = self.indexes(relation);
+        let mut found = scan;
+        for i in 0..indexes.len() {
+            found = self.by_column(relation, indexes[i], found);
+        }
+        found
     }
 }

@@ -7,7 +7,7 @@ ghost use Rattle.cost_model.specs.Costing.{costing_tree, IsCosting};
 ghost use Rattle.cost_model.specs.Optimal.{optimal_cost};
 ghost use Rattle.cost_model.specs.Frontier.{frontier};
 ghost use Rattle.cost_model.specs.FrontierPoints.{IsFrontierPoint, IsFrontier, frontier_points};
-ghost use Rattle.plan_space.specs.Places.{IsOptimalAt, TellsFrontier};
+ghost use Rattle.plan_space.specs.Places.{TellsFrontier};
 ghost use Rattle.plan_space.specs.Outlook.{past_all_costs, cost_beyond, optimal_costs, costs_beyond};
 
 use crate::all_points::{BestPlans, best_at_all_points};
@@ -32,8 +32,7 @@ impl<'c> Model for Outlook<'c> {
     ghost use Rattle.query_block.specs.contracts.condition.Condition as condition;
     ghost use Rattle.std.specs.Coded.{codes};
     ghost use Rattle.cost_model.specs.Costing.{CostingShape};
-    ghost use Rattle.plan_space.specs.Places.{IsOptimalAt, TellsFrontier};
-ghost use Rattle.plan_space.specs.Outlook.{IsOutlook};
+    ghost use Rattle.plan_space.specs.Outlook.{IsOutlook};
 
     ghost Value = { CostingShape };
 
@@ -61,51 +60,69 @@ fn optimal_costs(
     Ok(costs)
 }
 
-// The optimal cost at the point that is one level higher on this axis. Where there is none, `u128::MAX`.
-fn cost_above(costing: &Costing<'_>, costs: &[u128], q: &Point, axis: usize) -> u128
-    requires costs { costs.now ≡ optimal_costs (costing_tree costing.now) }
-    requires point { IsPoint costing.now.grid q.now }
-    requires axis { axis < costing.now.grid.axes }
-    ensures { result ≡ (if nat_lt (slice_index q.now axis + 1) costing.now.grid.levels
-        then optimal_cost (costing_tree costing.now) (next_point q.now axis)
-        else past_all_costs) }
-{
-    let grid = costing.grid();
-    match grid.successor(q, axis) {
-        Some(next) => costs[grid.place_of(&next)],
-        None => u128::MAX,
-    }
+// A costing with the optimal cost at each point of its grid.
+#[derive(Drop)]
+struct OptimalCosts<'k, 'c> {
+    costing: &'k Costing<'c>,
+    costs: &'k [u128],
 }
 
-// The least optimal cost at the points that are next above one.
-fn least_above(costing: &Costing<'_>, costs: &[u128], q: &Point) -> u128
-    requires costs { costs.now ≡ optimal_costs (costing_tree costing.now) }
-    requires point { IsPoint costing.now.grid q.now }
-    ensures { result ≡ cost_beyond (costing_tree costing.now) q.now }
-{
-    let mut least = u128::MAX;
-    for axis in 0..costing.grid().axes() {
-        least = least.min(cost_above(costing, costs, q, axis));
-    }
-    least
+impl<'k, 'c> Model for OptimalCosts<'k, 'c> {
+    ghost use Rattle.query_block.specs.contracts.condition.Condition as condition;
+    ghost use Rattle.std.specs.Coded.{codes};
+    ghost use Rattle.std.specs.Prelude.{◌≡◌};
+    ghost use Rattle.cost_model.specs.Costing.{CostingShape, costing_tree};
+    ghost use Rattle.plan_space.specs.Outlook.{optimal_costs};
+
+    ghost Value = { CostingShape };
+
+    ghost coded = { Prim.hlevel (codes, condition.the_row.coded) };
+
+    ghost view = { λ o. o.costing.now };
+
+    ghost invariant = { λ o. o.costs.now ≡ optimal_costs (costing_tree o.costing.now) };
 }
 
-// The least costs next above all points.
-fn costs_beyond(
-    alloc: Global,
-    costing: &Costing<'_>,
-    costs: &[u128],
-) -> Result<Vec<u128>, AllocError>
-    requires { costs.now ≡ optimal_costs (costing_tree costing.now) }
-    ensures { IfOk result (λ beyond. beyond.items ≡ costs_beyond (costing_tree costing.now)) }
-{
-    let grid = costing.grid();
-    let points = grid.points();
-    let mut beyond = Vec::with_capacity(alloc, points)?;
-    for place in 0..points {
-        beyond.push(least_above(costing, costs, &grid.point(place)))?;
+impl OptimalCosts<'_, '_> {
+    // The optimal cost at the point that is one level higher on this axis. Where there is none, `u128::MAX`.
+    fn cost_above(&self, q: &Point, axis: usize) -> u128
+        requires point { IsPoint self.now.grid q.now }
+        requires axis { axis < self.now.grid.axes }
+        ensures { result ≡ (if nat_lt (slice_index q.now axis + 1) self.now.grid.levels
+            then optimal_cost (costing_tree self.now) (next_point q.now axis)
+            else past_all_costs) }
+    {
+        let grid = self.costing.grid();
+        match grid.successor(q, axis) {
+            Some(next) => self.costs[grid.place_of(&next)],
+            None => u128::MAX,
+        }
     }
-    Ok(beyond)
+
+    // The least optimal cost at the points that are next above one.
+    fn least_above(&self, q: &Point) -> u128
+        requires { IsPoint self.now.grid q.now }
+        ensures { result ≡ cost_beyond (costing_tree self.now) q.now }
+    {
+        let mut least = u128::MAX;
+        for axis in 0..self.costing.grid().axes() {
+            least = least.min(self.cost_above(q, axis));
+        }
+        least
+    }
+
+    // The least costs next above all points.
+    fn costs_beyond(&self, alloc: Global) -> Result<Vec<u128>, AllocError>
+        ensures { IfOk result (λ beyond. beyond.items ≡ costs_beyond (costing_tree self.now)) }
+    {
+        let grid = self.costing.grid();
+        let points = grid.points();
+        let mut beyond = Vec::with_capacity(alloc, points)?;
+        for place in 0..points {
+            beyond.push(self.least_above(&grid.point(place)))?;
+        }
+        Ok(beyond)
+    }
 }
 
 impl<'c> Outlook<'c> {
@@ -116,7 +133,11 @@ impl<'c> Outlook<'c> {
         let _block = costing.block();
         let best = best_at_all_points(alloc, costing)?;
         let costs = optimal_costs(alloc, costing, &best)?;
-        let beyond = costs_beyond(alloc, costing, &costs)?;
+        let known = OptimalCosts {
+            costing: &*costing,
+            costs: costs.as_slice(),
+        };
+        let beyond = known.costs_beyond(alloc)?;
         Ok(Outlook {
             costing,
             best,
@@ -139,14 +160,6 @@ impl<'c> Outlook<'c> {
         ensures grid { IsGrid self.now.grid }
     {
         self.costing.grid().points()
-    }
-
-    /// The optimal cost at the point at this place of the grid, from 0.
-    pub fn cost(&self, place: usize) -> u128
-        requires { place < length (points_of self.now.grid) }
-        ensures { IsOptimalAt (costing_tree self.now) place result }
-    {
-        self.costs[place]
     }
 
     /// The optimal cost at the bottom of the grid.

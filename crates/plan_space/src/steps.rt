@@ -4,7 +4,7 @@ ghost use Rattle.plan_tree.specs.declared.roots.Root.{Root};
 ghost use Rattle.plan_tree.specs.Roots.{IsSplit, Stands};
 ghost use Rattle.cost_model.specs.Prices.{block_at, IsPrice};
 ghost use Rattle.plan_space.specs.Table.{entry_at, side_costs};
-ghost use Rattle.plan_space.specs.Search.{IsFilledBelow, IsFound};
+ghost use Rattle.plan_space.specs.Search.{IsFound};
 ghost use Rattle.plan_space.specs.Steps.{Considers, IsByLeft};
 
 use crate::entry::{Entry, keep};
@@ -36,23 +36,7 @@ impl<'s> Model for Search<'s> {
         (record { at = s.prices.now; table = s.table.now; set = s.set }) };
 }
 
-/// The entry of a set.
-pub(crate) fn entry_at(table: &[Entry; 64], set: Subset) -> Entry
-    requires { set < 64 }
-    ensures { result ≡ entry_at table.now set }
-{
-    table[set.number() as usize]
-}
-
-impl<'s> Search<'s> {
-    /// The search for the entry of this set, in this table.
-    pub(crate) fn new(prices: &'s Prices<'s>, table: &'s [Entry; 64], set: Subset) -> Search<'s>
-        requires { IsFilledBelow (record { at = prices.now; table = table.now; set = set }) }
-        ensures { result ≡ record { at = prices.now; table = table.now; set = set } }
-    {
-        Search { prices, table, set }
-    }
-
+impl Search<'_> {
     // What the plan of a side of the set costs.
     fn side_cost(&self, side: Subset) -> u128
         requires some { 1 ≤ side }
@@ -60,7 +44,7 @@ impl<'s> Search<'s> {
         ensures cost { result ≡ (entry_at self.now.table side).cost }
         ensures bound { result + 2 ^ 108 ≤ 2 ^ 108 * (2 * side) }
     {
-        entry_at(self.table, side).cost
+        self.table[side.number() as usize].cost
     }
 
     // What the plans of the sides of a node cost.
@@ -109,12 +93,11 @@ impl<'s> Search<'s> {
         }
     }
 
-    /// Of what was found and a node that costs so much by itself, what is kept.
-    pub(crate) fn consider(&self, root: Root, own: u128, start: Entry) -> Entry
-        requires stands { Stands (block_at self.now.at) root self.now.set }
-        requires own { IsPrice self.now.at root self.now.set own }
-        ensures { Considers self.now (λ node. node ≡ root) start result }
+    /// Of what was found and a node that is offered, what is kept.
+    pub(crate) fn consider(&self, offered: Entry, start: Entry) -> Entry
+        requires { IsFound self.now offered }
+        ensures { Considers self.now (λ node. node ≡ offered.root) start result }
     {
-        keep(start, self.offered(root, own))
+        keep(start, offered)
     }
 }

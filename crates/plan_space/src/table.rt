@@ -9,10 +9,11 @@ ghost use Rattle.plan_space.specs.Alike.{AreEarlier};
 
 use crate::alike::alike_place;
 use crate::entry::Entry;
-use crate::steps::{Search, entry_at};
+use crate::steps::Search;
 use cost_model::Prices;
 use plan_tree::{Root, Subset};
 use sql_values::MAX_AXES;
+use std::marker::Model;
 
 impl Search<'_> {
     // The entry of the set, whose highest relation this is.
@@ -32,46 +33,60 @@ impl Search<'_> {
     }
 }
 
-// The entry of such a set: the one of an earlier point that is alike for it, where there is one.
-fn entry_here(
-    prices: &Prices<'_>,
-    table: &[Entry; 64],
-    inside: &[[bool; MAX_AXES]; 64],
-    rows: &[[Entry; 64]],
-    set: Subset,
-    relation: u8,
-) -> Entry
-    requires filled { IsFilledBelow (record { at = prices.now; table = table.now; set = set }) }
-    requires earlier { AreEarlier prices.now.costing inside.now rows.now }
-    requires highest { IsHighestOf (block_at prices.now) set relation }
-    ensures { IsLeastFound (record { at = prices.now; table = table.now; set = set }) result }
-{
-    let place = alike_place(prices, inside, set);
-    if place < rows.len() {
-        entry_at(&rows[place], set)
-    } else {
-        Search::new(prices, table, set).entry_of(relation)
-    }
+// What the table of a point is filled by: the prices there, which axes are inside which sets, and the entries at the first
+// points of the grid.
+#[derive(Drop)]
+struct Filling<'s> {
+    prices: &'s Prices<'s>,
+    inside: &'s [[bool; MAX_AXES]; 64],
+    rows: &'s [[Entry; 64]],
 }
 
-// The entries of the sets whose highest relation this is.
-fn add_relation(
-    prices: &Prices<'_>,
-    table: &mut [Entry; 64],
-    inside: &[[bool; MAX_AXES]; 64],
-    rows: &[[Entry; 64]],
-    relation: u8,
-)
-    requires earlier { AreEarlier prices.now.costing inside.now rows.now }
-    requires relation { relation < length prices.now.costing.block.relations }
-    requires filled { AreLeast (own_at prices.now) (block_at prices.now) table.old (2 ^ relation) }
-    ensures { AreLeast (own_at prices.now) (block_at prices.now) table.new (2 ^ (relation + 1)) }
-{
-    let _block = prices.block();
-    let alone = Subset::one(relation).number();
-    for rest in 0..alone {
-        let set = alone + rest;
-        table[set as usize] = entry_here(prices, table, inside, rows, Subset::new(set), relation);
+impl<'s> Model for Filling<'s> {
+    ghost use Rattle.query_block.specs.contracts.condition.Condition as condition;
+    ghost use Rattle.std.specs.Coded.{codes};
+    ghost use Rattle.cost_model.specs.Pricing.{Pricing};
+    ghost use Rattle.plan_space.specs.Alike.{AreEarlier};
+
+    ghost Value = { Pricing };
+
+    ghost coded = { Prim.hlevel (codes, condition.the_row.coded) };
+
+    ghost view = { λ f. f.prices.now };
+
+    ghost invariant = { λ f. AreEarlier f.prices.now.costing f.inside.now f.rows.now };
+}
+
+impl Filling<'_> {
+    // The entry of such a set: the one of an earlier point that is alike for it, where there is one.
+    fn entry_here(&self, table: &[Entry; 64], set: Subset, relation: u8) -> Entry
+        requires filled { IsFilledBelow (record { at = self.now; table = table.now; set = set }) }
+        requires highest { IsHighestOf (block_at self.now) set relation }
+        ensures { IsLeastFound (record { at = self.now; table = table.now; set = set }) result }
+    {
+        let rows = self.rows;
+        let place = alike_place(self.prices, self.inside, set);
+        if place < rows.len() {
+            rows[place][set.number() as usize]
+        } else {
+            let prices = self.prices;
+            let search = Search { prices, table, set };
+            search.entry_of(relation)
+        }
+    }
+
+    // The entries of the sets whose highest relation this is.
+    fn add_relation(&self, table: &mut [Entry; 64], relation: u8)
+        requires relation { relation < length self.now.costing.block.relations }
+        requires filled { AreLeast (own_at self.now) (block_at self.now) table.old (2 ^ relation) }
+        ensures { AreLeast (own_at self.now) (block_at self.now) table.new (2 ^ (relation + 1)) }
+    {
+        let _block = self.prices.block();
+        let alone = Subset::one(relation).number();
+        for rest in 0..alone {
+            let set = alone + rest;
+            table[set as usize] = self.entry_here(table, Subset::new(set), relation);
+        }
     }
 }
 
@@ -90,8 +105,13 @@ pub(crate) fn filled(
         cost: 0,
         root: Root::Scan(0),
     }; 64];
+    let filling = Filling {
+        prices,
+        inside,
+        rows,
+    };
     for relation in 0..prices.block().relations().len() {
-        add_relation(prices, &mut table, inside, rows, relation as u8);
+        filling.add_relation(&mut table, relation as u8);
     }
     table
 }

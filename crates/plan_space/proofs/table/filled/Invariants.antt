@@ -4,4 +4,4 @@ use Rattle.cost_model.specs.Prices.{own_at, block_at}
 use Rattle.plan_space.proofs.table.filled.Given as goal
 
 abbrev pub invariant-loop-relation : goal.invariant-loop-relation
-invariant-loop-relation l = AreLeast (own_at l.prices) (block_at l.prices) l.table (2 ^ l.relation)
+invariant-loop-relation l = AreLeast (own_at l.fn.prices) (block_at l.fn.prices) l.table (2 ^ l.relation)

@@ -1,11 +1,26 @@
+use Rattle.std.proofs.Common.{◌-◌, ◌∙◌, ap, inl, inr, arith}
+use Rattle.plan_tree.proofs.Bits.{lowest-alone}
+use Rattle.plan_space.specs.Search.{SearchShape}
 use Rattle.plan_space.specs.Steps.{IsByEdge, IsLookUpBy, IsPairBy}
-use Rattle.plan_space.proofs.Considered.{and-then, of-edge}
+use Rattle.plan_space.proofs.Considered.{and-then, narrow, of-edge, no-look-up}
 use Rattle.plan_space.proofs.steps.Search.by_edge.Goals as goal
+
+pub returns-then-right-relation : goal.returns-then-right-relation
+returns-then-right-relation c =
+    let sought = c.args.self.now in
+    let edge = c.args.edge in
+    let left = c.args.left in
+    let right = c.number-right.ensures ∙ c.without-2.ensures ∙ ap (λ (one : SearchShape). one.set - left) c.self.view_is in
+    narrow sought (IsPairBy edge left) (IsByEdge edge left) c.args.start c.by_pairs-found.result c.by_pairs-found.ensures
+    (λ node group stands. elim (of-edge sought edge left node group) [
+      | inl pair ↦ pair
+      | inr look_up ↦ absurd (no-look-up sought edge left (λ relation is. c.if-right-relation.true (lowest-alone _ relation (right ∙ is) (omega (arith, right)))) node look_up stands)
+    ])
 
 pub returns : goal.returns
 returns c =
     let edge = c.args.edge in
     let left = c.args.left in
     and-then c.args.self.now (IsPairBy edge left) (IsLookUpBy edge left)
-    (IsByEdge edge left) c.args.start c.by_pairs-found.result c.by_look_up.result c.by_pairs-found.ensures c.by_look_up.ensures
+    (IsByEdge edge left) c.args.start c.by_pairs-found.result c.by_relation.result c.by_pairs-found.ensures c.by_relation.ensures
     (λ node group stands. of-edge c.args.self.now edge left node group)

@@ -1,4 +1,4 @@
-use Rattle.std.proofs.Common.{◌≡◌, length, subst}
+use Rattle.std.proofs.Common.{◌≡◌, ◌∙◌, length, ap, subst}
 use Rattle.plan_tree.specs.declared.roots.Root.TheVariants as root
 use Rattle.plan_space.specs.Steps.{Considers, IsByLeft, IsBeforeEdge}
 use Rattle.plan_space.proofs.Considered.{and-then, of-left}
@@ -10,5 +10,6 @@ returns c =
     let left = c.new-left.result in
     subst (λ side. Considers sought (IsByLeft side) c.args.start c.by_edges.result) c.new-left.ensures
     (and-then sought (λ node. node ≡ root.Nest left) (IsBeforeEdge (length sought.at.costing.block.edges) left) (IsByLeft left)
-    c.args.start c.by_nest-found.result c.by_edges.result c.by_nest-found.ensures c.by_edges.ensures
+    c.args.start c.consider-found.result c.by_edges.result
+    (subst (λ one. Considers sought (λ node. node ≡ one) c.args.start c.consider-found.result) (c.offered.ensures.root ∙ ap root.Nest c.number-2.ensures) c.consider-found.ensures) c.by_edges.ensures
     (of-left sought left))

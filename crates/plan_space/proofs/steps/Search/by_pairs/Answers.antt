@@ -11,6 +11,8 @@ returns c =
     let left = c.args.left in
     and-then sought (λ node. node ≡ root.Hash edge left) (λ node. node ≡ root.Merge edge left)
     (IsPairBy edge left) c.args.start c.consider-found.result c.consider.result
-    (subst (λ side. Considers sought (λ node. node ≡ root.Hash edge side) c.args.start c.consider-found.result) c.number-side.ensures c.consider-found.ensures)
-    (subst (λ side. Considers sought (λ node. node ≡ root.Merge edge side) c.consider-found.result c.consider.result) c.number-side.ensures c.consider.ensures)
+    (subst (λ side. Considers sought (λ node. node ≡ root.Hash edge side) c.args.start c.consider-found.result) c.number-side.ensures
+    (subst (λ one. Considers sought (λ node. node ≡ one) c.args.start c.consider-found.result) c.offered.ensures.root c.consider-found.ensures))
+    (subst (λ side. Considers sought (λ node. node ≡ root.Merge edge side) c.consider-found.result c.consider.result) c.number-side.ensures
+    (subst (λ one. Considers sought (λ node. node ≡ one) c.consider-found.result c.consider.result) c.offered-2.ensures.root c.consider.ensures))
     (λ node group stands. group)

@@ -27,5 +27,6 @@ returns c =
     let edge = c.args.edge in
     let left = c.args.left in
     narrow c.args.self.now (λ node. node ≡ root.IndexLoop edge left c.args.relation) (IsLookUpBy edge left) c.args.start c.consider.result
-    (subst (λ side. Considers c.args.self.now (λ node. node ≡ root.IndexLoop edge side c.args.relation) c.args.start c.consider.result) c.number.ensures c.consider.ensures)
+    (subst (λ one. Considers c.args.self.now (λ node. node ≡ one) c.args.start c.consider.result)
+    (c.offered-join.ensures.root ∙ ap (λ side. root.IndexLoop edge side c.args.relation) c.number.ensures) c.consider.ensures)
     (λ node group stands. looked-up c.args.self.now edge left c.args.relation c.requires.relation node group stands)

@@ -4,8 +4,8 @@ use Rattle.ess_grid.specs.Order.{next_point}
 use Rattle.cost_model.specs.Costing.{costing_tree}
 use Rattle.cost_model.specs.Optimal.{optimal_cost}
 use Rattle.plan_space.proofs.Beyond.{least_up_to}
-use Rattle.plan_space.proofs.outlook.least_above.Given as goal
+use Rattle.plan_space.proofs.outlook.OptimalCosts.least_above.Given as goal
 
 abbrev pub invariant-loop-axis : goal.invariant-loop-axis
 invariant-loop-axis l =
-    l.least ≡ least_up_to (λ axis. optimal_cost (costing_tree l.costing) (next_point l.q axis)) (λ axis. nat_lt (slice_index l.q axis + 1) l.costing.grid.levels) l.axis
+    l.least ≡ least_up_to (λ axis. optimal_cost (costing_tree l.self) (next_point l.q axis)) (λ axis. nat_lt (slice_index l.q axis + 1) l.self.grid.levels) l.axis

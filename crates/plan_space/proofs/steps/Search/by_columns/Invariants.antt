@@ -1,6 +1,0 @@
-use Rattle.std.proofs.Common.{take}
-use Rattle.plan_space.specs.Steps.{Considers, IsScanBy}
-use Rattle.plan_space.proofs.steps.Search.by_columns.Given as goal
-
-abbrev pub invariant-loop-i : goal.invariant-loop-i
-invariant-loop-i l = Considers l.self (IsScanBy l.relation (take l.i l.indexes)) l.fn.start l.found
