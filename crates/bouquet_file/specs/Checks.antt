@@ -101,14 +101,14 @@ abbrev pub plan_here : BlockTree → (contour number : ℕ) → (text : List ℕ
 plan_here block contour number text = need (fault.NotAPlan contour number) (plan_with_text block text)
 
 -- the plans of a contour
-abbrev pub plans_at : BlockTree → (contour : ℕ) → (texts : List (List ℕ)) → Checked (List PlanTree)
-plans_at block contour texts = each (plan_here block contour) 1 texts
+abbrev pub plans_of_contour : BlockTree → (contour : ℕ) → (texts : List (List ℕ)) → Checked (List PlanTree)
+plans_of_contour block contour texts = each (plan_here block contour) 1 texts
 
 -- a contour that fits: its cost is one that a bouquet may have, and its texts are those of plans of the block
 abbrev pub contour_at : BlockTree → (number : ℕ) → FileContour → Checked ContourTree
 contour_at block number parts = do
   check (fault.BudgetLimit number) (nat_le parts.cost max_contour_cost)
-  plans ← plans_at block number parts.texts
+  plans ← plans_of_contour block number parts.texts
   pure (record { cost = parts.cost; plans = plans })
 
 abbrev pub contours_at : BlockTree → List FileContour → Checked (List ContourTree)

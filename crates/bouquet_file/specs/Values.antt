@@ -11,8 +11,8 @@ use Rattle.bouquet_file.specs.declared.values.ObjectKind.{ObjectKind}
 use Rattle.bouquet_file.specs.declared.values.ObjectKind.TheVariants.{File, Relation, Contour}
 
 -- the value of a key among the members of an object, as it is seen
-abbrev pub value_at : (key : List ℕ) → List (String Global × Value) → Option Data
-value_at key entries = get_member key (members_view entries)
+abbrev pub value_of_key : (key : List ℕ) → List (String Global × Value) → Option Data
+value_of_key key entries = get_member key (members_view entries)
 
 -- an unsigned whole number
 abbrev pub unsigned : Option Data → Option ℕ

@@ -7,7 +7,7 @@ ghost use Rattle.plan_tree.specs.Plans.{plan_tree};
 ghost use Rattle.plan_tree.specs.Enumerated.{IsPlan};
 ghost use Rattle.bouquet_type.specs.Trees.{IsContour, contour_tree};
 ghost use Rattle.bouquet_file.specs.Steps.{GivesChecked, GivesEach, each};
-ghost use Rattle.bouquet_file.specs.Checks.{cost_in, plan_fits, contour_fits, plan_with_text, plan_here, plans_at, contour_at, contours_at};
+ghost use Rattle.bouquet_file.specs.Checks.{cost_in, plan_fits, contour_fits, plan_with_text, plan_here, plans_of_contour, contour_at, contours_at};
 ghost use Rattle.bouquet_file.specs.Parts.{contour_seen, HasTexts};
 
 use crate::fault::{FieldPath, OpenFault};
@@ -138,7 +138,7 @@ fn plans_of(
 ) -> Result<Vec<Plan>, OpenFault>
     requires { length texts.now ≤ max_points }
     ensures plans { GivesEach plan_tree result
-        (plans_at (block_tree block.now) contour (map (λ text. text.now) texts.now)) }
+        (plans_of_contour (block_tree block.now) contour (map (λ text. text.now) texts.now)) }
     ensures count { IfOk result (λ plans. length plans.items ≡ length texts.now) }
     ensures are_plans { IfOk result
         (λ plans. All (λ p. IsPlan (block_tree block.now) (plan_tree p)) plans.items) }

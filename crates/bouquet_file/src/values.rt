@@ -3,7 +3,7 @@ ghost use Rattle.std.specs.Prelude.{◌≡◌, ◌≤◌, IfSome, bytes_eq, is_s
 ghost use Rattle.std.specs.List.{list_all, list_any};
 ghost use Rattle.serde_json.specs.View.{view, members_view};
 ghost use Rattle.bouquet_file.specs.Steps.{need};
-ghost use Rattle.bouquet_file.specs.Values.{unsigned, within, string_of, list_within, is_key, has_only, has_all, object_of, decimal_number, value_at};
+ghost use Rattle.bouquet_file.specs.Values.{unsigned, within, string_of, list_within, is_key, has_only, has_all, object_of, decimal_number, value_of_key};
 
 use crate::fault::{FieldPath, OpenFault};
 use itoa::Buffer;
@@ -32,14 +32,14 @@ pub(crate) fn need<T: Drop>(value: Option<T>, path: FieldPath) -> Result<T, Open
 
 /// The value of a key.
 pub(crate) fn member<'v>(members: &'v Members, key: &str) -> Option<&'v Value>
-    ensures { option_map (λ v. view v.now) result ≡ value_at key.now members.now.entries }
+    ensures { option_map (λ v. view v.now) result ≡ value_of_key key.now members.now.entries }
 {
     members.get(key)
 }
 
 /// The value of a key, where it is an unsigned whole number.
 pub(crate) fn unsigned_at(members: &Members, key: &str) -> Option<u64>
-    ensures { result ≡ unsigned (value_at key.now members.now.entries) }
+    ensures { result ≡ unsigned (value_of_key key.now members.now.entries) }
 {
     member(members, key)?.as_u64()
 }
@@ -47,7 +47,7 @@ pub(crate) fn unsigned_at(members: &Members, key: &str) -> Option<u64>
 /// The same from the least to the most.
 pub(crate) fn number_at(members: &Members, key: &str, least: u64, most: u64) -> Option<u64>
     ensures value { result
-        ≡ within least most (unsigned (value_at key.now members.now.entries)) }
+        ≡ within least most (unsigned (value_of_key key.now members.now.entries)) }
     ensures least { IfSome result (λ number. least ≤ number) }
     ensures most { IfSome result (λ number. number ≤ most) }
 {
@@ -62,7 +62,7 @@ pub(crate) fn number_at(members: &Members, key: &str, least: u64, most: u64) -> 
 /// The value of a key, where it is a text.
 pub(crate) fn text_at<'v>(members: &'v Members, key: &str) -> Option<&'v str>
     ensures { option_map (λ text. text.now) result
-        ≡ string_of (value_at key.now members.now.entries) }
+        ≡ string_of (value_of_key key.now members.now.entries) }
 {
     member(members, key)?.as_str()
 }
@@ -76,7 +76,7 @@ pub(crate) fn list_at<'v>(
     most: usize,
 ) -> Option<&'v [Value]>
     ensures value { option_map (λ items. map view items.now) result
-        ≡ list_within least most (value_at key.now members.now.entries) }
+        ≡ list_within least most (value_of_key key.now members.now.entries) }
     ensures least { IfSome result (λ items. least ≤ length items.now) }
     ensures most { IfSome result (λ items. length items.now ≤ most) }
 {
@@ -135,7 +135,7 @@ pub(crate) fn has_only(members: &Members, kind: ObjectKind) -> bool
 // Whether it has each of these keys.
 fn has_each(members: &Members, keys: &[&str]) -> bool
     ensures { result ≡ list_all
-        (λ key. is_some (value_at key.now members.now.entries)) keys.now }
+        (λ key. is_some (value_of_key key.now members.now.entries)) keys.now }
 {
     keys.iter().all(|key| member(members, key).is_some())
 }

@@ -59,8 +59,8 @@ LendsRow database old new result words_of =
     (λ lent. LooksAt database old new (words_of lent)))
 
 -- only where it is in its table changes
-abbrev pub MovesOn : (old new : TableReaderState) → Type 0
-MovesOn old new = new ≡ record old { opened = new.opened; page = new.page; slots = new.slots; slot = new.slot }
+abbrev pub MovesWithinTable : (old new : TableReaderState) → Type 0
+MovesWithinTable old new = new ≡ record old { opened = new.opened; page = new.page; slots = new.slots; slot = new.slot }
 
 -- no page of the table is opened yet: all its rows are ahead, and its pages and rows are due
 pub record StartsTable (database : DatabaseState) (number : ℕ) (at : TableReaderState) : Type 0 where
@@ -84,5 +84,5 @@ pub record OpensPage {T E : Type 0} (database : DatabaseState) (old new : TableR
 
 -- it goes on in its table
 pub record ReadsTableOn (database : DatabaseState) (old new : TableReaderState) : Type 0 where
-  pub moves : MovesOn old new
+  pub moves : MovesWithinTable old new
   pub reader : IsTableReader database new

@@ -15,7 +15,7 @@ use Rattle.ess_grid.specs.Refused.{HasBadLevels, HasTooManyPoints}
 use Rattle.table_stats.specs.declared.fault.StatsFault.{StatsFault}
 use Rattle.table_stats.specs.declared.fault.StatsFault.TheVariants as counts
 use Rattle.table_stats.specs.Product.{first_past, row_counts}
-use Rattle.session.specs.Bouquets.{AreLevels, bouquet_due, bouquet_unless, compiled_over, points_refusal, product_refusal, size_refusal}
+use Rattle.session.specs.Bouquets.{AreGridLevels, bouquet_due, bouquet_unless, compiled_over, points_refusal, product_refusal, size_refusal}
 use Rattle.session.specs.Stop.{StopsWhere, stop_of_counts, stop_of_grid}
 use Rattle.session.specs.declared.refusal.Refusal.{Refusal}
 use Rattle.session.specs.declared.refusal.Refusal.TheVariants as refusal
@@ -26,7 +26,7 @@ too_many axes points (Some given) some has =
     let past : nat_lt max_points (given ^ axes) ≡ true = lt-ltb _ _ (subst (λ n. max_points < n) has.are_so_many has.are_too_many) in
     rw past (ap (λ n. Some (refusal.PastLimit limit.Points n)) (sym has.are_so_many))
 
-pub few_points : (axes : ℕ) (levels : Option ℕ) → AreLevels levels → ((points : ℕ) → HasTooManyPoints axes levels points → ⊥) → points_refusal axes levels ≡ None
+pub few_points : (axes : ℕ) (levels : Option ℕ) → AreGridLevels levels → ((points : ℕ) → HasTooManyPoints axes levels points → ⊥) → points_refusal axes levels ≡ None
 few_points axes None are few = refl
 few_points axes (Some given) are few = by (nat_lt max_points (given ^ axes)) refl
   where
@@ -35,11 +35,11 @@ few_points axes (Some given) are few = by (nat_lt max_points (given ^ axes)) ref
     by false past = refl
 
 -- there is no such grid
-pub grid_stops : (holds : Refusal → Type 0) (axes : ℕ) (levels : Option ℕ) (fault : GridFault) → AreLevels levels → (levels ≡ None → ⊥) → ((given : ℕ) → fault ≡ grid.BadLevels given → HasBadLevels levels given)
+pub grid_stops : (holds : Refusal → Type 0) (axes : ℕ) (levels : Option ℕ) (fault : GridFault) → AreGridLevels levels → (levels ≡ None → ⊥) → ((given : ℕ) → fault ≡ grid.BadLevels given → HasBadLevels levels given)
     → ((points : ℕ) → fault ≡ grid.TooManyPoints points → HasTooManyPoints axes levels points) → ((found : Refusal) → points_refusal axes levels ≡ Some found → holds found) → StopsWhere holds (stop_of_grid fault)
 grid_stops holds axes levels (grid.BadLevels given) are some bad many leads =
     let has = bad given refl in
-    let range : (min_levels ≤ given) × (given ≤ max_levels) = subst AreLevels has.are_given are in
+    let range : (min_levels ≤ given) × (given ≤ max_levels) = subst AreGridLevels has.are_given are in
     absurd (elim has.are_bad [ inl low ↦ omega (arith, low, range.0) | inr high ↦ omega (arith, high, range.1) ])
 grid_stops holds axes levels (grid.TooManyPoints points) are some bad many leads = (leads _ (too_many axes points levels some (many points refl)), refl)
 

@@ -33,8 +33,8 @@ pub record IsScriptQuery (query : QueryTree) : Type 0 where
   pub predicates : of_condition predicates_in query.condition ≤ max_script_bytes
 
 -- levels that an axis may have, where they are given
-abbrev pub AreLevels : (levels : Option ℕ) → Type 0
-AreLevels levels = IfSome levels (λ given. (min_levels ≤ given) × (given ≤ max_levels))
+abbrev pub AreGridLevels : (levels : Option ℕ) → Type 0
+AreGridLevels levels = IfSome levels (λ given. (min_levels ≤ given) × (given ≤ max_levels))
 
 -- what the costs of a block's plans depend on: the counts of its tables, and a grid of its axes, each with so many levels,
 -- or as many as none given say

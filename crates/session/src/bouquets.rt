@@ -11,7 +11,7 @@ ghost use Rattle.exec_pipe.specs.Executions.{AreRowsOf};
 ghost use Rattle.bouquet_type.specs.Trees.{bouquet_tree};
 ghost use Rattle.bouquet_type.specs.Sound.{IsSound};
 ghost use Rattle.bouquet_type.specs.Reports.{told_end};
-ghost use Rattle.session.specs.Bouquets.{AreLevels, GivesBouquet, IsScriptQuery, bouquet_answer, bouquet_due};
+ghost use Rattle.session.specs.Bouquets.{AreGridLevels, GivesBouquet, IsScriptQuery, bouquet_answer, bouquet_due};
 ghost use Rattle.session.specs.Bounds.{RunsWithinBound};
 ghost use Rattle.session.specs.Counted.{HasCountsOf};
 ghost use Rattle.session.specs.Printed.{answer_text, header_of};
@@ -47,7 +47,7 @@ pub(crate) fn bouquet_of(
     threshold: u32,
 ) -> Result<Bouquet, Stop>
     requires query { IsScriptQuery (query_tree query.now) }
-    requires levels { AreLevels levels }
+    requires levels { AreGridLevels levels }
     requires threshold { threshold ≤ max_threshold }
     ensures due { GivesBouquet
         (bouquet_due database.now (query_tree query.now) levels threshold) result }

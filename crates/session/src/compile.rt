@@ -4,7 +4,7 @@ ghost use Rattle.sql_values.specs.Limits.{max_threshold, default_threshold};
 ghost use Rattle.std.specs.Str.{IsUtf8};
 ghost use Rattle.sql_parse.specs.Canonical.{canonical_query};
 ghost use Rattle.sql_parse.specs.Trees.{query_tree};
-ghost use Rattle.session.specs.Bouquets.{AreLevels, IsScriptQuery};
+ghost use Rattle.session.specs.Bouquets.{AreGridLevels, IsScriptQuery};
 ghost use Rattle.session.specs.Compile.{compile_outcome, levels_refusal, threshold_refusal};
 ghost use Rattle.session.specs.Outcome.{RefusesFound};
 ghost use Rattle.session.specs.Returns.{ReturnsFree};
@@ -21,7 +21,7 @@ use std::alloc::Global;
 
 // Levels that no axis has are refused.
 fn check_levels(levels: Option<u64>) -> Result<(), Refusal>
-    ensures range { OnOk result (AreLevels levels) }
+    ensures range { OnOk result (AreGridLevels levels) }
     ensures refuses { RefusesFound (levels_refusal levels) result }
 {
     match levels {

@@ -19,8 +19,8 @@ abbrev pub put_all : Line → List Part → Line
 put_all line parts = fold put line parts
 
 -- the parts are put, unless memory ran out
-abbrev pub Puts : {T E : Type 0} → Result T E → (old new : Line) → List Part → Type 0
-Puts result old new parts = OnOk result (new ≡ put_all old parts)
+abbrev pub PutsParts : {T E : Type 0} → Result T E → (old new : Line) → List Part → Type 0
+PutsParts result old new parts = OnOk result (new ≡ put_all old parts)
 
 -- the keyword before the operand at a place, which isn't before the first
 abbrev pub between : (place : ℕ) → Mark → List Part

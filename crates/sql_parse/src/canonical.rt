@@ -6,7 +6,7 @@ ghost use Rattle.sql_parse.specs.Script.{SpellsStatement, IsSpelled};
 ghost use Rattle.sql_parse.specs.Trees.{StatementTree, statement_tree, query_tree, condition_tree};
 ghost use Rattle.sql_parse.specs.Canonical.{Fixed, listed, in_parentheses, kept_if, column_parts, operand_parts, item_parts, selection_parts, where_parts, query_parts, canonical_query};
 ghost use Rattle.sql_parse.specs.Statements.{canonical};
-ghost use Rattle.sql_parse.specs.Printing.{Puts};
+ghost use Rattle.sql_parse.specs.Printing.{PutsParts};
 ghost use Rattle.sql_parse.specs.declared.mark.Mark.TheVariants as m;
 
 use crate::canonical_condition::condition;
@@ -53,13 +53,13 @@ pub(crate) trait Printed {
     ghost parts: { Self → List Part };
 
     fn print_to(&self, writer: &mut Writer) -> Result<(), AllocError>
-        ensures { Puts result writer.old writer.new (parts self.now) };
+        ensures { PutsParts result writer.old writer.new (parts self.now) };
 }
 
 // One or more, with a comma between each two.
 #[tactic(auto, using(crate::proofs::Written::of_lines))]
 pub(crate) fn print_list<T: Printed>(writer: &mut Writer, items: &[T]) -> Result<(), AllocError>
-    ensures { Puts result writer.old writer.new (listed T.parts items.now) }
+    ensures { PutsParts result writer.old writer.new (listed T.parts items.now) }
 {
     let [first, rest @ ..] = items else {
         return Ok(());
@@ -71,7 +71,7 @@ pub(crate) fn print_list<T: Printed>(writer: &mut Writer, items: &[T]) -> Result
 // Each item with a comma before it.
 #[tactic(auto, using(crate::proofs::Written::of_lines))]
 fn print_more<T: Printed>(writer: &mut Writer, items: &[T]) -> Result<(), AllocError>
-    ensures { Puts result writer.old writer.new
+    ensures { PutsParts result writer.old writer.new
         (flat_map (λ item. Fixed m.Comma ∷ T.parts item) items.now) }
 {
     for item in items {
@@ -87,7 +87,7 @@ pub(crate) fn print_in_parentheses<T: Printed>(
     writer: &mut Writer,
     items: &[T],
 ) -> Result<(), AllocError>
-    ensures { Puts result writer.old writer.new (in_parentheses (listed T.parts items.now)) }
+    ensures { PutsParts result writer.old writer.new (in_parentheses (listed T.parts items.now)) }
 {
     writer.mark(Mark::OpenParen)?;
     print_list(writer, items)?;
@@ -96,7 +96,7 @@ pub(crate) fn print_in_parentheses<T: Printed>(
 
 // Keywords, where they are written.
 pub(crate) fn print_if(writer: &mut Writer, kept: bool, keyword: Mark) -> Result<(), AllocError>
-    ensures { Puts result writer.old writer.new (kept_if kept (keyword ∷ [])) }
+    ensures { PutsParts result writer.old writer.new (kept_if kept (keyword ∷ [])) }
 {
     if kept {
         writer.mark(keyword)?;
@@ -146,7 +146,7 @@ fn print_selection(
     writer: &mut Writer,
     columns: &Option<Sequence<ColRef>>,
 ) -> Result<(), AllocError>
-    ensures { Puts result writer.old writer.new (selection_parts columns.now) }
+    ensures { PutsParts result writer.old writer.new (selection_parts columns.now) }
 {
     match columns {
         None => writer.mark(Mark::Star),
@@ -155,7 +155,7 @@ fn print_selection(
 }
 
 fn print_where(writer: &mut Writer, tree: &Option<Cond>) -> Result<(), AllocError>
-    ensures { Puts result writer.old writer.new
+    ensures { PutsParts result writer.old writer.new
         (where_parts (option_map condition_tree tree.now)) }
 {
     if let Some(tree) = tree {
@@ -167,7 +167,7 @@ fn print_where(writer: &mut Writer, tree: &Option<Cond>) -> Result<(), AllocErro
 
 #[tactic(auto, using(crate::proofs::Written::of_lines))]
 pub(crate) fn print_select(writer: &mut Writer, query: &Query) -> Result<(), AllocError>
-    ensures { Puts result writer.old writer.new (query_parts (query_tree query.now)) }
+    ensures { PutsParts result writer.old writer.new (query_parts (query_tree query.now)) }
 {
     writer.mark(Mark::Select)?;
     print_selection(writer, &query.columns)?;

@@ -3,7 +3,7 @@
 ghost use Rattle.std.specs.Prelude.{◌≡◌, map};
 ghost use Rattle.sql_parse.specs.Trees.{condition_tree, operands, Compare, Between, OneOf, IsNull};
 ghost use Rattle.sql_parse.specs.Canonical.{is_or, is_chain, is_no_predicate, grouped_if, condition_parts, and_parts, or_parts};
-ghost use Rattle.sql_parse.specs.Printing.{Puts, between};
+ghost use Rattle.sql_parse.specs.Printing.{PutsParts, between};
 
 use crate::canonical::{Printed, print_if, print_in_parentheses};
 use crate::mark::Mark;
@@ -16,7 +16,7 @@ use std::alloc::AllocError;
 #[cycle(condition)]
 #[tactic(auto, using(crate::proofs::Written::of_lines))]
 pub(crate) fn condition(writer: &mut Writer, tree: &Cond) -> Result<(), AllocError>
-    ensures { Puts result writer.old writer.new (condition_parts (condition_tree tree.now)) }
+    ensures { PutsParts result writer.old writer.new (condition_parts (condition_tree tree.now)) }
 {
     match tree {
         Cond::Compare(op, left, right) => print_compare(writer, *op, left, right),
@@ -34,7 +34,7 @@ pub(crate) fn condition(writer: &mut Writer, tree: &Cond) -> Result<(), AllocErr
 
 #[tactic(auto, using(crate::proofs::Written::of_lines))]
 fn print_compare(writer: &mut Writer, op: Op, left: &Term, right: &Term) -> Result<(), AllocError>
-    ensures { Puts result writer.old writer.new (condition_parts (Compare op left.now right.now)) }
+    ensures { PutsParts result writer.old writer.new (condition_parts (Compare op left.now right.now)) }
 {
     left.print_to(writer)?;
     writer.operator(op)?;
@@ -49,7 +49,7 @@ fn print_range(
     low: &Term,
     high: &Term,
 ) -> Result<(), AllocError>
-    ensures { Puts result writer.old writer.new
+    ensures { PutsParts result writer.old writer.new
         (condition_parts (Between negated of.now low.now high.now)) }
 {
     of.print_to(writer)?;
@@ -67,7 +67,7 @@ fn print_one_of(
     of: &Term,
     terms: &[Term],
 ) -> Result<(), AllocError>
-    ensures { Puts result writer.old writer.new
+    ensures { PutsParts result writer.old writer.new
         (condition_parts (OneOf negated of.now terms.now)) }
 {
     of.print_to(writer)?;
@@ -78,7 +78,7 @@ fn print_one_of(
 
 #[tactic(auto, using(crate::proofs::Written::of_lines))]
 fn print_null_test(writer: &mut Writer, negated: bool, column: &ColRef) -> Result<(), AllocError>
-    ensures { Puts result writer.old writer.new (condition_parts (IsNull negated column.now)) }
+    ensures { PutsParts result writer.old writer.new (condition_parts (IsNull negated column.now)) }
 {
     column.print_to(writer)?;
     writer.mark(Mark::Is)?;
@@ -90,7 +90,7 @@ fn print_null_test(writer: &mut Writer, negated: bool, column: &ColRef) -> Resul
 #[cycle(condition)]
 #[tactic(auto, using(crate::proofs::Written::of_lines))]
 fn grouped(writer: &mut Writer, is_group: bool, tree: &Cond) -> Result<(), AllocError>
-    ensures { Puts result writer.old writer.new
+    ensures { PutsParts result writer.old writer.new
         (grouped_if is_group (condition_parts (condition_tree tree.now))) }
 {
     if !is_group {
@@ -105,7 +105,7 @@ fn grouped(writer: &mut Writer, is_group: bool, tree: &Cond) -> Result<(), Alloc
 #[cycle(condition)]
 #[tactic(auto, using(crate::proofs::Written::of_lines))]
 fn and_chain(writer: &mut Writer, parts: &[Cond]) -> Result<(), AllocError>
-    ensures { Puts result writer.old writer.new
+    ensures { PutsParts result writer.old writer.new
         (and_parts (operands (map condition_tree parts.now))) }
 {
     for (i, part) in parts.iter().enumerate() {
@@ -119,7 +119,7 @@ fn and_chain(writer: &mut Writer, parts: &[Cond]) -> Result<(), AllocError>
 #[cycle(condition)]
 #[tactic(auto, using(crate::proofs::Written::of_lines))]
 fn or_chain(writer: &mut Writer, parts: &[Cond]) -> Result<(), AllocError>
-    ensures { Puts result writer.old writer.new
+    ensures { PutsParts result writer.old writer.new
         (or_parts (operands (map condition_tree parts.now))) }
 {
     for (i, part) in parts.iter().enumerate() {
@@ -131,7 +131,7 @@ fn or_chain(writer: &mut Writer, parts: &[Cond]) -> Result<(), AllocError>
 
 // Appends the keyword before an operand that isn't the first.
 fn print_between(writer: &mut Writer, place: usize, keyword: Mark) -> Result<(), AllocError>
-    ensures { Puts result writer.old writer.new (between place keyword) }
+    ensures { PutsParts result writer.old writer.new (between place keyword) }
 {
     if place > 0 {
         writer.mark(keyword)?;

@@ -4,7 +4,7 @@
 ghost use Rattle.std.specs.Prelude.{Option, Some, None, length, ◌==◌, if◌then◌else◌};
 ghost use Rattle.sql_parse.specs.Trees.{statement_tree};
 ghost use Rattle.sql_parse.specs.Reading.{Gives, GivesValue, GivesStatement};
-ghost use Rattle.sql_parse.specs.Printing.{Puts};
+ghost use Rattle.sql_parse.specs.Printing.{PutsParts};
 ghost use Rattle.sql_parse.specs.Statements.{create_at, statement_at, statement_of, statement_parts};
 
 mod audit;
@@ -121,7 +121,7 @@ pub(crate) fn whole_statement(alloc: Global, piece: Piece) -> Result<Statement, 
 
 // Appends a statement.
 pub(crate) fn print_statement(writer: &mut Writer, statement: &Statement) -> Result<(), AllocError>
-    ensures { Puts result writer.old writer.new (statement_parts (statement_tree statement.now)) }
+    ensures { PutsParts result writer.old writer.new (statement_parts (statement_tree statement.now)) }
 {
     match statement {
         Statement::CreateTable(table) => print_create_table(writer, table),

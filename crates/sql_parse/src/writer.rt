@@ -3,7 +3,7 @@
 ghost use Rattle.std.specs.Prelude.{◌≡◌, ◌++◌, ◌||◌, [], ◌∷◌, codes, OnOk, if◌then◌else◌};
 ghost use Rattle.sql_lex.specs.Values.{doubled, quoted, comparison_text};
 ghost use Rattle.sql_parse.specs.Canonical.{integer_parts, Fixed, Keyword, Name as NamePart, Number, Text as TextPart, Operator};
-ghost use Rattle.sql_parse.specs.Printing.{Puts, put, nothing};
+ghost use Rattle.sql_parse.specs.Printing.{PutsParts, put, nothing};
 
 use crate::mark::Mark;
 use itoa::Buffer;
@@ -103,7 +103,7 @@ impl Writer {
 
     // A number with a minus sign where it is below 0.
     pub(crate) fn integer(&mut self, integer: i64) -> Result<(), AllocError>
-        ensures { Puts result self.old self.new (integer_parts integer) }
+        ensures { PutsParts result self.old self.new (integer_parts integer) }
     {
         if integer < 0 {
             self.mark(Mark::Minus)?;

@@ -3,7 +3,7 @@
 ghost use Rattle.std.specs.Prelude.{◌∷◌, []};
 ghost use Rattle.sql_parse.specs.Reading.{GivesStatement, number_at};
 ghost use Rattle.sql_parse.specs.Canonical.{Number};
-ghost use Rattle.sql_parse.specs.Printing.{Puts};
+ghost use Rattle.sql_parse.specs.Printing.{PutsParts};
 ghost use Rattle.sql_parse.specs.Statements.Audit.{audit_at, point_parts, audit_parts};
 
 use crate::canonical::{Printed, print_list};
@@ -50,7 +50,7 @@ impl Printed for u64 {
 }
 
 fn print_point(writer: &mut Writer, levels: &[u64]) -> Result<(), AllocError>
-    ensures { Puts result writer.old writer.new (point_parts levels.now) }
+    ensures { PutsParts result writer.old writer.new (point_parts levels.now) }
 {
     if levels.is_empty() {
         return Ok(());
@@ -61,7 +61,7 @@ fn print_point(writer: &mut Writer, levels: &[u64]) -> Result<(), AllocError>
 
 #[tactic(auto, using(crate::proofs::Written::of_lines))]
 pub(crate) fn print_audit(writer: &mut Writer, audit: &AuditDef) -> Result<(), AllocError>
-    ensures { Puts result writer.old writer.new (audit_parts audit.now) }
+    ensures { PutsParts result writer.old writer.new (audit_parts audit.now) }
 {
     writer.keyword(b"AUDIT")?;
     writer.name(&audit.name)?;

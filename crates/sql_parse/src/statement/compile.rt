@@ -3,7 +3,7 @@
 ghost use Rattle.sql_parse.specs.Trees.{statement_tree};
 ghost use Rattle.sql_parse.specs.declared.statement.Statement.TheVariants as code;
 ghost use Rattle.sql_parse.specs.Reading.{GivesValue, GivesStatement};
-ghost use Rattle.sql_parse.specs.Printing.{Puts};
+ghost use Rattle.sql_parse.specs.Printing.{PutsParts};
 ghost use Rattle.sql_parse.specs.Statements.{statement_parts};
 ghost use Rattle.sql_parse.specs.Statements.Compile.{option_at, compile_at, option_parts};
 
@@ -52,7 +52,7 @@ pub(crate) fn compile<'s>(
 }
 
 fn print_option(writer: &mut Writer, keyword: &[u8], number: Option<u64>) -> Result<(), AllocError>
-    ensures { Puts result writer.old writer.new (option_parts keyword.now number) }
+    ensures { PutsParts result writer.old writer.new (option_parts keyword.now number) }
 {
     if let Some(number) = number {
         writer.keyword(keyword)?;
@@ -63,7 +63,7 @@ fn print_option(writer: &mut Writer, keyword: &[u8], number: Option<u64>) -> Res
 
 #[tactic(auto, using(crate::proofs::Written::of_lines))]
 pub(crate) fn print_compile(writer: &mut Writer, compile: &CompileDef) -> Result<(), AllocError>
-    ensures { Puts result writer.old writer.new
+    ensures { PutsParts result writer.old writer.new
         (statement_parts (statement_tree (code.Compile compile.now))) }
 {
     writer.keyword(b"COMPILE")?;

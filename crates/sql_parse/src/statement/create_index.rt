@@ -1,7 +1,7 @@
 // CREATE INDEX.
 
 ghost use Rattle.sql_parse.specs.Reading.{GivesStatement};
-ghost use Rattle.sql_parse.specs.Printing.{Puts};
+ghost use Rattle.sql_parse.specs.Printing.{PutsParts};
 ghost use Rattle.sql_parse.specs.Statements.CreateIndex.{create_index_at, create_index_parts};
 
 use crate::fault::ReadFault;
@@ -35,7 +35,7 @@ pub(crate) fn create_index<'s>(
 }
 
 pub(crate) fn print_create_index(writer: &mut Writer, index: &IndexDef) -> Result<(), AllocError>
-    ensures { Puts result writer.old writer.new (create_index_parts index.now) }
+    ensures { PutsParts result writer.old writer.new (create_index_parts index.now) }
 {
     writer.keyword(b"CREATE")?;
     writer.keyword(b"INDEX")?;

@@ -1,7 +1,7 @@
 // CREATE TABLE.
 
 ghost use Rattle.sql_parse.specs.Reading.{GivesValue, GivesStatement};
-ghost use Rattle.sql_parse.specs.Printing.{Puts};
+ghost use Rattle.sql_parse.specs.Printing.{PutsParts};
 ghost use Rattle.sql_parse.specs.Statements.CreateTable.{varchar_at, column_type_at, column_at, create_table_at, type_parts, definition_parts, create_table_parts};
 
 use crate::canonical::{Printed, print_in_parentheses};
@@ -93,7 +93,7 @@ impl Printed for ColumnDef {
 }
 
 fn print_type(writer: &mut Writer, kind: ColumnType) -> Result<(), AllocError>
-    ensures { Puts result writer.old writer.new (type_parts kind) }
+    ensures { PutsParts result writer.old writer.new (type_parts kind) }
 {
     match kind {
         ColumnType::Integer => writer.mark(Mark::Integer),
@@ -108,7 +108,7 @@ fn print_type(writer: &mut Writer, kind: ColumnType) -> Result<(), AllocError>
 
 #[tactic(auto, using(crate::proofs::Written::of_lines))]
 pub(crate) fn print_create_table(writer: &mut Writer, table: &TableDef) -> Result<(), AllocError>
-    ensures { Puts result writer.old writer.new (create_table_parts table.now) }
+    ensures { PutsParts result writer.old writer.new (create_table_parts table.now) }
 {
     writer.keyword(b"CREATE")?;
     writer.mark(Mark::Table)?;

@@ -1,7 +1,7 @@
 // LOAD.
 
 ghost use Rattle.sql_parse.specs.Reading.{GivesStatement};
-ghost use Rattle.sql_parse.specs.Printing.{Puts};
+ghost use Rattle.sql_parse.specs.Printing.{PutsParts};
 ghost use Rattle.sql_parse.specs.Statements.Load.{load_at, load_parts};
 
 use crate::fault::ReadFault;
@@ -24,7 +24,7 @@ pub(crate) fn load<'s>(alloc: Global, piece: Piece<'s>) -> Result<(Statement, Pi
 }
 
 pub(crate) fn print_load(writer: &mut Writer, load: &LoadDef) -> Result<(), AllocError>
-    ensures { Puts result writer.old writer.new (load_parts load.now) }
+    ensures { PutsParts result writer.old writer.new (load_parts load.now) }
 {
     writer.keyword(b"LOAD")?;
     writer.text(&load.file)?;

@@ -1,6 +1,6 @@
 // A statement of a keyword and a name.
 
-ghost use Rattle.sql_parse.specs.Printing.{Puts};
+ghost use Rattle.sql_parse.specs.Printing.{PutsParts};
 ghost use Rattle.sql_parse.specs.Statements.Named.{named_parts};
 
 use crate::tree::Name;
@@ -12,7 +12,7 @@ pub(crate) fn print_named(
     keyword: &[u8],
     name: &Name,
 ) -> Result<(), AllocError>
-    ensures { Puts result writer.old writer.new (named_parts keyword.now name.now) }
+    ensures { PutsParts result writer.old writer.new (named_parts keyword.now name.now) }
 {
     writer.keyword(keyword)?;
     writer.name(name)

@@ -3,7 +3,7 @@
 ghost use Rattle.sql_parse.specs.Trees.{statement_tree};
 ghost use Rattle.sql_parse.specs.declared.statement.Statement.TheVariants as code;
 ghost use Rattle.sql_parse.specs.Reading.{GivesStatement};
-ghost use Rattle.sql_parse.specs.Printing.{Puts};
+ghost use Rattle.sql_parse.specs.Printing.{PutsParts};
 ghost use Rattle.sql_parse.specs.Statements.{statement_parts};
 ghost use Rattle.sql_parse.specs.Statements.OpenFile.{open_file_at};
 
@@ -35,7 +35,7 @@ pub(crate) fn open_file<'s>(
 
 #[tactic(auto, using(crate::proofs::Written::of_lines))]
 pub(crate) fn print_open_file(writer: &mut Writer, opened: &OpenDef) -> Result<(), AllocError>
-    ensures { Puts result writer.old writer.new
+    ensures { PutsParts result writer.old writer.new
         (statement_parts (statement_tree (code.OpenFile opened.now))) }
 {
     writer.keyword(b"OPEN")?;

@@ -1,7 +1,7 @@
 // SAVE.
 
 ghost use Rattle.sql_parse.specs.Reading.{GivesStatement};
-ghost use Rattle.sql_parse.specs.Printing.{Puts};
+ghost use Rattle.sql_parse.specs.Printing.{PutsParts};
 ghost use Rattle.sql_parse.specs.Statements.SaveFile.{save_file_at, save_file_parts};
 
 use crate::fault::ReadFault;
@@ -27,7 +27,7 @@ pub(crate) fn save_file<'s>(
 }
 
 pub(crate) fn print_save_file(writer: &mut Writer, save: &FileDef) -> Result<(), AllocError>
-    ensures { Puts result writer.old writer.new (save_file_parts save.now) }
+    ensures { PutsParts result writer.old writer.new (save_file_parts save.now) }
 {
     writer.keyword(b"SAVE")?;
     writer.name(&save.name)?;
