@@ -103,7 +103,7 @@ RULES = {
     "done": "every statement was carried out",
     "script": "16777217, for a script of more than 16777216 bytes",
     "most": "It has at most 16777216 bytes.",
-    "words": "Where the arguments are none, nothing is read, the status is 2, and this is printed:",
+    "words": "If the arguments are invalid, nothing is read, the status is 2, and this is printed:",
 }
 
 
