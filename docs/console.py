@@ -8,8 +8,8 @@ with `> ` right behind it continue the command. The lines below, up to the next 
 prints on standard output. Standard error and the status show where the command itself says `2>&1` or `; echo $?`.
 
 All blocks of a document run in their order in one bash, so `cd`, functions and files last. It begins in a folder with fresh
-copies of examples/, tools/, run and crates.txt, and a link to the crates, which are only to be read. `bouquet` on the path is
-the proved program of this checkout, crates/bouquet/out/bouquet. Standard input is empty.
+copies of examples/, tools/, docs/, run and crates.txt, and a link to the crates, which are only to be read. `bouquet` on the
+path is the proved program of this checkout, crates/bouquet/out/bouquet. Standard input is empty.
 
 Each command that prints something else is named by its document and line, with a diff. The status is 1 where there is one,
 where a block can't be read, or where the program isn't there; else 0.
@@ -26,7 +26,7 @@ import tempfile
 
 TOP = pathlib.Path(__file__).resolve().parent.parent
 PROGRAM = pathlib.Path("crates/bouquet/out/bouquet")
-COPIED = ("examples", "tools", "run", "crates.txt")
+COPIED = ("examples", "tools", "docs", "run", "crates.txt")
 FENCE = re.compile(r"\s*(`{3,})(.*)")
 SECONDS = 120
 
