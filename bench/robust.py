@@ -78,11 +78,18 @@ class Asked:
         most = max(self.seconds)
         return 0 if self.timed_out or most >= ASK_AGAIN else 1 if most >= ASK_OFTEN else TIMES_IN_A_ROW
 
+    def middle(self):
+        """None for a time-out."""
+        if not self.timed_out and not self.seconds:
+            sys.exit("robust: a query was answered together with the one before: take more turns")
+        return None if self.timed_out else round(statistics.median(self.seconds), 7)
+
     def take(self, answer):
         if answer is None:
             self.timed_out = True
             return
-        self.seconds.append(answer.seconds)
+        if answer.seconds is not None:
+            self.seconds.append(answer.seconds)
         if answer.marker.re is Bouquet.marker:
             self.report = [it.decode() for it in answer.marker.groups()]
 
@@ -153,7 +160,7 @@ def figures_of_query(query, sides, found, rows):
         "tables": query.text.partition(" FROM ")[2].partition(" WHERE ")[0].count(",") + 1,
         "rows": rows.count(query),
         "report": dict(zip(("work", "runs", "contour", "plan"), ours.report)) if ours and ours.report else None,
-        "seconds": {name: None if it.timed_out else round(statistics.median(it.seconds), 7) for name, it in at.items()},
+        "seconds": {name: it.middle() for name, it in at.items()},
         "all": {name: [round(seconds, 6) for seconds in it.seconds] for name, it in at.items()},
     }
 

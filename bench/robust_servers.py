@@ -43,6 +43,7 @@ SETTINGS = {
     "client_connection_check_interval": "1s",
 }
 
+# An answer's seconds, None where they can't be told; its text; and the match of its marker.
 Answer = collections.namedtuple("Answer", "seconds, text, marker")
 
 
@@ -67,6 +68,7 @@ class Session:
             self.process = subprocess.Popen(words, cwd=folder, stdin=given, stdout=subprocess.PIPE, stderr=self.errors)
         self.arrived = collections.deque()
         self.rest = b""
+        self.begun = False
         self.since = time.perf_counter()
 
     def __enter__(self):
@@ -93,15 +95,17 @@ class Session:
         return self.arrived.popleft()
 
     def take(self, piece, now):
-        """Cuts what has arrived behind each marker. Answers that arrive in one piece share the time."""
+        """Cuts what has arrived behind each marker. Answers that arrive in one piece share the time. Those that arrive with
+        the first one have none, since the time before it went into loading."""
         self.rest += piece
         found = list(self.marker.finditer(self.rest))
         begin = 0
         for it in found:
-            self.arrived.append(Answer((now - self.since) / len(found), self.rest[begin : it.start()].decode(), it))
+            seconds = (now - self.since) / len(found) if self.begun else None
+            self.arrived.append(Answer(seconds, self.rest[begin : it.start()].decode(), it))
             begin = it.end()
         if found:
-            self.rest, self.since = self.rest[begin:], now
+            self.rest, self.since, self.begun = self.rest[begin:], now, True
 
 
 class Side:
@@ -207,7 +211,7 @@ class Postgres(Side):
 
     @staticmethod
     def measured(answer, seconds):
-        """None where the server itself has given up."""
+        """With the time that psql says; None where that is past the limit."""
         took = float(answer.marker[1]) / 1000
         return answer._replace(seconds=took) if took < seconds else None
 
