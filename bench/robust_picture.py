@@ -3,7 +3,7 @@ import html
 import math
 
 WIDTH, LEFT, RIGHT = 960, 268, 60
-TOP, ROW, HEADING = 150, 16, 26
+TOP, ROW, HEADING = 164, 16, 26
 LEAST_SECONDS = 1e-4
 COLOURS = {"bouquet": "#c2410c", "sqlite3": "#1d4ed8", "PostgreSQL": "#15803d"}
 AXIS = ((1e-4, "0.1 ms"), (1e-3, "1 ms"), (1e-2, "10 ms"), (1e-1, "0.1 s"), (1, "1 s"), (10, "10 s"))
@@ -168,9 +168,10 @@ class Scale:
 
 def legend(figures):
     """A line for each side, with its sum and its time-outs."""
+    shift = len(figures.sides) % 2
     for number, side in enumerate(figures.sides):
-        x, y = LEFT + 316 * (number % 2), 60 + 18 * ((number + 1) // 2 if number else 0)
-        x = LEFT if number == 0 else LEFT + 316 * ((number - 1) % 2)
+        line, column = divmod(number + shift, 2)
+        x, y = LEFT + 316 * (column if number else 0), 74 + 18 * line
         lost = sum(figures.timed_out(it, side) for it in figures.queries)
         outs = "no time-out" if lost == 0 else f"{lost} time-out{'s' * (lost > 1)}"
         yield mark(side, x + 5, y - 4)
@@ -233,7 +234,7 @@ def picture(figures):
         element("title", title),
         element("rect", width="100%", height="100%", fill="#ffffff"),
         element("text", title, x=24, y=26, font_size=16, font_weight="bold"),
-        element("text", said, x=24, y=TOP - 46, fill="#666666"),
+        element("text", said, x=24, y=46, fill="#666666"),
         *legend(figures),
         *axis(scale, bottom),
         *drawn,
