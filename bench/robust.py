@@ -78,10 +78,11 @@ class Asked:
         most = max(self.seconds)
         return 0 if self.timed_out or most >= ASK_AGAIN else 1 if most >= ASK_OFTEN else TIMES_IN_A_ROW
 
+    def is_known(self):
+        return self.timed_out or bool(self.seconds)
+
     def middle(self):
         """None for a time-out."""
-        if not self.timed_out and not self.seconds:
-            sys.exit("robust: a query was answered together with the one before: take more turns")
         return None if self.timed_out else round(statistics.median(self.seconds), 7)
 
     def take(self, answer):
@@ -135,14 +136,16 @@ def asked_turn(side, database, asked_queries, found, rows, seconds):
 
 
 def measure(given, sides, databases, asked_queries):
-    """Asks all queries of all sides by turns. Returns what was found, by query and side, and the rows."""
-    found, rows = collections.defaultdict(Asked), Rows()
-    for turn in range(given.repeat):
+    """Asks all queries of all sides by turns, and in more of them while a query's time couldn't be told. Returns what was
+    found, by query and side, and the rows."""
+    found, rows, turn = collections.defaultdict(Asked), Rows(), 0
+    while turn < given.repeat or not all(it.is_known() for it in found.values()):
         for database in databases:
             chosen = [it for it in asked_queries if it.database == database.name]
             for side in sides if chosen else ():
                 print(f"turn {turn + 1}: {database.name}, {side.name}", file=sys.stderr, flush=True)
                 asked_turn(side, database, chosen, found, rows, given.seconds)
+        turn += 1
     return found, rows
 
 
