@@ -60,6 +60,7 @@ from robust_servers import BINARIES, PRAGMAS, SETTINGS, Bouquet, Postgres, Serve
 SIDES = ("bouquet", "sqlite3", "sqlite3-analyze", "postgres", "postgres-analyze")
 ASK_OFTEN, ASK_AGAIN = 1, 10
 TIMES_IN_A_ROW = 3
+MORE_TURNS = 3
 
 Database = collections.namedtuple("Database", "name, folder, tables, data")
 
@@ -136,10 +137,12 @@ def asked_turn(side, database, asked_queries, found, rows, seconds):
 
 
 def measure(given, sides, databases, asked_queries):
-    """Asks all queries of all sides by turns, and in more of them while a query's time couldn't be told. Returns what was
+    """Asks all queries of all sides by turns, and in some more while a query's time couldn't be told. Returns what was
     found, by query and side, and the rows."""
     found, rows, turn = collections.defaultdict(Asked), Rows(), 0
     while turn < given.repeat or not all(it.is_known() for it in found.values()):
+        if turn == given.repeat + MORE_TURNS:
+            sys.exit("robust: the times of some queries can't be told: the machine is too busy")
         for database in databases:
             chosen = [it for it in asked_queries if it.database == database.name]
             for side in sides if chosen else ():

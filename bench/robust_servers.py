@@ -26,6 +26,7 @@ import time
 BINARIES = "/usr/lib/postgresql/15/bin"
 LIFETIME = 7200
 LOADING_SECONDS = 600
+FIRST_TIMES = 20
 PRAGMAS = {"temp_store": "MEMORY"}
 SETTINGS = {
     "shared_buffers": "2GB",
@@ -112,14 +113,16 @@ class Side:
     """What all sides share. `ask` runs queries in their order, in a new session after each that took too long."""
 
     def ask(self, database, first, texts, seconds):
-        """The answers, with None for those that didn't come in these seconds. `first` is asked before, and isn't measured."""
+        """The answers, with None for those that didn't come in these seconds. `first` is asked before, some times so that
+        whoever reads is awake, and isn't measured."""
         answers = []
         while len(answers) < len(texts):
-            words, script = self.session(database, [first, *texts[len(answers) :]])
+            words, script = self.session(database, [first] * FIRST_TIMES + texts[len(answers) :])
             with Session(words, script, database.folder, self.marker) as session:
-                if session.answer(LOADING_SECONDS) is None:
-                    sys.exit(f"robust: {self.name} didn't load {database.name} in {LOADING_SECONDS} s")
                 answer = True
+                for _ in range(FIRST_TIMES):
+                    if session.answer(LOADING_SECONDS) is None:
+                        sys.exit(f"robust: {self.name} didn't load {database.name} in {LOADING_SECONDS} s")
                 while answer is not None and len(answers) < len(texts):
                     answer = session.answer(seconds)
                     answers.append(answer and self.measured(answer, seconds))
