@@ -1,8 +1,8 @@
 #!/usr/bin/env python3
 """Times joins of a film database and of orders beside SQLite and PostgreSQL, without statistics and after ANALYZE.
 
-  python3 bench/robust.py [--scale X] [--seed N] [--repeat N] [--seconds N] [--only WORD] [--sides NAME,..]
-                          [--program PATH] [--json FILE] [--svg FILE]
+  python3 bench/robust.py [--scale X] [--seed N] [--repeat N] [--seconds N] [--minutes N] [--only WORD]
+                          [--sides NAME,..] [--program PATH] [--json FILE] [--svg FILE]
   python3 bench/robust.py --from FILE [--svg FILE] [--first-in FILE] [--all-in FILE]
 
 The proved program is the one that `rt run` left in crates/bouquet/out. The other two are Debian's: apt-get install
@@ -23,7 +23,8 @@ How a query is timed says bench/robust_servers.py: compiling and planning are in
 The sides take turns, `--repeat` times. In the first turn each query is asked once. In each later turn those are asked
 three times in a row that took less than a second, and once those that took less than ten; others aren't asked again. A
 query's time is the middle of all of these. Where no answer has come after `--seconds`, 60, that is a time-out, which
-counts as so many seconds. `--only` takes the queries with this word in their name.
+counts as so many seconds. No turn but the first is begun after `--minutes`, 60. `--only` takes the queries with this
+word in their name.
 
 Printed are tables in Markdown:
 
@@ -33,7 +34,7 @@ Printed are tables in Markdown:
   - of each query: its rows, the time of each side in milliseconds, and bouquet's quotient to the best;
   - of each query: its tables, and the work, the runs and the contour that bouquet prints.
 
---json writes these figures into a file, with all times, the machine, the versions and the settings; --from reads such a
+--json writes these figures into a file after each turn, with all times, the machine, the versions and the settings; --from reads such a
 file, and measures nothing. --svg draws them. --first-in and --all-in look whether a document has the first table, or
 all of them.
 
@@ -50,6 +51,7 @@ import re
 import signal
 import statistics
 import sys
+import time
 
 import robust_data
 from beside_sqlite import DATA, PROGRAM, SEED
@@ -83,8 +85,8 @@ class Asked:
         return self.timed_out or bool(self.seconds)
 
     def middle(self):
-        """None for a time-out."""
-        return None if self.timed_out else round(statistics.median(self.seconds), 7)
+        """None for a time-out, and where the time isn't known yet."""
+        return None if self.timed_out or not self.seconds else round(statistics.median(self.seconds), 7)
 
     def take(self, answer):
         if answer is None:
@@ -137,19 +139,21 @@ def asked_turn(side, database, asked_queries, found, rows, seconds):
 
 
 def measure(given, sides, databases, asked_queries):
-    """Asks all queries of all sides by turns, and in some more while a query's time couldn't be told. Returns what was
-    found, by query and side, and the rows."""
-    found, rows, turn = collections.defaultdict(Asked), Rows(), 0
+    """Asks all queries of all sides by turns, and in some more while a query's time couldn't be told. After each turn this
+    yields what was found, by query and side, the rows, and how many turns there were."""
+    found, rows, turn, begun = collections.defaultdict(Asked), Rows(), 0, time.monotonic()
     while turn < given.repeat or not all(it.is_known() for it in found.values()):
         if turn == given.repeat + MORE_TURNS:
             sys.exit("robust: the times of some queries can't be told: the machine is too busy")
+        if turn and time.monotonic() - begun > given.minutes * 60:
+            return
+        turn += 1
         for database in databases:
             chosen = [it for it in asked_queries if it.database == database.name]
             for side in sides if chosen else ():
-                print(f"turn {turn + 1}: {database.name}, {side.name}", file=sys.stderr, flush=True)
+                print(f"{time.monotonic() - begun:4.0f} s, turn {turn}: {database.name}, {side.name}", file=sys.stderr, flush=True)
                 asked_turn(side, database, chosen, found, rows, given.seconds)
-        turn += 1
-    return found, rows
+        yield found, rows, turn
 
 
 def processor():
@@ -171,41 +175,49 @@ def figures_of_query(query, sides, found, rows):
     }
 
 
+def made_sides(given, server):
+    makers = {
+        "bouquet": lambda: Bouquet(given.program),
+        "sqlite3": lambda: Sqlite(False),
+        "sqlite3-analyze": lambda: Sqlite(True),
+        "postgres": lambda: Postgres(False, server),
+        "postgres-analyze": lambda: Postgres(True, server),
+    }
+    return [makers[name]() for name in given.sides]
+
+
 def measured_figures(given):
-    """Makes the data, measures, and returns all figures."""
+    """Makes the data, measures, and yields all figures after each turn."""
     databases = list(made_databases(given))
     asked_queries = [it for it in queries({it.name: it.data.names() for it in databases}) if given.only in it.name]
     if not asked_queries:
         sys.exit(f"robust: no query has {given.only} in its name")
     served = any(it.startswith("postgres") for it in given.sides)
     with Server() if served else contextlib.nullcontext() as server:
-        makers = dict(zip(SIDES, (
-            lambda: Bouquet(given.program),
-            lambda: Sqlite(False),
-            lambda: Sqlite(True),
-            lambda: Postgres(False, server),
-            lambda: Postgres(True, server),
-        )))
-        sides = [makers[name]() for name in given.sides]
+        sides = made_sides(given, server)
         for side in sides:
             for database in databases:
                 side.prepare(database)
-        found, rows = measure(given, sides, databases, asked_queries)
-    return {
-        "machine": processor(),
-        "versions": {
-            "sqlite3": finished(["sqlite3", "--version"]).split()[0],
-            "PostgreSQL": finished([os.path.join(BINARIES, "postgres"), "--version"]).split()[2],
-        },
-        "settings": {"PostgreSQL": SETTINGS, "sqlite3": PRAGMAS},
-        "scale": given.scale,
-        "seed": given.seed,
-        "repeat": given.repeat,
-        "limit": given.seconds,
-        "rows": {it.name: rows_of_files(it) for it in databases},
-        "sides": [it.name for it in sides],
-        "queries": [figures_of_query(it, sides, found, rows) for it in asked_queries],
-    }
+        for found, rows, turns in measure(given, sides, databases, asked_queries):
+            yield {
+                "machine": processor(),
+                "versions": versions(served),
+                "settings": {"PostgreSQL": SETTINGS, "sqlite3": PRAGMAS},
+                "scale": given.scale,
+                "seed": given.seed,
+                "turns": turns,
+                "limit": given.seconds,
+                "rows": {it.name: rows_of_files(it) for it in databases},
+                "sides": [it.name for it in sides],
+                "queries": [figures_of_query(it, sides, found, rows) for it in asked_queries],
+            }
+
+
+def versions(served):
+    found = {"sqlite3": finished(["sqlite3", "--version"]).split()[0]}
+    if served:
+        found["PostgreSQL"] = finished([os.path.join(BINARIES, "postgres"), "--version"]).split()[2]
+    return found
 
 
 def rows_of_files(database):
@@ -234,6 +246,7 @@ def arguments():
     words.add_argument("--seed", type=int, default=SEED)
     words.add_argument("--repeat", type=int, default=3)
     words.add_argument("--seconds", type=float, default=60)
+    words.add_argument("--minutes", type=float, default=60)
     words.add_argument("--only", default="")
     words.add_argument("--sides", type=lambda it: it.split(","), default=list(SIDES))
     words.add_argument("--program", type=os.path.abspath, default=os.path.abspath(PROGRAM))
@@ -243,11 +256,22 @@ def arguments():
     words.add_argument("--first-in")
     words.add_argument("--all-in")
     given = words.parse_args()
+    if given.repeat < 1:
+        words.error("at least one turn is needed")
     if unknown := set(given.sides) - set(SIDES):
         words.error(f"no side {', '.join(sorted(unknown))}")
     if not given.figures and "bouquet" in given.sides and not os.path.isfile(given.program):
         words.error(f"there is no program {given.program}")
     return given
+
+
+def write(given, figures):
+    if given.json:
+        with open(given.json, "w") as file:
+            file.write(json.dumps(figures, indent=1) + "\n")
+    if given.svg:
+        with open(given.svg, "w") as file:
+            file.write(picture(figures))
 
 
 def main():
@@ -256,15 +280,13 @@ def main():
     if given.figures:
         with open(given.figures) as file:
             figures = json.load(file)
+        write(given, figures)
     else:
         os.makedirs(DATA, exist_ok=True)
-        figures = measured_figures(given)
+        for figures in measured_figures(given):
+            write(given, figures)
     printed = tables(figures)
     print("\n\n".join(printed))
-    for path, text in ((given.json, lambda: json.dumps(figures, indent=1) + "\n"), (given.svg, lambda: picture(figures))):
-        if path:
-            with open(path, "w") as file:
-                file.write(text())
     missing = missing_tables(given.first_in, printed[:1]) + missing_tables(given.all_in, printed)
     sys.exit(1 if missing else 0)
 

@@ -222,9 +222,9 @@ def picture(figures):
     scale = Scale(figures.limit)
     drawn, bottom = rows(figures, scale)
     height = bottom + 14
-    versions = figures.all["versions"]
+    versions = ", ".join(f"{name} {version}" for name, version in figures.all["versions"].items())
     title = f"{len(figures.queries)} queries of three to six tables: the time of each, by logarithms"
-    said = f"sqlite3 {versions['sqlite3']}, PostgreSQL {versions['PostgreSQL']}; {figures.all['machine']}"
+    said = f"{versions}; {figures.all['machine']}"
     head = (
         f'<svg xmlns="http://www.w3.org/2000/svg" role="img" font-family="DejaVu Sans, Verdana, Arial, sans-serif" '
         f'font-size="12" fill="#222222" width="{WIDTH}" height="{height}" viewBox="0 0 {WIDTH} {height}">'
