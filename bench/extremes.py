@@ -12,10 +12,10 @@ too: `times half` is how many times longer the whole takes. The peak memory is n
 right from a few thousand bytes on.
 
 A run may take 8 GB of address space, 6 GB of memory and 600 seconds. It is a finding where an answer, a status or what
-is left in the folder differs; where it is out of memory; where something is written to standard error; where a run of
-more than 0.1 s takes more than 2.6 times as long as half of it; and where the memory is more than 64 MB and 8 times the
-input. The status is 1 where there is one. A full disk is a small tmpfs, which needs root to mount it; without, that
-trial is left out.
+is left in the folder differs; where it is out of memory; where standard error has anything but the one line that is due
+from status 2 on; where a run of more than 0.1 s takes more than 2.6 times as long as half of it; and where the memory
+is more than 64 MB and 8 times the input. The status is 1 where there is one. A full disk is a small tmpfs, which needs
+root to mount it; without, that trial is left out.
 """
 import argparse
 import contextlib
@@ -23,6 +23,7 @@ import dataclasses
 import glob
 import itertools
 import os
+import re
 import resource
 import shutil
 import signal
@@ -100,6 +101,7 @@ RULES = {
     "absent": "A file that isn't there is `E09`. A LOAD or an OPEN of the empty name is `E09` too.",
     "write": "standard output, or a file at a SAVE, failed",
     "beside": "that a write which fails leaves the old file",
+    "replaced": "SAVE replaces only a file that is empty or begins with `{\"bouquet\":`.",
     "done": "every statement was carried out",
     "script": "16777217, for a script of more than 16777216 bytes",
     "most": "It has at most 16777216 bytes.",
@@ -693,6 +695,22 @@ def folder_faults(part):
     def not_written(folder):
         os.chmod(folder, 0o555)
 
+    night = "#!/bin/sh\necho night\n"
+
+    def a_program(folder):
+        with open(os.path.join(folder, "a"), "w") as file:
+            file.write(night)
+        os.chmod(os.path.join(folder, "a"), 0o755)
+
+    def same_program(folder):
+        found = sorted(os.listdir(folder))
+        with open(os.path.join(folder, "a")) as file:
+            held = file.read(), os.fstat(file.fileno()).st_mode & 0o777
+        same = (found, held) == (["a", "good.csv"], (night, 0o755))
+        return None if same else f"the folder has {found}, and the file {held}"
+
+    yield Trial("a program, SAVE", f"{before}{asked['SAVE'][0]}", printed, "replaced", WRITE_FAULT,
+                {"good.csv": "A\n1\n"}, make=a_program, left=same_program)
     yield Trial("a directory that may not be written, SAVE", f"{before}SAVE Q TO 'a';\n", printed, "write", WRITE_FAULT,
                 {"good.csv": "A\n1\n"}, user=NOBODY, make=not_written)
 
@@ -720,7 +738,7 @@ def disk(part):
     numbers = ", ".join(map(str, range(7000)))
     script = f"{table()}COMPILE Q AS SELECT * FROM T WHERE A IN ({numbers});\nSAVE Q TO 'small/q.bq';\nRUN Q;\n"
     printed = "-- load rows=1\n-- compile points=1 contours=1 r=1\n"
-    old = "the old file"
+    old = '{"bouquet":"the old file"}'
 
     def small(folder):
         path = os.path.join(folder, "small")
@@ -805,6 +823,17 @@ def difference(path, answer, whole):
             at += len(part)
         more = file.read(160)
         return f"{more!r} at byte {at}, where nothing more is due" if more else None
+
+
+def wrong_line(path, status):
+    """What standard error has, where that isn't the line of this status from 2 on, and nothing below; else None."""
+    with open(path) as file:
+        said = file.read(1000)
+    if status in range(BAD_WORDS, NO_MEMORY + 1):
+        right = re.fullmatch(rf"bouquet: [a-z ]+ \(docs/ERRORS\.md#status-{status}\)\n", said)
+    else:
+        right = not said
+    return None if right else f"standard error has {said[:200]!r}"
 
 
 def resident(process):
@@ -892,9 +921,7 @@ def run(trial, program):
         if trial.output == "file":
             found.append(difference(output, trial.answer, status not in (NO_MEMORY, -signal.SIGKILL)))
         found.append(trial.left(folder))
-        if os.path.getsize(errors):
-            with open(errors, "rb") as file:
-                found.append(f"standard error has {file.read(200)!r}")
+        found.append(wrong_line(errors, status))
         differs = "; ".join(filter(None, found)) or None
         return differs, usage.ru_utime + usage.ru_stime, usage.ru_maxrss * 1024, size
     finally:

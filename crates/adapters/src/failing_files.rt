@@ -9,6 +9,8 @@ use std::rt::Files;
 /// What goes wrong.
 #[derive(Clone, Copy, PartialEq, Eq)]
 pub(crate) enum Wrong {
+    /// Nothing can be read of a file.
+    Read,
     /// A write takes the first byte, and the next one fails.
     Write,
     /// The rights of a file can't be set.
@@ -29,11 +31,13 @@ fn failure() -> io::Error {
     io::Error::from(ErrorKind::StorageFull)
 }
 
-/// Files of which one thing goes wrong.
+/// Files of which one thing goes wrong. Where that is the end of the process, nothing is removed behind it, so the files
+/// are left as by one that was killed there.
 #[derive(Drop)]
 pub(crate) struct FailingFiles<'a, R: Files> {
     pub(crate) files: &'a R,
     pub(crate) wrong: Wrong,
+    pub(crate) killed: bool,
 }
 
 /// A file of these.
@@ -55,6 +59,7 @@ impl<F: Drop> FailingFile<F> {
 
 impl<F: Read + Drop> Read for FailingFile<F> {
     fn read(&mut self, buf: &mut [u8]) -> io::Result<usize> {
+        self.check(Wrong::Read)?;
         self.file.read(buf)
     }
 }
@@ -154,6 +159,9 @@ impl<'a, R: Files> Files for FailingFiles<'a, R> {
     }
 
     fn remove_file(&self, path: &str) -> io::Result<()> {
+        if self.killed {
+            return Err(failure());
+        }
         self.files.remove_file(path)
     }
 

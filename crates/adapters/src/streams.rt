@@ -79,20 +79,24 @@ static WRITES: [&[Turn]; 5] = [
     &[Turn::Moves(3), BROKEN],
 ];
 
-// What a put of three bytes answers, and how many bytes were written and how many of them flushed.
+// What a put of three bytes answers, what bytes were written and how many of them flushed, and whether the sink says that
+// it failed.
 fn put_line(alloc: Global, turns: &[Turn]) -> Result<String, Fail> {
     let mut writer = TurnWriter {
         turns,
         bytes: Vec::new(alloc),
         flushed: 0,
     };
-    let answer = match WriterSink::new(&mut writer).put(b"abc") {
+    let mut sink = WriterSink::new(&mut writer);
+    let answer = match sink.put(b"abc") {
         Ok(()) => "done",
         Err(PutFault::Failed) => "failed",
         Err(PutFault::NoMemory) => "no memory",
     };
+    let failed = sink.has_failed();
+    drop(sink);
     let written = str::from_utf8(&writer.bytes)?;
-    Ok(format!(in alloc; "{answer} {written} {}\n", writer.flushed)?)
+    Ok(format!(in alloc; "{answer} {written} {} {failed}\n", writer.flushed)?)
 }
 
 #[test]
@@ -104,7 +108,8 @@ fn a_sink_over_a_writer_appends_flushes_and_fails(rt: HostRuntime) -> Result<(),
     }
     assert_eq!(rt;
         found.as_str(),
-        "done abc 3\ndone abc 3\nfailed a 0\nfailed ab 0\nfailed abc 0\n"
+        "done abc 3 false\ndone abc 3 false\nfailed a 0 true\nfailed ab 0 true\n\
+         failed abc 0 true\n"
     );
     Ok(())
 }
@@ -131,6 +136,7 @@ fn a_source_over_a_reader_gives_bytes_and_failures(rt: HostRuntime) -> Result<()
         ],
         bytes: b"abcd",
     });
+    let before = source.has_failed();
     let mut room = [0u8; 2];
     let mut found = String::new(alloc);
     for _ in 0..5 {
@@ -140,6 +146,7 @@ fn a_source_over_a_reader_gives_bytes_and_failures(rt: HostRuntime) -> Result<()
         found.as_str(),
         "1 97 0\nfailed 97 0\n2 98 99\n1 100 99\n0 100 99\n"
     );
+    assert!(rt; !before && source.has_failed());
     Ok(())
 }
 

@@ -1,9 +1,10 @@
 //! `bouquet`: a script on standard input, the files of the working directory, answers on standard output.
 //! It gathers the arguments, makes the adapters and an empty book and calls `serve`, whose status is the one that it ends
-//! with. It never looks at a byte of a script, a file or an answer.
+//! with. From status 2 on a line on standard error says what failed. It never looks at a byte of a script, a file or an
+//! answer.
 #![tactic(auto)]
 
-ghost use Rattle.std.specs.Prelude.{◌≡◌};
+ghost use Rattle.std.specs.Prelude.{◌≡◌, ◌≤◌, ◌↔◌, IsSome};
 ghost use Rattle.std.specs.Process.{exit_status};
 ghost use Rattle.shell.specs.Serve.{exit_number};
 
@@ -13,7 +14,7 @@ use shell::{Status, serve};
 use std::alloc::Global;
 use std::io::ErrorKind;
 use std::process::ExitCode;
-use std::{env, io};
+use std::{env, io, process};
 
 // The status where the arguments themselves can't be had, as where one isn't UTF-8.
 const NO_WORDS: u8 = 6;
@@ -32,14 +33,47 @@ fn exit_code(status: Status) -> ExitCode
     ExitCode::from(status.number())
 }
 
+// What failed, in words, where a run ends with a status from 2 on.
+fn failure_of<P: Print>(
+    status: Status,
+    source: &StdSource,
+    sink: &StdSink<'_, P>,
+) -> Option<&'static str>
+    ensures { IsSome result ↔ (2 ≤ exit_number status) }
+{
+    match status {
+        Status::Done | Status::Refused => None,
+        Status::BadWords => Some("the arguments are not a command line"),
+        Status::ReadFault if source.has_failed() => Some("standard input could not be read"),
+        Status::ReadFault => Some("a file could not be read"),
+        Status::WriteFault if sink.has_failed() => Some("standard output could not be written"),
+        Status::WriteFault => Some("a file could not be written"),
+        Status::NoMemory => Some("out of memory"),
+    }
+}
+
+// The line for people. Whatever comes of it, the status stays.
+fn tell(rt: &HostRuntime, failure: &str, number: u8) {
+    let _ = eprintln!(rt; "bouquet: {failure} (docs/ERRORS.md#status-{number})");
+}
+
+// What the program ends with where its arguments can't be had.
+fn without_words(rt: &HostRuntime, error: &io::Error) -> ExitCode {
+    if error.kind() == ErrorKind::OutOfMemory {
+        tell(rt, "out of memory", Status::NoMemory.number());
+        return exit_code(Status::NoMemory);
+    }
+    tell(rt, "the arguments could not be read", NO_WORDS);
+    ExitCode::from(NO_WORDS)
+}
+
 fn main(rt: HostRuntime) -> ExitCode {
     let words = match words_of(&rt, rt.alloc()) {
         Ok(words) => words,
-        Err(error) if error.kind() == ErrorKind::OutOfMemory => return exit_code(Status::NoMemory),
-        Err(_) => return ExitCode::from(NO_WORDS),
+        Err(error) => return without_words(&rt, &error),
     };
     let mut source = StdSource::new(rt.reader());
-    let mut folder = DirFolder::new(&rt);
+    let mut folder = DirFolder::new(&rt, process::id(rt.process()));
     let mut sink = StdSink::new(io::writer(&rt));
     let mut book = Book::new();
     let status = serve(
@@ -50,5 +84,8 @@ fn main(rt: HostRuntime) -> ExitCode {
         &mut sink,
         &mut book,
     );
+    if let Some(failure) = failure_of(status, &source, &sink) {
+        tell(&rt, failure, status.number());
+    }
     exit_code(status)
 }

@@ -2,6 +2,7 @@ pub mod Limits
 pub mod Count
 pub mod Streams
 pub mod Names
+pub mod Signature
 pub mod Files
 pub mod Calls
 pub mod Memory

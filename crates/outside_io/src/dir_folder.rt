@@ -10,24 +10,29 @@ ghost use Rattle.outside_io.specs.Names.{IsInside};
 use crate::folder::check_len;
 use crate::folder_counts::FolderCounts;
 use crate::name::is_inside;
+use crate::reader_source::read_all;
 use crate::regular::check_regular;
 use crate::replace::replace_file;
 use crate::{FileFault, Folder, MAX_FILE_BYTES};
 use std::alloc::Global;
+use std::fs;
 use std::fs::OpenFile;
 use std::io::Read;
 use std::marker::Model;
 use std::rt::Files;
-use std::{fs, io};
 
 /// The folder of a directory's files: a name is looked up where the program runs.
 ///
 /// A name that leads out of the directory is a failure: one that begins with '/', that has the
 /// component '..' between its slashes, or that has a byte 0. So is what is no regular file. A link
 /// in the directory is followed, wherever it leads.
+///
+/// A write replaces nothing but a bouquet's file or an empty one; where another file has the name,
+/// it is a failure.
 #[derive(Drop)]
 pub struct DirFolder<'a, R: Files + Alloc> {
     rt: &'a R,
+    process: u32,
     counts: FolderCounts,
 }
 
@@ -40,16 +45,6 @@ impl<'a, R: Files + Alloc> Model for DirFolder<'a, R> {
     ghost coded = { folder_code };
 
     ghost view = { λ f. unknown_files f.counts.read_faults f.counts.write_faults f.counts.misses };
-}
-
-// All that a reader has left, of which so many bytes are expected.
-fn read_all<R: Read + Drop>(alloc: Global, mut reader: R, expected: u64) -> io::Result<Vec<u8>>
-    ensures { IfOk result (λ bytes. IfSome (R.remaining reader) (λ left. bytes.items ≡ left)) }
-{
-    let mut bytes = Vec::new(alloc);
-    bytes.try_reserve(expected as usize)?;
-    reader.read_to_end(&mut bytes)?;
-    Ok(bytes)
 }
 
 // The bytes of an opened file. Since its name was looked at another file may have taken its place,
@@ -82,7 +77,12 @@ fn read_named<R: Files>(files: &R, alloc: Global, name: &str) -> Result<Vec<u8>,
     read_whole(alloc, fs::open(files, name)?)
 }
 
-fn write_named<R: Files + Alloc>(rt: &R, name: &str, bytes: &[u8]) -> Result<(), FileFault>
+fn write_named<R: Files + Alloc>(
+    rt: &R,
+    process: u32,
+    name: &str,
+    bytes: &[u8],
+) -> Result<(), FileFault>
     ensures kinds { IfErr result (λ e. (e ≡ FileFault.Failed) ⊎ (e ≡ FileFault.NoMemory)) }
     ensures outside { ¬ (IsInside name.now) → IsErrOf result FileFault.Failed }
     ensures no_name { name.now ≡ [] → IsErrOf result FileFault.Failed }
@@ -90,16 +90,18 @@ fn write_named<R: Files + Alloc>(rt: &R, name: &str, bytes: &[u8]) -> Result<(),
     if name.is_empty() || !is_inside(name) {
         return Err(FileFault::Failed);
     }
-    replace_file(rt, name, bytes)
+    replace_file(rt, process, name, bytes)
 }
 
 impl<'a, R: Files + Alloc> DirFolder<'a, R> {
-    /// The files of the working directory.
-    pub fn new(rt: &'a R) -> DirFolder<'a, R>
+    /// The files of the working directory. The number of the process is part of the names of the
+    /// files in the making, so that those of two processes differ.
+    pub fn new(rt: &'a R, process: u32) -> DirFolder<'a, R>
         ensures { result ≡ unknown_files 0 0 0 }
     {
         DirFolder {
             rt,
+            process,
             counts: FolderCounts::new(),
         }
     }
@@ -122,7 +124,8 @@ impl<'a, R: Files + Alloc> Folder for DirFolder<'a, R> {
     }
 
     /// The bytes are put into a new file, which then takes the place of the old one, so that a write
-    /// which fails leaves that whole.
+    /// which fails, or is killed, leaves that whole. The old one has to be empty, or to begin as a
+    /// bouquet's file does.
     fn write(&mut self, name: &str, bytes: &[u8]) -> Result<(), FileFault>
         ensures written { OnOk result (self.new.files
             ≡ option_map (λ files. with_file files name.now bytes.now) self.old.files) }
@@ -136,7 +139,7 @@ impl<'a, R: Files + Alloc> Folder for DirFolder<'a, R> {
         ensures outside { ¬ (IsInside name.now) → IsErrOf result FileFault.Failed }
         ensures no_name { name.now ≡ [] → IsErrOf result FileFault.Failed }
     {
-        let outcome = write_named(self.rt, name, bytes);
+        let outcome = write_named(self.rt, self.process, name, bytes);
         self.counts.count_write(&outcome);
         outcome
     }

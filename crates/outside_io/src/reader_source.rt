@@ -1,11 +1,12 @@
 // A source over any reader. It relies on what the reader's trait says of the bytes that are left,
 // and it never gives a failure as the end.
 ghost use Rattle.std.specs.Prelude.{◌≡◌, ◌≤◌, ◌<◌, ◌↔◌, [], take, length};
-ghost use Rattle.std.specs.Prelude.{IfOk, IsErr, OnErr, IfSome};
+ghost use Rattle.std.specs.Prelude.{IfOk, IsErr, OnErr, IfSome, IsTrue};
 ghost use Rattle.std.specs.Io.KnownBytes.{Consumes, Keeps, ReadConsumes};
 ghost use Rattle.outside_io.specs.Count.{HasCause, CountsEach};
 
 use crate::{Failed, Source};
+use std::alloc::Allocator;
 use std::io;
 use std::io::{ErrorKind, Read, StdinLock};
 use std::marker::Model;
@@ -46,6 +47,20 @@ fn read_some<R: Read>(reader: &mut R, into: &mut [u8]) -> io::Result<usize>
     Err(io::Error::from(ErrorKind::Interrupted))
 }
 
+// All that a reader has left, of which so many bytes are expected.
+pub(crate) fn read_all<R: Read + Drop, A: Allocator>(
+    alloc: A,
+    mut reader: R,
+    expected: u64,
+) -> io::Result<Vec<u8, A>>
+    ensures { IfOk result (λ bytes. IfSome (R.remaining reader) (λ left. bytes.items ≡ left)) }
+{
+    let mut bytes = Vec::new(alloc);
+    bytes.try_reserve(expected as usize)?;
+    reader.read_to_end(&mut bytes)?;
+    Ok(bytes)
+}
+
 impl<R: Read + Drop> ReaderSource<R> {
     /// A source of what the reader has left.
     pub fn new(reader: R) -> ReaderSource<R>
@@ -53,6 +68,13 @@ impl<R: Read + Drop> ReaderSource<R> {
         ensures faults { result.faults ≡ 0 }
     {
         ReaderSource { reader, faults: 0 }
+    }
+
+    /// Whether a read has failed.
+    pub fn has_failed(&self) -> bool
+        ensures { IsTrue result ↔ (0 < self.now.faults) }
+    {
+        self.faults > 0
     }
 }
 

@@ -1,32 +1,30 @@
 // Writing a file by way of a new one, which lies beside it and then takes its place. So a write that
 // fails, and a program that ends in the middle of one, leave the old file whole, as far as the
-// system moves a name as a whole. It never writes over a file that isn't the named one.
+// system moves a name as a whole. It never takes the place of a file that is neither empty nor a
+// bouquet's, but for one that another process puts there after the look and before the move.
 ghost use Rattle.std.specs.Prelude.{◌≡◌, ◌⊎◌, IfErr};
 
 use crate::FileFault;
+use crate::part::{is_part_name, new_beside};
 use crate::regular::check_regular;
+use crate::signature::check_replaceable;
 use crate::writer_sink::write_whole;
-use std::fs::{File, OpenFile, OpenOptions, Permissions};
+use std::fs::{OpenFile, OpenOptions, Permissions};
 use std::io::{ErrorKind, Write};
 use std::os::unix::fs::PermissionsExt;
+use std::path::PathBuf;
 use std::rt::Files;
 use std::{fs, io};
 
-// What the name of a new file has behind that of the file whose place it is to take. The first with
-// which no file is there is taken.
-const PART_ENDINGS: [&str; 9] = [
-    ".part", ".part2", ".part3", ".part4", ".part5", ".part6", ".part7", ".part8", ".part9",
-];
-
-// The bits of a mode that say who may read, write and run a file.
-const RIGHTS: u32 = 0o777;
+// The bits of a mode that say who may read and write a file. What was written is never to be run.
+const RIGHTS: u32 = 0o666;
 
 // A new file under a name of its own, the place that it is to take, and the rights that it is to
 // have, where a file stands in that place.
 #[derive(Drop)]
 struct Part<R: Files + Alloc> {
     file: R::File,
-    name: String<R::A>,
+    path: PathBuf<R::A>,
     place: String<R::A>,
     rights: Option<Permissions>,
 }
@@ -48,48 +46,39 @@ fn place_of<R: Files + Alloc>(rt: &R, name: &str) -> io::Result<String<R::A>> {
     Ok(String::from_str(rt.alloc(), name)?)
 }
 
-// The rights of a regular file, which has to be one that may be written.
-fn rights_of<R: Files>(files: &R, name: &str) -> io::Result<Permissions> {
-    let file = OpenOptions::new().write(true).open(files, name)?;
+// The rights of a regular file, which has to be one that may be read, written and replaced. They
+// are without those to run it.
+fn rights_of<R: Files + Alloc>(rt: &R, name: &str) -> io::Result<Permissions> {
+    let file = OpenOptions::new().read(true).write(true).open(rt, name)?;
     let found = file.metadata()?;
     check_regular(&found)?;
+    check_replaceable(rt.alloc(), file)?;
     Ok(Permissions::from_mode(found.permissions().mode() & RIGHTS))
 }
 
 // The rights of the file that stands in the place, or none where nothing stands there.
-fn rights_at<R: Files>(files: &R, place: &str) -> io::Result<Option<Permissions>> {
-    match fs::metadata(files, place) {
+fn rights_at<R: Files + Alloc>(rt: &R, place: &str) -> io::Result<Option<Permissions>> {
+    match fs::metadata(rt, place) {
         Ok(found) => {
             check_regular(&found)?;
-            Ok(Some(rights_of(files, place)?))
+            Ok(Some(rights_of(rt, place)?))
         }
         Err(error) if error.kind() == ErrorKind::NotFound => Ok(None),
         Err(error) => Err(error),
     }
 }
 
-// A new file beside the place, and its name.
-fn new_beside<R: Files + Alloc>(rt: &R, place: &str) -> io::Result<(R::File, String<R::A>)> {
-    for ending in PART_ENDINGS {
-        let mut name = String::from_str(rt.alloc(), place)?;
-        name.push_str(ending)?;
-        match File::create_new(rt, name.as_str()) {
-            Ok(file) => return Ok((file, name)),
-            Err(error) if error.kind() == ErrorKind::AlreadyExists => {}
-            Err(error) => return Err(error),
-        }
-    }
-    Err(io::Error::from(ErrorKind::AlreadyExists))
-}
-
 // All that is done before a byte is written. Where it fails, no file is there that wasn't before.
-fn begin_part<R: Files + Alloc>(rt: &R, name: &str) -> io::Result<Part<R>> {
+fn begin_part<R: Files + Alloc>(rt: &R, process: u32, name: &str) -> io::Result<Part<R>> {
     let place = place_of(rt, name)?;
+    if is_part_name(place.as_str()) {
+        return Err(io::Error::from(ErrorKind::InvalidInput));
+    }
     let rights = rights_at(rt, place.as_str())?;
-    let (file, name) = new_beside(rt, place.as_str())?;
+    let (file, path) = new_beside(rt, process, place.as_str())?;
     Ok(Part {
         file,
-        name,
+        path,
         place,
         rights,
     })
@@ -112,10 +101,10 @@ fn fill<F: OpenFile + Write + Drop>(
 fn finish_part<R: Files + Alloc>(rt: &R, part: Part<R>, bytes: &[u8]) -> io::Result<()> {
     let mut outcome = fill(part.file, part.rights, bytes);
     if outcome.is_ok() {
-        outcome = fs::rename(rt, part.name.as_str(), part.place.as_str());
+        outcome = fs::rename(rt, part.path.as_str(), part.place.as_str());
     }
     if outcome.is_err() {
-        let _ = fs::remove_file(rt, part.name.as_str());
+        let _ = fs::remove_file(rt, part.path.as_str());
     }
     outcome
 }
@@ -130,15 +119,17 @@ fn fault_before(error: &io::Error) -> FileFault
     FileFault::Failed
 }
 
-/// Puts the bytes into the place of the regular file of this name, or where nothing stands.
+/// Puts the bytes into the place of the regular file of this name, which has to be empty or a
+/// bouquet's, or where nothing stands.
 pub(crate) fn replace_file<R: Files + Alloc>(
     rt: &R,
+    process: u32,
     name: &str,
     bytes: &[u8],
 ) -> Result<(), FileFault>
     ensures { IfErr result (λ e. (e ≡ FileFault.Failed) ⊎ (e ≡ FileFault.NoMemory)) }
 {
-    let part = match begin_part(rt, name) {
+    let part = match begin_part(rt, process, name) {
         Ok(part) => part,
         Err(error) => return Err(fault_before(&error)),
     };

@@ -1,7 +1,7 @@
 // A sink over any writer. It relies on what the writer's trait says of the bytes that it holds, and
 // it never returns Ok before the writer has flushed.
-ghost use Rattle.std.specs.Prelude.{◌≡◌, ℕ, ◌<◌, ◌≤◌, take, length};
-ghost use Rattle.std.specs.Prelude.{IfOk, IfErr, OnOk, OnErr, IsErrOf};
+ghost use Rattle.std.specs.Prelude.{◌≡◌, ℕ, ◌<◌, ◌≤◌, ◌↔◌, take, length};
+ghost use Rattle.std.specs.Prelude.{IfOk, IfErr, OnOk, OnErr, IsErrOf, IsTrue};
 ghost use Rattle.std.specs.Io.KnownBytes.{Appends, Keeps, WriteAppends};
 ghost use Rattle.outside_io.specs.Count.{HasCause, CountsEach};
 
@@ -68,6 +68,13 @@ impl<W: Write + Drop> WriterSink<W> {
         ensures faults { result.faults ≡ 0 }
     {
         WriterSink { writer, faults: 0 }
+    }
+
+    /// Whether a put has failed.
+    pub fn has_failed(&self) -> bool
+        ensures { IsTrue result ↔ (0 < self.now.faults) }
+    {
+        self.faults > 0
     }
 }
 

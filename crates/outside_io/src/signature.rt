@@ -1,0 +1,23 @@
+// Which files a write may replace: empty ones, and those that begin as a bouquet's file does. It
+// never reads more of a file than that.
+ghost use Rattle.std.specs.Prelude.{IfOk, IfSome};
+ghost use Rattle.outside_io.specs.Signature.{IsReplaceable};
+
+use crate::reader_source::read_all;
+use std::alloc::Allocator;
+use std::io;
+use std::io::{ErrorKind, Read};
+
+// How the file of a bouquet begins.
+static SIGNATURE: &str = "{\"bouquet\":";
+
+/// Refuses a file that is neither empty nor a bouquet's, by an error that isn't 'not found'.
+pub(crate) fn check_replaceable<F: Read + Drop, A: Allocator>(alloc: A, file: F) -> io::Result<()>
+    ensures { IfOk result (λ _. IfSome (F.remaining file) (λ held. IsReplaceable held)) }
+{
+    let start = read_all(alloc, file.take(11), 11)?;
+    if !start.is_empty() && start.as_slice() != SIGNATURE.as_bytes() {
+        return Err(io::Error::from(ErrorKind::InvalidInput));
+    }
+    Ok(())
+}
