@@ -10,6 +10,7 @@ use Rattle.sql_values.specs.declared.op.Op.TheVariants.{Eq}
 use Rattle.sql_values.specs.declared.value.Value.{Value}
 use Rattle.sql_values.specs.Stored.{ValueRow}
 use Rattle.sql_values.specs.Truth.{truth_and, truth_or, comparison}
+use Rattle.query_block.specs.declared.kind.Kind.{Kind}
 use Rattle.query_block.specs.declared.condition.Operand.{Operand}
 use Rattle.query_block.specs.declared.condition.Condition.{Condition}
 use Rattle.query_block.specs.Conditions.{chain, filter_tree}
@@ -106,20 +107,20 @@ any row = record {
 }
 
 -- each part of a chain that fits the columns fits them
-fits-at : (columns : List ColumnType) (parts : List Condition) (i : ℕ) (d : Condition) → i < length parts → FitColumns columns (chain (map filter_tree parts))
-    → FitsColumns columns (filter_tree (get_or parts i d))
+fits-at : (columns : List ColumnType) (parts : List Condition) (i : ℕ) (d : Condition) → i < length parts → FitColumns [] columns (chain (map filter_tree parts))
+    → FitsColumns [] columns (filter_tree (get_or parts i d))
 fits-at columns [] i d below fit = absurd (omega (arith, below))
 fits-at columns (part ∷ parts) zero d below fit = fit.0
 fits-at columns (part ∷ parts) (suc i) d below fit = fits-at columns parts i d (omega (arith, below)) fit.1
 
 pub part-fits : (columns : List ColumnType) (parts : List Condition) (i : ℕ) (part : Condition) → i < length parts → part ≡ get_or parts i part
-    → FitColumns columns (chain (map filter_tree parts)) → FitsColumns columns (filter_tree part)
-part-fits columns parts i part below is fit = subst (λ one. FitsColumns columns (filter_tree one)) (sym is) (fits-at columns parts i part below fit)
+    → FitColumns [] columns (chain (map filter_tree parts)) → FitsColumns [] columns (filter_tree part)
+part-fits columns parts i part below is fit = subst (λ one. FitsColumns [] columns (filter_tree one)) (sym is) (fits-at columns parts i part below fit)
 
 -- each conjunct of a filter that fits the columns fits them
-pub conjunct-fits : (columns : List ColumnType) (filter : List Condition) (i : ℕ) (conjunct : Condition) → i < length filter → conjunct ≡ get_or filter i conjunct
-    → All (FitsColumns columns) (map filter_tree filter) → FitsColumns columns (filter_tree conjunct)
-conjunct-fits columns filter i conjunct below is fit =
+pub conjunct-fits : (kinds : List Kind) (columns : List ColumnType) (filter : List Condition) (i : ℕ) (conjunct : Condition) → i < length filter → conjunct ≡ get_or filter i conjunct
+    → All (FitsColumns kinds columns) (map filter_tree filter) → FitsColumns kinds columns (filter_tree conjunct)
+conjunct-fits kinds columns filter i conjunct below is fit =
     let there : i < length (map filter_tree filter) = simp length-map below in
-    subst (FitsColumns columns) (get_or-map filter_tree filter i conjunct (filter_tree conjunct) below ∙ ap filter_tree (sym is))
-    (All-get_or (FitsColumns columns) (map filter_tree filter) i (filter_tree conjunct) there fit)
+    subst (FitsColumns kinds columns) (get_or-map filter_tree filter i conjunct (filter_tree conjunct) below ∙ ap filter_tree (sym is))
+    (All-get_or (FitsColumns kinds columns) (map filter_tree filter) i (filter_tree conjunct) there fit)

@@ -1,4 +1,7 @@
 pub mod Relations
+pub mod Fitting
+pub mod PutIn
+pub mod Fixed
 pub mod Words
 pub mod Equality
 pub mod Chains

@@ -4,21 +4,22 @@ use Rattle.std.proofs.lemmas.List.Sums.{sum_by-cons}
 use Rattle.std.proofs.lemmas.List.{get_or-map, length-map, take-map}
 use Rattle.std.proofs.lemmas.List.Elements.{All-nil, All-cons, All-head, All-tail}
 use Rattle.sql_values.specs.Limits.{max_columns}
+use Rattle.query_block.specs.declared.kind.Kind.{Kind}
 use Rattle.query_block.specs.declared.block.Relation.{Relation}
 use Rattle.query_block.specs.Blocks.{RelationTree, relation_tree, IsRelation}
 
 abbrev pub IsNarrow : Relation → Type 0
 IsNarrow relation = length relation.columns ≤ max_columns
 
-pub narrow : (relations : List Relation) → All IsRelation (map relation_tree relations) → All IsNarrow relations
-narrow [] all = All-nil IsNarrow
-narrow (relation ∷ relations) all =
-    All-cons IsNarrow relation relations (All-head IsRelation _ _ all).few (narrow relations (All-tail IsRelation _ _ all))
+pub narrow : (kinds : List Kind) (relations : List Relation) → All (IsRelation kinds) (map relation_tree relations) → All IsNarrow relations
+narrow kinds [] all = All-nil IsNarrow
+narrow kinds (relation ∷ relations) all =
+    All-cons IsNarrow relation relations (All-head (IsRelation kinds) _ _ all).few (narrow kinds relations (All-tail (IsRelation kinds) _ _ all))
 
 abbrev pub words_in : RelationTree → ℕ
 words_in relation = length relation.columns
 
-words-map : (relations : List Relation) → sum_by (λ relation. length relation.columns) relations ≡ sum_by words_in (map relation_tree relations)
+pub words-map : (relations : List Relation) → sum_by (λ relation. length relation.columns) relations ≡ sum_by words_in (map relation_tree relations)
 words-map [] = refl
 words-map (relation ∷ relations) =
     sum_by-cons (λ one. length one.columns) relation relations

@@ -9,7 +9,7 @@ use Rattle.sql_values.specs.Words.{null_word, IsWord, value_of, word_meaning}
 use Rattle.sql_values.specs.Stored.{AreWordsOf, values_of}
 use Rattle.sql_values.specs.Truth.{AreComparable}
 use Rattle.query_block.specs.declared.condition.Operand.{Operand}
-use Rattle.query_block.specs.declared.condition.Operand.TheVariants.{Column, Literal}
+use Rattle.query_block.specs.declared.condition.Operand.TheVariants.{Column, Literal, Parameter}
 use Rattle.query_block.specs.Blocks.{kind_at, holds_texts, is_text, is_text_operand, IsOperand, AreOperands}
 use Rattle.query_block.specs.Truth.{value_at, operand_value}
 
@@ -67,17 +67,18 @@ literal-kind value.Null = tt
 literal-kind (value.Int _) = refl
 literal-kind (value.Text _) = refl
 
-operand-kind : (texts : List (List ℕ)) (columns : List ColumnType) (words : List ℤ) (operand : Operand) → AreWordsOf texts columns words → IsOperand columns operand
-    → IsOfKind (is_text_operand columns operand) (operand_value (values_of texts columns words) operand)
+operand-kind : (texts : List (List ℕ)) (columns : List ColumnType) (words : List ℤ) (operand : Operand) → AreWordsOf texts columns words → IsOperand [] columns operand
+    → IsOfKind (is_text_operand [] columns operand) (operand_value (values_of texts columns words) operand)
 operand-kind texts columns words (Column column) all is =
     subst (IsOfKind (holds_texts (kind_at columns column))) (sym (value-at texts columns words column null_word all is)) (value-kind texts (kind_at columns column) (slice_index_or words column null_word))
 operand-kind texts columns words (Literal literal) all is = literal-kind literal
+operand-kind texts columns words (Parameter number) all is = absurd (omega (arith, is))
 
 -- operands of one kind have values that may be compared
-pub operands-comparable : (texts : List (List ℕ)) (columns : List ColumnType) (words : List ℤ) (a b : Operand) (x y : Value) → AreWordsOf texts columns words → AreOperands columns a b
+pub operands-comparable : (texts : List (List ℕ)) (columns : List ColumnType) (words : List ℤ) (a b : Operand) (x y : Value) → AreWordsOf texts columns words → AreOperands [] columns a b
     → x ≡ operand_value (values_of texts columns words) a → y ≡ operand_value (values_of texts columns words) b → AreComparable x y
 operands-comparable texts columns words a b x y all are is_x is_y =
-    let kind = is_text_operand columns b in
+    let kind = is_text_operand [] columns b in
     comparable kind x y
-    (subst (λ k. IsOfKind k x) are.2 (subst (IsOfKind (is_text_operand columns a)) (sym is_x) (operand-kind texts columns words a all are.0)))
+    (subst (λ k. IsOfKind k x) are.2 (subst (IsOfKind (is_text_operand [] columns a)) (sym is_x) (operand-kind texts columns words a all are.0)))
     (subst (IsOfKind kind) (sym is_y) (operand-kind texts columns words b all are.1))

@@ -36,7 +36,7 @@ row_values row = values_of row.texts.now row.columns.now row.words.now
 abbrev pub IsRow : Row → Type 0
 IsRow row = AreWordsOf row.texts.now row.columns.now row.words.now
 
--- so they may, and a condition fits the columns: its truth on the row may be asked for
+-- so they may, and a condition without parameters fits the columns: its truth on the row may be asked for
 pub record FitsRow (of : Row) (tree : FilterTree) : Type 0 where
   pub row : IsRow of
-  pub fits : FitsColumns of.columns.now tree
+  pub fits : FitsColumns [] of.columns.now tree

@@ -1,4 +1,6 @@
 pub mod Conditions
+pub mod Parameters
+pub mod Values
 pub mod Truth
 pub mod Shape
 pub mod Blocks

@@ -8,17 +8,18 @@ use Rattle.sql_values.specs.declared.value.Value.TheVariants as value
 use Rattle.sql_values.specs.Stored.{ValueRow}
 use Rattle.sql_values.specs.Truth.{truth_and, truth_or, truth_not, certain, comparison, is_null}
 use Rattle.query_block.specs.declared.condition.Operand.{Operand}
-use Rattle.query_block.specs.declared.condition.Operand.TheVariants.{Column, Literal}
+use Rattle.query_block.specs.declared.condition.Operand.TheVariants.{Column, Literal, Parameter}
 use Rattle.query_block.specs.Conditions.{FilterTree, FilterTrees, Compare, Between, OneOf, IsNull, Not, And, Or, NoMore, More}
 
 -- the value of a row in a column
 abbrev pub value_at : ValueRow → ℕ → Value
 value_at row column = slice_index_or row column value.Null
 
--- the value of an operand
+-- the value of an operand; a parameter has none before one is put in its place
 abbrev pub operand_value : ValueRow → Operand → Value
 operand_value row (Column column) = value_at row column
 operand_value row (Literal literal) = literal
+operand_value row (Parameter _) = value.Null
 
 -- x = a OR x = b OR ..
 abbrev pub one_of : ValueRow → Value → List Operand → Truth

@@ -8,6 +8,8 @@ pub enum Operand {
     Column(u8),
     /// A number or a text; never NULL in a block.
     Literal(Value),
+    /// A value that is put in before the block is run: a parameter by its number, from 0 in written order.
+    Parameter(u32),
 }
 
 /// A condition on a row of one relation (SQL-92, 8.12).

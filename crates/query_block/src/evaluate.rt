@@ -1,5 +1,5 @@
 // The truth of a condition on a row. It calls itself for a nested condition alone: a chain is a loop, however long.
-ghost use Rattle.std.specs.Prelude.{◌≡◌, All, map};
+ghost use Rattle.std.specs.Prelude.{◌≡◌, All, [], map};
 ghost use Rattle.sql_values.specs.Stored.{values_of, AreWordsOf};
 ghost use Rattle.query_block.specs.Conditions.{filter_tree, chain, And, Or};
 ghost use Rattle.query_block.specs.Blocks.{FitsColumns};
@@ -62,9 +62,9 @@ fn truth_of_any(parts: &[Condition], row: &Row<'_>) -> Truth
 }
 
 /// The truth of a condition on a row (SQL-92, 8.2 to 8.12). It takes no memory, and as much of the machine's stack as the
-/// condition is nested deep.
+/// condition is nested deep. The condition has no parameter.
 pub fn truth(condition: &Condition, columns: &[ColumnType], row: &[i64], texts: &Texts) -> Truth
-    requires condition { FitsColumns columns.now (filter_tree condition.now) }
+    requires condition { FitsColumns [] columns.now (filter_tree condition.now) }
     requires words { AreWordsOf texts.now columns.now row.now }
     ensures { result
         ≡ truth_of (filter_tree condition.now) (values_of texts.now columns.now row.now) }
@@ -77,14 +77,14 @@ pub fn truth(condition: &Condition, columns: &[ColumnType], row: &[i64], texts: 
     truth_on(condition, &lent)
 }
 
-/// Whether each conjunct of a filter is true on a row, up to the first that isn't.
+/// Whether each conjunct of a filter without parameters is true on a row, up to the first that isn't.
 pub fn meets_filter(
     filter: &[Condition],
     columns: &[ColumnType],
     row: &[i64],
     texts: &Texts,
 ) -> bool
-    requires conjuncts { All (FitsColumns columns.now) (map filter_tree filter.now) }
+    requires conjuncts { All (FitsColumns [] columns.now) (map filter_tree filter.now) }
     requires words { AreWordsOf texts.now columns.now row.now }
     ensures { result
         ≡ meets_filter (map filter_tree filter.now) (values_of texts.now columns.now row.now) }

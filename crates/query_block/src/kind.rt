@@ -4,6 +4,15 @@ ghost use Rattle.query_block.specs.Blocks.{holds_texts};
 
 use sql_values::ColumnType;
 
+/// What a parameter stands for.
+#[derive(Clone, Copy, Debug, PartialEq, Eq)]
+pub enum Kind {
+    /// A number.
+    Integer,
+    /// A text.
+    Text,
+}
+
 /// Whether a column holds texts; else it holds numbers.
 pub fn holds_texts(kind: ColumnType) -> bool
     ensures { result ≡ holds_texts kind }

@@ -12,11 +12,16 @@ mod condition;
 mod edge;
 mod evaluate;
 mod kind;
+mod open;
 mod predicate;
+mod put;
 mod row;
+mod values;
 
-pub use block::{Block, Relation, axis_of_edge};
+pub use block::{Block, Relation, axis_of_edge, blocks_without_parameters_stay};
 pub use condition::{Condition, Operand};
 pub use edge::{ColumnAt, Edge};
 pub use evaluate::{meets_filter, truth};
-pub use kind::holds_texts;
+pub use kind::{Kind, holds_texts};
+pub use open::is_open;
+pub use values::ValueFault;

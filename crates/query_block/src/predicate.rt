@@ -1,5 +1,5 @@
 // The predicates on operands of a row. Nothing here takes memory or calls itself.
-ghost use Rattle.std.specs.Prelude.{◌≡◌};
+ghost use Rattle.std.specs.Prelude.{◌≡◌, []};
 ghost use Rattle.sql_values.specs.Words.{IsWord, value_of};
 ghost use Rattle.sql_values.specs.Truth.{comparison, AreComparable};
 ghost use Rattle.query_block.specs.Blocks.{IsOperand, kind_at};
@@ -43,7 +43,7 @@ fn column_cell<'a>(column: u8, row: &Row<'_>) -> Cell<'a>
 #[inline(always)]
 fn operand_cell<'a>(operand: &'a Operand, row: &Row<'_>) -> Cell<'a>
     requires row { IsRow row.now }
-    requires operand { IsOperand row.now.columns.now operand.now }
+    requires operand { IsOperand [] row.now.columns.now operand.now }
     ensures is { IsCell row.now.texts.now result }
     ensures value { cell_value row.now.texts.now result
         ≡ operand_value (row_values row.now) operand.now }
@@ -55,6 +55,7 @@ fn operand_cell<'a>(operand: &'a Operand, row: &Row<'_>) -> Cell<'a>
             Value::Int(number) => Cell::Int(*number),
             Value::Text(text) => Cell::Text(text.bytes()),
         },
+        Operand::Parameter(_) => unreachable!(),
     }
 }
 
@@ -63,7 +64,7 @@ fn operand_cell<'a>(operand: &'a Operand, row: &Row<'_>) -> Cell<'a>
 fn compare_with(op: Op, left: Cell<'_>, right: &Operand, row: &Row<'_>) -> Truth
     requires row { IsRow row.now }
     requires left { IsCell row.now.texts.now left }
-    requires right { IsOperand row.now.columns.now right.now }
+    requires right { IsOperand [] row.now.columns.now right.now }
     requires kinds { AreComparable (cell_value row.now.texts.now left)
         (operand_value (row_values row.now) right.now) }
     ensures { result ≡ comparison op (cell_value row.now.texts.now left.entry)

@@ -1,4 +1,4 @@
-use Rattle.std.proofs.Common.{rules, ◌≡◌, refl, sym, ap, subst, ◌∙◌}
+use Rattle.std.proofs.Common.{rules, [], ◌≡◌, refl, sym, ap, subst, ◌∙◌}
 use Rattle.std.proofs.lemmas.List.Elements.{All-get_or}
 use Rattle.sql_values.specs.declared.op.Op.TheVariants.{Eq}
 use Rattle.sql_values.specs.declared.truth.Truth.TheVariants as truth
@@ -14,7 +14,7 @@ pub compare_with-requires-clause-kinds : goal.compare_with-requires-clause-kinds
 compare_with-requires-clause-kinds c =
     let row = c.args.row.now in
     let item = c.operand-item.result in
-    let fits = AreOperands row.columns.now c.args.of.now in
+    let fits = AreOperands [] row.columns.now c.args.of.now in
     let are : fits item = subst fits (sym c.operand-item.is) (All-get_or fits c.args.operands.now c.loop-operand.operand-index item c.loop-operand-test.true c.requires.fits.1) in
     operands-comparable row.texts.now row.columns.now row.words.now c.args.of.now item _ _ c.requires.row are c.operand_cell-cell.ensures.value refl
 

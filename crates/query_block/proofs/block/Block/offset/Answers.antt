@@ -7,7 +7,7 @@ use Rattle.query_block.proofs.block.Block.offset.Goals as goal
 
 pub words_of-requires-clause-narrow : goal.words_of-requires-clause-narrow
 words_of-requires-clause-narrow c =
-    All-take IsNarrow c.args.relation _ (subst (All IsNarrow) (sym c.deref.ensures.value) (narrow _ c.self.invariant.relations))
+    All-take IsNarrow c.args.relation _ (subst (All IsNarrow) (sym c.deref.ensures.value) (narrow _ _ c.self.invariant.relations))
 
 pub returns : goal.returns
 returns c =
