@@ -18,3 +18,4 @@ mod PlanCounts
 pub mod Reader
 pub mod MetParts
 pub mod Narrowing
+pub mod PutPlans

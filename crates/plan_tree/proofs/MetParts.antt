@@ -9,7 +9,7 @@ use Rattle.sql_values.specs.declared.value.Value.{Value}
 use Rattle.sql_values.specs.Stored.{ValueRow}
 use Rattle.sql_values.specs.Truth.{comparison, is_null}
 use Rattle.query_block.specs.declared.condition.Operand.{Operand}
-use Rattle.query_block.specs.declared.condition.Operand.TheVariants.{Column, Literal}
+use Rattle.query_block.specs.declared.condition.Operand.TheVariants.{Column, Literal, Parameter}
 use Rattle.query_block.specs.Conditions.{FilterTree, Compare, Between, OneOf, IsNull, Not, And, Or}
 use Rattle.query_block.specs.Truth.{value_at, operand_value, truth_of}
 use Rattle.query_block.specs.Meaning.{is_true, meets_filter}
@@ -27,6 +27,7 @@ compare-some op a b is = (grind arith, grind arith)
 operand-some : (column : ℕ) (operand : Operand) (row : ValueRow) → is_column column operand ≡ true → is_null (operand_value row operand) ≡ false → is_null (value_at row column) ≡ false
 operand-some column (Column other) row same some = ap (λ n. is_null (value_at row n)) (eqb-true column other same) ∙ some
 operand-some column (Literal literal) row same some = cc
+operand-some column (Parameter number) row same some = cc
 
 -- so a conjunct that an index on a column can use isn't true where the column is NULL
 pub usable-some : (columns : List ColumnType) (column : ℕ) (conjunct : FilterTree) (row : ValueRow) → is_usable columns column conjunct ≡ true → is_true (truth_of conjunct row) ≡ true

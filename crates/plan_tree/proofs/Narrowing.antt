@@ -28,7 +28,7 @@ use Rattle.sql_values.specs.Stored.{ValueRow}
 use Rattle.query_block.specs.Conditions.{FilterTree}
 use Rattle.query_block.specs.Blocks.{holds_texts}
 use Rattle.query_block.specs.Meaning.{is_true, meets_filter}
-use Rattle.plan_tree.specs.Usable.{is_range, is_usable}
+use Rattle.plan_tree.specs.Usable.{is_range, is_fixed_usable}
 use Rattle.plan_tree.specs.declared.range.WordRange.{WordRange}
 use Rattle.plan_tree.specs.Ranges.{is_in, passes, turned, IsLiteralOf, Narrows, NarrowsTo}
 
@@ -108,14 +108,14 @@ by-no-code texts kind l old missing text (value.Text t) stored =
     grind (arith, none-in own, other, is_eq-slice_cmp t l)
 
 -- a conjunct that the index can't use narrows nothing
-pub unusable : (texts : List (List ℕ)) (columns : List ColumnType) (column : ℕ) (conjunct : FilterTree) (old : WordRange) → is_usable columns column conjunct ≡ false
+pub unusable : (texts : List (List ℕ)) (columns : List ColumnType) (column : ℕ) (conjunct : FilterTree) (old : WordRange) → is_fixed_usable columns column conjunct ≡ false
     → NarrowsTo texts columns column old old conjunct
 unusable texts columns column conjunct old none row stored = grind (arith, none)
 
 -- one conjunct after another
 pub next-conjunct : (columns : List ColumnType) (column : ℕ) (conjunct : FilterTree) (more : List FilterTree) (row : ValueRow) (old new : Bool)
     → new ≡ (old && passes columns column conjunct row)
-    → (new && meets_filter (filter (is_usable columns column) more) row) ≡ (old && meets_filter (filter (is_usable columns column) (conjunct ∷ more)) row)
+    → (new && meets_filter (filter (is_fixed_usable columns column) more) row) ≡ (old && meets_filter (filter (is_fixed_usable columns column) (conjunct ∷ more)) row)
 next-conjunct columns column conjunct more row old new is = grind arith
 
 -- every word is from the least to the greatest

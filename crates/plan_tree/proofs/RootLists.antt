@@ -1,6 +1,6 @@
 -- The list of a set's outermost nodes has each node that may stand over the set, and no other.
 use Rattle.std.proofs.Common.{◌≡◌, ◌↔◌, inl, inr, ℕ, ◌+◌, ◌-◌, ◌^◌, ◌<◌, max, Bool, true, false, ◌&&◌, ◌||◌, not, List, [], ◌∷◌, ◌++◌, IsTrue, filter, length, bit_and, nat_eq, nat_le, nat_lt, refl, sym, ap, subst, ◌∙◌, if◌then◌else◌, arith}
-use Rattle.std.specs.List.{flat_map, list_any, range_with_len}
+use Rattle.std.specs.List.{list_any, range_with_len}
 use Rattle.std.proofs.lemmas.Bool.{and_parts, and_from, false≢true, eqb-true, eq-eqb, leb-true, le-leb, ltb-true, lt-ltb}
 use Rattle.std.proofs.lemmas.List.{append_assoc}
 use Rattle.std.proofs.lemmas.List.Elements.{filter-append}
@@ -8,7 +8,7 @@ use Rattle.query_block.specs.declared.edge.Edge.{Edge}
 use Rattle.query_block.specs.Blocks.{BlockTree, relation_at}
 use Rattle.plan_tree.specs.declared.roots.Root.{Root}
 use Rattle.plan_tree.specs.declared.roots.Root.TheVariants as root
-use Rattle.plan_tree.specs.Enumerated.{edge_at, is_indexed, has_usable, IsScannable}
+use Rattle.plan_tree.specs.Enumerated.{edge_at, is_indexed, IsScannable}
 use Rattle.plan_tree.specs.Sets.{set_of, is_between}
 use Rattle.plan_tree.specs.Roots.{IsSplit, IsCrossed, IsLookedUp, Stands, is_split, is_crossed, is_scannable, is_looked_up, is_joined, stands}
 use Rattle.plan_tree.specs.AllPlans.{by_each, one_each, end_of_columns, far_end, scans_of, column_scans, index_scans_of, nests_of, joins_by, index_loop_by, candidates, standing, roots_of}

@@ -8,12 +8,13 @@ use Rattle.sql_values.specs.declared.value.Value.{Value}
 use Rattle.sql_values.specs.declared.value.Value.TheVariants as value
 use Rattle.sql_values.specs.Words.{word_of}
 use Rattle.sql_values.specs.Stored.{ValueRow}
+use Rattle.query_block.specs.declared.kind.Kind.{Kind}
 use Rattle.query_block.specs.Conditions.{FilterTree}
 use Rattle.query_block.specs.Truth.{value_at, truth_of}
 use Rattle.query_block.specs.Blocks.{kind_at, holds_texts, is_text, FitsColumns}
 use Rattle.query_block.specs.Picked.{IsStored, Picks}
 use Rattle.query_block.specs.Meaning.{is_true, meets_filter}
-use Rattle.plan_tree.specs.Usable.{is_usable}
+use Rattle.plan_tree.specs.Usable.{is_fixed_usable}
 use Rattle.plan_tree.specs.declared.range.WordRange.{WordRange}
 
 -- whether a word is in the range
@@ -38,9 +39,9 @@ abbrev pub Narrows : List (List ℕ) → ColumnType → (old new : WordRange) �
 Narrows texts kind old new test =
     (v : Value) → IsStored texts kind v → is_in new (word_of texts v) ≡ (is_in old (word_of texts v) && test v)
 
--- whether a row meets a conjunct, if an index on the column can use it
+-- whether a row meets a conjunct, if it has no parameter and an index on the column can use it
 abbrev pub passes : List ColumnType → (column : ℕ) → FilterTree → ValueRow → Bool
-passes columns column conjunct row = not (is_usable columns column conjunct) || is_true (truth_of conjunct row)
+passes columns column conjunct row = not (is_fixed_usable columns column conjunct) || is_true (truth_of conjunct row)
 
 -- the same of the rows that pass a conjunct
 abbrev pub NarrowsTo : List (List ℕ) → List ColumnType → (column : ℕ) → (old new : WordRange) → FilterTree → Type 0
@@ -48,10 +49,10 @@ NarrowsTo texts columns column old new conjunct =
     (row : ValueRow) → IsStored texts (kind_at columns column) (value_at row column)
     → is_in new (word_of texts (value_at row column)) ≡ (is_in old (word_of texts (value_at row column)) && passes columns column conjunct row)
 
--- so it is in columns that fit the conjunct
+-- so it is in columns that fit the conjunct, of whatever kinds the parameters are
 abbrev pub NarrowsBy : List (List ℕ) → (column : ℕ) → (old new : WordRange) → FilterTree → Type 0
 NarrowsBy texts column old new conjunct =
-    (columns : List ColumnType) → FitsColumns columns conjunct → NarrowsTo texts columns column old new conjunct
+    (kinds : List Kind) (columns : List ColumnType) → FitsColumns kinds columns conjunct → NarrowsTo texts columns column old new conjunct
 
 -- of the words of 64 bits a new range has those of the old one that pass a test
 abbrev pub NarrowsWords : (old new : WordRange) → (ℤ → Bool) → Type 0
@@ -61,8 +62,8 @@ NarrowsWords old new test = (word : ℤ) → FitsSigned w64 word → is_in new w
 abbrev pub Finds : List (List ℕ) → List ColumnType → (column : ℕ) → WordRange → List FilterTree → Type 0
 Finds texts columns column range conjuncts = Picks texts columns column range.from range.to (meets_filter conjuncts)
 
--- so it is, in columns that fit some conjuncts, of those that an index on the column can use
+-- so it is, in columns that fit some conjuncts, of those without a parameter that an index on the column can use
 abbrev pub FindsUsable : List (List ℕ) → (column : ℕ) → WordRange → List FilterTree → Type 0
 FindsUsable texts column range conjuncts =
-    (columns : List ColumnType) → All (FitsColumns columns) conjuncts
-    → Finds texts columns column range (filter (is_usable columns column) conjuncts)
+    (kinds : List Kind) (columns : List ColumnType) → All (FitsColumns kinds columns) conjuncts
+    → Finds texts columns column range (filter (is_fixed_usable columns column) conjuncts)

@@ -14,7 +14,7 @@ use Rattle.query_block.specs.Truth.{value_at}
 use Rattle.query_block.specs.Blocks.{RelationTree, BlockTree, relation_at, left_of, right_of}
 use Rattle.query_block.specs.Meaning.{is_true, meets_filter, rows_at, rows_of, value_in}
 use Rattle.plan_tree.specs.Plans.{PlanTree, Scan, IndexScan, Nest, Hash, Merge, IndexLoop, has_leaf}
-use Rattle.plan_tree.specs.Usable.{is_usable}
+use Rattle.plan_tree.specs.Usable.{is_fixed_usable}
 use Rattle.plan_tree.specs.Enumerated.{edge_at, column_on}
 
 -- how many binary digits a number has: none for 0
@@ -33,11 +33,11 @@ pages_in tables relation = pages_of (length relation.columns) (length (table_row
 abbrev pub height_in : List StoredTable → RelationTree → (column : ℕ) → ℕ
 height_in tables relation column = height_of (count_by (λ row. not (is_null (value_at row column))) (table_rows tables relation))
 
--- how many rows an index scan reads: the column isn't NULL and meets every usable conjunct on it
+-- how many rows an index scan reads: the column isn't NULL and meets every usable conjunct on it that has no parameter
 abbrev pub matches_in : List StoredTable → RelationTree → (column : ℕ) → ℕ
 matches_in tables relation column =
     count_by
-    (λ row. not (is_null (value_at row column)) && meets_filter (filter (is_usable relation.columns column) relation.filter) row)
+    (λ row. not (is_null (value_at row column)) && meets_filter (filter (is_fixed_usable relation.columns column) relation.filter) row)
     (table_rows tables relation)
 
 -- how many rows a plan gives: those on which all filters and all edges inside its set are true

@@ -1,5 +1,5 @@
 // The words of a column that an index on it has to look for: those that meet each conjunct of a filter that the index can
-// use. Of texts only one word is looked for.
+// use. A conjunct with a parameter leaves nothing out. Of texts only one word is looked for.
 ghost use Rattle.std.specs.Prelude.{◌≡◌, ◌&&◌, ◌||◌, ℤ, true, not, map, int_le, int_lt};
 ghost use Rattle.std.specs.Ordering.{int_cmp};
 ghost use Rattle.sql_values.specs.declared.column.ColumnType.{ColumnType};
@@ -164,6 +164,7 @@ fn by_compare(
     match left {
         Operand::Column(of) => match right {
             Operand::Column(_) => range,
+            Operand::Parameter(_) => range,
             Operand::Literal(literal) => {
                 if *of != column {
                     return range;
@@ -179,7 +180,9 @@ fn by_compare(
                 by_literal(range, turned(op), literal, texts)
             }
             Operand::Literal(_) => range,
+            Operand::Parameter(_) => range,
         },
+        Operand::Parameter(_) => range,
     }
 }
 
@@ -196,10 +199,13 @@ fn by_between(
 {
     match of {
         Operand::Literal(_) => range,
+        Operand::Parameter(_) => range,
         Operand::Column(of) => match low {
             Operand::Column(_) => range,
+            Operand::Parameter(_) => range,
             Operand::Literal(low) => match high {
                 Operand::Column(_) => range,
+                Operand::Parameter(_) => range,
                 Operand::Literal(high) => {
                     if *of != column {
                         return range;
@@ -226,7 +232,8 @@ fn narrowed(range: WordRange, column: u8, conjunct: &Condition, texts: &Texts) -
     }
 }
 
-/// The words of a column in the rows that meet each conjunct of a filter that an index on the column can use.
+/// The words of a column in the rows that meet each conjunct of a filter that an index on the column can use and that has no
+/// parameter.
 pub fn range_of(column: u8, conjuncts: &[Condition], texts: &Texts) -> WordRange
     ensures { FindsUsable texts.now column result (map filter_tree conjuncts.now) }
 {

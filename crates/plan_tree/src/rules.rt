@@ -1,8 +1,9 @@
 // Which trees are plans of a block. A tree may be of any size and name any numbers, so each number is tested before it
 // leads anywhere.
-ghost use Rattle.std.specs.Prelude.{ℕ, ◌≡◌, ◌↔◌, ◌<◌, ◌≤◌, IsTrue, length};
-ghost use Rattle.query_block.specs.Blocks.{block_tree, relation_at};
-ghost use Rattle.plan_tree.specs.Plans.{plan_tree, has_leaf};
+ghost use Rattle.std.specs.Prelude.{ℕ, ◌≡◌, ◌↔◌, ◌<◌, ◌≤◌, IsTrue, List, length};
+ghost use Rattle.sql_values.specs.declared.value.Value.{Value};
+ghost use Rattle.query_block.specs.Blocks.{BlockTree, block_tree, put_of, relation_at};
+ghost use Rattle.plan_tree.specs.Plans.{PlanTree, plan_tree, has_leaf};
 ghost use Rattle.plan_tree.specs.Enumerated.{AreApart, Crosses, IsIndexed, HasUsable, IsLookUp, IsScannable, IsSubPlan, IsPlan, JoinsAll};
 ghost use Rattle.plan_tree.specs.Sets.{is_between};
 
@@ -126,3 +127,9 @@ pub fn is_plan(block: &Block, p: &Plan) -> bool
 {
     is_sub_plan(block, p) && joins_all(p, block.relations().len())
 }
+
+/// The law of values: whatever values are put in the places of a block's parameters, it has the same plans.
+pub fn values_change_no_plan()
+    ensures { (values : List Value) (block : BlockTree) (p : PlanTree) →
+        IsPlan (put_of values block) p ↔ IsPlan block p }
+{}

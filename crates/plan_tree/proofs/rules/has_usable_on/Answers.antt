@@ -8,4 +8,4 @@ has_usable-requires c =
     let found = c.index-relations-relation.result in
     let is = rw c.relations.ensures.relations at c.index-relations-relation.is in
     subst (λ columns. c.args.column < length columns) (sym c.as_slice.ensures)
-    (indexed-exists relations c.args.relation c.args.column found c.requires.relation is c.relations.ensures.block.relations c.requires.column)
+    (indexed-exists c.args.block.now.parameters relations c.args.relation c.args.column found c.requires.relation is c.relations.ensures.block.relations c.requires.column)
