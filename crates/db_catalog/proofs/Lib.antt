@@ -11,3 +11,4 @@ pub mod Permutations
 pub mod IndexEntries
 pub mod OfRelations
 pub mod Picked
+pub mod PutBlocks

@@ -1,6 +1,6 @@
 -- Refusals of several checks, one after another.
-use Rattle.std.proofs.Common.{◌≡◌, ◌≢◌, ℕ, ◌≤◌, Bool, true, false, Option, Some, None, Result, Ok, Err, refl, sym, ap, ◌∙◌, nat_lt, if◌then◌else◌, true≢false, is_some, option_map, pos, List}
-use Rattle.std.specs.Prelude.{IsErrAnd, OnErr, OnOk, is_err, nat_eq, slice_index_or, [], map}
+use Rattle.std.proofs.Common.{◌≡◌, ◌≢◌, ℕ, ◌≤◌, Bool, true, false, Option, Some, None, Result, Ok, Err, refl, sym, ap, subst, ◌∙◌, nat_lt, if◌then◌else◌, true≢false, is_some, option_map, pos, List}
+use Rattle.std.specs.Prelude.{IsErrAnd, IsSomeAnd, OnErr, OnOk, is_err, nat_eq, slice_index_or, [], map}
 use Rattle.std.specs.List.{list_any}
 use Rattle.sql_values.specs.declared.column.ColumnDef.{ColumnDef}
 use Rattle.std.specs.Str.{bytes_eq}
@@ -11,7 +11,7 @@ use Rattle.std.proofs.lemmas.Bool.{ltb-false}
 use Rattle.sql_values.specs.declared.limit.LimitName.{LimitName}
 use Rattle.db_catalog.specs.declared.fault.DbFault.{DbFault}
 use Rattle.db_catalog.specs.declared.fault.DbFault.TheVariants.{Duplicate, Limit, NoMemory}
-use Rattle.db_catalog.specs.Refused.{Refuses, past, taken, indexed_fault}
+use Rattle.db_catalog.specs.Refused.{Refuses, RefusesExactly, TellsLimit, IsTold, RefusesWhereDue, past, taken, indexed_fault}
 
 -- the first check refuses
 pub refused_first : {T : Type 0} (a b : Option DbFault) (e : DbFault) → (e ≢ NoMemory → a ≡ Some e) → Refuses {T = T} (option_or a b) (Err e)
@@ -25,6 +25,38 @@ not_first a b (Err e) none h = record { answered = tt; refused = λ other. ap (�
 -- a refusal of memory is no refusal of a check
 pub out_of_memory : {T : Type 0} (due : Option DbFault) → Refuses {T = T} due (Err NoMemory)
 out_of_memory due = record { answered = tt; refused = λ other. absurd (other refl) }
+
+-- of calls that take no memory
+pub exact_refuses : {T : Type 0} (due : Option DbFault) (r : Result T DbFault) → RefusesExactly due r → Refuses due r
+exact_refuses due (Ok x) h = record { answered = h; refused = tt }
+exact_refuses due (Err e) h = record { answered = tt; refused = λ _. h }
+
+pub exact_next : {T : Type 0} (a b : Option DbFault) (r : Result T DbFault) → a ≡ None → RefusesExactly b r → RefusesExactly (option_or a b) r
+exact_next a b r none h = subst (λ o. RefusesExactly (option_or o b) r) (sym none) h
+
+-- of calls that take memory for a name alone
+pub due_next : {T : Type 0} (a b : Option DbFault) (r : Result T DbFault) → a ≡ None → RefusesWhereDue b r → RefusesWhereDue (option_or a b) r
+due_next a b r none h = subst (λ o. RefusesWhereDue (option_or o b) r) (sym none) h
+
+pub due_first : {T : Type 0} (a b : Option DbFault) (r : Result T DbFault) (e : DbFault) → IsErrAnd r (λ x. x ≡ e) → a ≡ Some e → RefusesWhereDue (option_or a b) r
+due_first a b (Ok x) e is h = absurd is
+due_first a b (Err x) e is h = subst (λ o. IsSomeAnd (option_or o b) (λ one. IsTold one x)) (ap Some is ∙ sym h) (told_itself x)
+  where
+    told_itself : (e : DbFault) → IsTold e e
+    told_itself (Duplicate name) = λ _. refl
+    told_itself (Limit name value) = refl
+    told_itself NoMemory = refl
+
+pub name_first : (a b : Option DbFault) (name : List ℕ) (e : DbFault) → a ≡ Some (Duplicate name) → (e ≢ NoMemory → e ≡ Duplicate name) → IsSomeAnd (option_or a b) (λ one. IsTold one e)
+name_first a b name e h told = subst (λ o. IsSomeAnd (option_or o b) (λ one. IsTold one e)) (sym h) told
+
+-- a limit that is passed
+pub limit_told : {T : Type 0} (due : Option DbFault) (r : Result T DbFault) (e : DbFault) → IsErrAnd r (λ x. x ≡ e) → due ≡ Some e → TellsLimit due r
+limit_told due (Ok x) e is h = absurd is
+limit_told due (Err x) e is h = λ name value limit. cc
+
+pub no_limit : {P : Type 0} (due : Option DbFault) (name : LimitName) (value : ℕ) → due ≡ None → due ≡ Some (Limit name value) → P
+no_limit due name value none limit = cc
 
 -- no check refuses
 pub neither : (a b : Option DbFault) → option_or a b ≡ None → (a ≡ None) × (b ≡ None)

@@ -1,5 +1,5 @@
 -- When a call refuses: the checks of each, in their order, and the first that fails.
-use Rattle.std.specs.Prelude.{◌≡◌, ◌≢◌, ℕ, ◌+◌, ◌*◌, ◌&&◌, nat_le, nat_lt, List, [], ◌∷◌, ◌++◌, length, map, nat_eq, slice_index_or, sum_by, Option, Some, None, Result, OnOk, IfErr, if◌then◌else◌}
+use Rattle.std.specs.Prelude.{◌≡◌, ◌≢◌, ℕ, ◌+◌, ◌*◌, ◌&&◌, nat_le, nat_lt, List, [], ◌∷◌, ◌++◌, length, map, nat_eq, slice_index_or, sum_by, Option, Some, None, Result, OnOk, IfErr, IsErrAnd, IsSomeAnd, MatchResult, if◌then◌else◌}
 use Rattle.std.specs.List.{list_any}
 use Rattle.std.specs.Option.{option_or}
 use Rattle.sql_values.specs.declared.limit.LimitName.{LimitName}
@@ -18,6 +18,25 @@ use Rattle.db_catalog.specs.Database.{DatabaseState, table_at}
 pub record Refuses {T : Type 0} (due : Option DbFault) (result : Result T DbFault) : Type 0 where
   pub answered : OnOk result (due ≡ None)
   pub refused : IfErr result (λ fault. fault ≢ NoMemory → due ≡ Some fault)
+
+-- a call that takes no memory is refused with the fault that is due, and otherwise it isn't
+abbrev pub RefusesExactly : {T : Type 0} → Option DbFault → Result T DbFault → Type 0
+RefusesExactly due result = MatchResult result (λ _. due ≡ None) (λ fault. due ≡ Some fault)
+
+-- where a limit is passed, that is the refusal, and never want of memory
+abbrev pub TellsLimit : {T : Type 0} → Option DbFault → Result T DbFault → Type 0
+TellsLimit due result =
+    (name : LimitName) (value : ℕ) → due ≡ Some (Limit name value) → IsErrAnd result (λ fault. fault ≡ Limit name value)
+
+-- a fault is told as it is; only for the name that stands already may memory be wanting
+abbrev pub IsTold : DbFault → DbFault → Type 0
+IsTold (Duplicate name) fault = fault ≢ NoMemory → fault ≡ Duplicate name
+IsTold (Limit name value) fault = fault ≡ Limit name value
+IsTold NoMemory fault = fault ≡ NoMemory
+
+-- a check is refused exactly where a fault is due, and tells it
+abbrev pub RefusesWhereDue : {T : Type 0} → Option DbFault → Result T DbFault → Type 0
+RefusesWhereDue due result = MatchResult result (λ _. due ≡ None) (λ fault. IsSomeAnd due (λ one. IsTold one fault))
 
 -- a number past its limit
 abbrev pub past : LimitName → ℕ → ℕ → Option DbFault

@@ -1,7 +1,8 @@
 // The checks before a change: limits, names and columns. None of them changes anything.
 ghost use Rattle.std.specs.Prelude.{◌≡◌, ◌≢◌, ◌<◌, [], map, length};
 ghost use Rattle.sql_values.specs.Dictionary.{has_text};
-ghost use Rattle.db_catalog.specs.Refused.{Refuses, past, column_fault, columns_fault, indexed_fault};
+ghost use Rattle.db_catalog.specs.Refused.{Refuses, RefusesExactly, RefusesWhereDue};
+ghost use Rattle.db_catalog.specs.Refused.{past, column_fault, columns_fault, indexed_fault};
 
 use crate::fault::DbFault;
 use sql_values::{ColumnDef, ColumnType, LimitName, MAX_LENGTH, MIN_LENGTH, Text};
@@ -9,7 +10,7 @@ use std::alloc::Global;
 
 // Refuses a number past its limit.
 pub(crate) fn check_limit(name: LimitName, most: u64, value: u128) -> Result<(), DbFault>
-    ensures { Refuses (past name most value) result }
+    ensures { RefusesExactly (past name most value) result }
 {
     if value > u128::from(most) {
         return Err(DbFault::Limit { name, value });
@@ -41,7 +42,7 @@ fn is_taken(columns: &[ColumnDef], name: &[u8]) -> bool
 
 // Refuses a column whose name stands among those before it, or whose texts have no allowed length.
 fn check_column(alloc: Global, before: &[ColumnDef], column: &ColumnDef) -> Result<(), DbFault>
-    ensures { Refuses (column_fault (map (λ c. c.name) before.now) column.now) result }
+    ensures { RefusesWhereDue (column_fault (map (λ c. c.name) before.now) column.now) result }
 {
     if is_taken(before, column.name.bytes()) {
         return Err(duplicate(alloc, column.name.bytes()));
@@ -59,7 +60,7 @@ fn check_column(alloc: Global, before: &[ColumnDef], column: &ColumnDef) -> Resu
 
 // Refuses columns at the first that can't be.
 pub(crate) fn check_columns(alloc: Global, columns: &[ColumnDef]) -> Result<(), DbFault>
-    ensures { Refuses (columns_fault [] columns.now) result }
+    ensures { RefusesWhereDue (columns_fault [] columns.now) result }
 {
     for i in 0..columns.len() {
         check_column(alloc, &columns[..i], &columns[i])?;

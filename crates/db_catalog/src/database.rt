@@ -11,6 +11,7 @@ ghost use Rattle.db_catalog.specs.Database.{table_at, table_number, FillRows};
 ghost use Rattle.db_catalog.specs.Meter.{table_pages, page_rows};
 ghost use Rattle.db_catalog.specs.Refused.{Refuses, creation_fault, append_fault, index_fault};
 ghost use Rattle.db_catalog.specs.Refused.{room_fault, texts_fault};
+ghost use Rattle.db_catalog.specs.Refused.{RefusesExactly, RefusesWhereDue, TellsLimit};
 ghost use Rattle.db_catalog.specs.Kept.{MeanRows, SameRows, AppendsWords, HasWords, kept_words};
 ghost use Rattle.db_catalog.specs.Kept.{HasColumn, IndexesColumn, IsHeapOf};
 ghost use Rattle.heap_pages.specs.Rows.{cut_rows};
@@ -148,7 +149,7 @@ fn index_column(
 
 // Refuses a dictionary past a limit.
 fn check_texts(texts: &Texts) -> Result<(), DbFault>
-    ensures { Refuses (texts_fault texts.now) result }
+    ensures { RefusesExactly (texts_fault texts.now) result }
 {
     check_limit(LimitName::Texts, MAX_TEXTS, texts.len() as u128)?;
     check_limit(
@@ -181,6 +182,7 @@ impl Database {
         ensures created { let table = new_table name.now columns.now in
             Becomes (with_table self.old table) self.old self.new result }
         ensures refuses { Refuses (creation_fault self.old name.now columns.now) result }
+        ensures limit { TellsLimit (creation_fault self.old name.now columns.now) result }
     {
         self.check_creation(name, columns)?;
         let number = self.tables.len() as u32;
@@ -193,7 +195,7 @@ impl Database {
 
     // The checks of `create_table`.
     fn check_creation(&self, name: &[u8], columns: &[ColumnDef]) -> Result<(), DbFault>
-        ensures { Refuses (creation_fault self.now name.now columns.now) result }
+        ensures { RefusesWhereDue (creation_fault self.now name.now columns.now) result }
     {
         let tables = self.names.len() as u128 + 1;
         check_limit(LimitName::Tables, MAX_TABLES as u64, tables)?;
@@ -262,6 +264,7 @@ impl Database {
         requires whole { batch.row ≡ [] }
         ensures appended { Becomes (with_rows self.old table batch.rows) self.old self.new result }
         ensures refuses { Refuses (append_fault self.old table batch.rows) result }
+        ensures limit { TellsLimit (room_fault self.old table (length batch.rows)) result }
     {
         self.check_room(table, batch.rows)?;
         let Batch {
@@ -284,7 +287,7 @@ impl Database {
     // The checks of an append that need no text.
     fn check_room(&self, table: u32, rows: u64) -> Result<(), DbFault>
         requires { table < length self.now.tables }
-        ensures { Refuses (room_fault self.now table rows) result }
+        ensures { RefusesExactly (room_fault self.now table rows) result }
     {
         let present = self.tables[table as usize].heap.rows();
         check_limit(

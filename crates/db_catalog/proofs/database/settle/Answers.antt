@@ -3,10 +3,10 @@ use Rattle.std.proofs.lemmas.List.{nil_from_length}
 use Rattle.heap_pages.specs.Rows.{cut_rows}
 use Rattle.sql_values.specs.Dictionary.{with_texts, Begins}
 use Rattle.sql_values.proofs.Dictionary.{Begins-with_texts, Begins_itself, take-Begins, length-Begins}
-use Rattle.db_catalog.specs.Refused.{Refuses, texts_fault}
+use Rattle.db_catalog.specs.Refused.{texts_fault}
 use Rattle.db_catalog.specs.Recoded.{recoded_row}
 use Rattle.db_catalog.specs.Kept.{SameRows}
-use Rattle.db_catalog.proofs.Refusals.{handed_on}
+use Rattle.db_catalog.proofs.Refusals.{handed_on, exact_refuses}
 use Rattle.db_catalog.proofs.BatchParts.{map-row_of-Begins, MeanRows-Begins}
 use Rattle.db_catalog.proofs.Recoding.{rows_recoded}
 use Rattle.db_catalog.proofs.Appended.{with_texts-distinct}
@@ -18,7 +18,7 @@ returns-in_err-check_texts-clause-refuses c =
     let none : c.args.texts.now ≡ [] = nil_from_length c.args.texts.now (omega (arith, c.len-before.ensures.count, c.if-before-eq0.true)) in
     let same : with_texts c.args.texts.now c.args.more ≡ c.args.more = ap (λ t. with_texts t c.args.more) none ∙ with_texts-distinct c.args.more c.len-added.ensures.distinct in
     handed_on (texts_fault (with_texts c.args.texts.now c.args.more)) c.from_residual.result c.in_err-check_texts.field-0.0 c.from_residual.ensures.1
-    (subst (λ t. Refuses (texts_fault t) (Err c.in_err-check_texts.field-0.0)) (sym same) c.in_err-check_texts.ensures)
+    (exact_refuses {T = Unit {0}} _ (Err c.in_err-check_texts.field-0.0) (ap texts_fault same ∙ c.in_err-check_texts.ensures))
 
 pub returns-then-before-eq0-clause-texts : goal.returns-then-before-eq0-clause-texts
 returns-then-before-eq0-clause-texts c =
@@ -29,7 +29,7 @@ pub returns-then-before-eq0-clause-refuses : goal.returns-then-before-eq0-clause
 returns-then-before-eq0-clause-refuses c =
     let none : c.args.texts.now ≡ [] = nil_from_length c.args.texts.now (omega (arith, c.len-before.ensures.count, c.if-before-eq0.true)) in
     let same : with_texts c.args.texts.now c.args.more ≡ c.args.more = ap (λ t. with_texts t c.args.more) none ∙ with_texts-distinct c.args.more c.len-added.ensures.distinct in
-    record { answered = ap texts_fault same ∙ c.in_ok-check_texts.ensures.answered; refused = tt }
+    record { answered = ap texts_fault same ∙ c.in_ok-check_texts.ensures; refused = tt }
 
 pub cut-requires : goal.cut-requires
 cut-requires c =

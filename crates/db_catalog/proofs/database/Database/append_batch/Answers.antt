@@ -1,40 +1,48 @@
-use Rattle.std.proofs.Common.{rules, ◌≡◌, ◌^◌, ◌≤◌, ◌∙◌, ◌++◌, ◌<◌, [], sym, ap, subst, length, take, drop, slice_get, None, Err, arith}
+use Rattle.std.proofs.Common.{List, ℕ, ℤ, rules, ◌≡◌, ◌^◌, ◌≤◌, ◌∙◌, ◌++◌, ◌<◌, [], sym, ap, subst, length, take, drop, slice_get, None, Err, arith}
 use Rattle.std.specs.Prelude.{IsSomeAnd}
 use Rattle.std.proofs.lemmas.List.{length-map, take_at}
 use Rattle.sql_values.specs.Dictionary.{with_texts, Begins}
-use Rattle.sql_values.specs.Stored.{row_of, texts_in}
+use Rattle.sql_values.specs.Stored.{ValueRow, row_of, texts_in}
+use Rattle.sql_values.specs.declared.column.ColumnDef.{ColumnDef}
 use Rattle.sql_values.proofs.Dictionary.{Begins-with_texts, Begins_itself, take-Begins, length-Begins}
 use Rattle.heap_pages.specs.Rows.{cut_rows}
 use Rattle.db_catalog.specs.Database.{table_at, with_rows}
 use Rattle.db_catalog.specs.Refused.{Refuses, room_fault, texts_fault}
 use Rattle.db_catalog.specs.Kept.{AreKept, SameRows, AppendsWords, HasWords}
-use Rattle.db_catalog.proofs.Refusals.{not_first, handed_on, handed_on_first, on_err, on_ok}
+use Rattle.db_catalog.proofs.Refusals.{exact_refuses, limit_told, no_limit, not_first, handed_on, handed_on_first, on_err, on_ok}
 use Rattle.db_catalog.proofs.Cut.{long_cut}
 use Rattle.db_catalog.proofs.BatchParts.{rows_of}
 use Rattle.db_catalog.proofs.Tables.{database_of, named, is_kept, has_words}
 use Rattle.db_catalog.proofs.Appended.{batch_texts, batch_appended}
 use Rattle.db_catalog.proofs.database.Database.append_batch.Goals as goal
 
+-- a batch has as many rows as its words are cut into
+counted : (texts : List (List ℕ)) (columns : List ColumnDef) (rows : ℕ) (words : List ℤ) (seen : List ValueRow) → rows_of texts columns rows words ≡ seen → length seen ≡ rows
+counted texts columns rows words seen is =
+    ap length (sym is) ∙ length-map (cut_rows (length columns) rows words) (row_of texts columns) ∙ long_cut (length columns) rows words
+
+pub returns-in_err-check_room-clause-limit : goal.returns-in_err-check_room-clause-limit
+returns-in_err-check_room-clause-limit c =
+    let count = counted c.batch.inside.texts c.batch.inside.columns.items c.batch.inside.rows c.batch.inside.words.items c.args.batch.rows (ap (λ b. b.rows) c.batch.view_is) in
+    limit_told (room_fault c.args.self.now c.args.table (length c.args.batch.rows)) c.from_residual.result c.in_err-check_room.field-0.0 c.from_residual.ensures.1
+    (ap (room_fault c.args.self.now c.args.table) count ∙ c.in_err-check_room.ensures)
+
 pub returns-in_err-check_room-clause-refuses : goal.returns-in_err-check_room-clause-refuses
 returns-in_err-check_room-clause-refuses c =
     let seen_rows : rows_of c.batch.inside.texts c.batch.inside.columns.items c.batch.inside.rows c.batch.inside.words.items ≡ c.args.batch.rows = ap (λ b. b.rows) c.batch.view_is in
-    let count : length c.args.batch.rows ≡ c.batch.inside.rows =
-    ap length (sym seen_rows) ∙ length-map (cut_rows (length c.batch.inside.columns.items) c.batch.inside.rows c.batch.inside.words.items) (row_of c.batch.inside.texts c.batch.inside.columns.items)
-    ∙ long_cut (length c.batch.inside.columns.items) c.batch.inside.rows c.batch.inside.words.items in
+    let count = counted c.batch.inside.texts c.batch.inside.columns.items c.batch.inside.rows c.batch.inside.words.items c.args.batch.rows seen_rows in
     handed_on_first (room_fault c.args.self.now c.args.table (length c.args.batch.rows)) (texts_fault (with_texts c.args.self.now.texts (texts_in c.args.batch.rows))) c.from_residual.result c.in_err-check_room.field-0.0 c.from_residual.ensures.1
-    (subst (λ n. Refuses (room_fault c.args.self.now c.args.table n) (Err c.in_err-check_room.field-0.0)) (sym count) c.in_err-check_room.ensures)
+    (exact_refuses {T = Unit {0}} _ (Err c.in_err-check_room.field-0.0) (ap (room_fault c.args.self.now c.args.table) count ∙ c.in_err-check_room.ensures))
 
 pub returns-in_err-settle-clause-refuses : goal.returns-in_err-settle-clause-refuses
 returns-in_err-settle-clause-refuses c =
     let seen_rows : rows_of c.batch.inside.texts c.batch.inside.columns.items c.batch.inside.rows c.batch.inside.words.items ≡ c.args.batch.rows = ap (λ b. b.rows) c.batch.view_is in
-    let count : length c.args.batch.rows ≡ c.batch.inside.rows =
-    ap length (sym seen_rows) ∙ length-map (cut_rows (length c.batch.inside.columns.items) c.batch.inside.rows c.batch.inside.words.items) (row_of c.batch.inside.texts c.batch.inside.columns.items)
-    ∙ long_cut (length c.batch.inside.columns.items) c.batch.inside.rows c.batch.inside.words.items in
+    let count = counted c.batch.inside.texts c.batch.inside.columns.items c.batch.inside.rows c.batch.inside.words.items c.args.batch.rows seen_rows in
     let whole : row_of c.batch.inside.texts c.batch.inside.columns.items c.batch.inside.row.items ≡ [] = ap (λ b. b.row) c.batch.view_is ∙ c.requires.whole in
     let all_texts : with_texts c.args.self.now.texts (texts_in c.args.batch.rows) ≡ with_texts c.self.inside.texts c.batch.inside.texts =
     (λ i. with_texts (sym c.self.view_is i).texts (texts_in (sym seen_rows i)))
     ∙ sym (batch_texts c.batch.inside.columns.items c.batch.inside.texts c.batch.inside.rows c.batch.inside.words.items c.batch.inside.row.items _ c.self.inside.texts c.batch.invariant whole) in
-    let room : room_fault c.args.self.now c.args.table (length c.args.batch.rows) ≡ None = ap (room_fault c.args.self.now c.args.table) count ∙ c.in_ok-check_room.ensures.answered in
+    let room : room_fault c.args.self.now c.args.table (length c.args.batch.rows) ≡ None = ap (room_fault c.args.self.now c.args.table) count ∙ c.in_ok-check_room.ensures in
     not_first (room_fault c.args.self.now c.args.table (length c.args.batch.rows)) (texts_fault (with_texts c.args.self.now.texts (texts_in c.args.batch.rows))) c.from_residual-in_err-settle.result room
     (handed_on (texts_fault (with_texts c.args.self.now.texts (texts_in c.args.batch.rows))) c.from_residual-in_err-settle.result c.in_err-settle.field-0.0 c.from_residual-in_err-settle.ensures.1
     (subst (λ t. Refuses {T = Unit {0}} (texts_fault t) (Err c.in_err-settle.field-0.0)) (sym all_texts) c.in_err-settle.ensures.refuses))
@@ -110,13 +118,26 @@ returns-clause-appended c =
 pub returns-clause-refuses : goal.returns-clause-refuses
 returns-clause-refuses c =
     let seen_rows : rows_of c.batch.inside.texts c.batch.inside.columns.items c.batch.inside.rows c.batch.inside.words.items ≡ c.args.batch.rows = ap (λ b. b.rows) c.batch.view_is in
-    let count : length c.args.batch.rows ≡ c.batch.inside.rows =
-    ap length (sym seen_rows) ∙ length-map (cut_rows (length c.batch.inside.columns.items) c.batch.inside.rows c.batch.inside.words.items) (row_of c.batch.inside.texts c.batch.inside.columns.items)
-    ∙ long_cut (length c.batch.inside.columns.items) c.batch.inside.rows c.batch.inside.words.items in
+    let count = counted c.batch.inside.texts c.batch.inside.columns.items c.batch.inside.rows c.batch.inside.words.items c.args.batch.rows seen_rows in
     let whole : row_of c.batch.inside.texts c.batch.inside.columns.items c.batch.inside.row.items ≡ [] = ap (λ b. b.row) c.batch.view_is ∙ c.requires.whole in
     let all_texts : with_texts c.args.self.now.texts (texts_in c.args.batch.rows) ≡ with_texts c.self.inside.texts c.batch.inside.texts =
     (λ i. with_texts (sym c.self.view_is i).texts (texts_in (sym seen_rows i)))
     ∙ sym (batch_texts c.batch.inside.columns.items c.batch.inside.texts c.batch.inside.rows c.batch.inside.words.items c.batch.inside.row.items _ c.self.inside.texts c.batch.invariant whole) in
-    let room : room_fault c.args.self.now c.args.table (length c.args.batch.rows) ≡ None = ap (room_fault c.args.self.now c.args.table) count ∙ c.in_ok-check_room.ensures.answered in
+    let room : room_fault c.args.self.now c.args.table (length c.args.batch.rows) ≡ None = ap (room_fault c.args.self.now c.args.table) count ∙ c.in_ok-check_room.ensures in
     not_first (room_fault c.args.self.now c.args.table (length c.args.batch.rows)) (texts_fault (with_texts c.args.self.now.texts (texts_in c.args.batch.rows))) _ room
     (record { answered = ap texts_fault all_texts ∙ c.in_ok-settle.ensures.refuses.answered; refused = tt })
+
+pub returns-in_err-settle-clause-limit : goal.returns-in_err-settle-clause-limit
+returns-in_err-settle-clause-limit c =
+    let count = counted c.batch.inside.texts c.batch.inside.columns.items c.batch.inside.rows c.batch.inside.words.items c.args.batch.rows (ap (λ b. b.rows) c.batch.view_is) in
+    λ name value. no_limit (room_fault c.args.self.now c.args.table (length c.args.batch.rows)) name value (ap (room_fault c.args.self.now c.args.table) count ∙ c.in_ok-check_room.ensures)
+
+pub returns-then-is_err-clause-limit : goal.returns-then-is_err-clause-limit
+returns-then-is_err-clause-limit c =
+    let count = counted c.batch.inside.texts c.batch.inside.columns.items c.batch.inside.rows c.batch.inside.words.items c.args.batch.rows (ap (λ b. b.rows) c.batch.view_is) in
+    λ name value. no_limit (room_fault c.args.self.now c.args.table (length c.args.batch.rows)) name value (ap (room_fault c.args.self.now c.args.table) count ∙ c.in_ok-check_room.ensures)
+
+pub returns-clause-limit : goal.returns-clause-limit
+returns-clause-limit c =
+    let count = counted c.batch.inside.texts c.batch.inside.columns.items c.batch.inside.rows c.batch.inside.words.items c.args.batch.rows (ap (λ b. b.rows) c.batch.view_is) in
+    λ name value. no_limit (room_fault c.args.self.now c.args.table (length c.args.batch.rows)) name value (ap (room_fault c.args.self.now c.args.table) count ∙ c.in_ok-check_room.ensures)

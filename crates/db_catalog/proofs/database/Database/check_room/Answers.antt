@@ -6,15 +6,15 @@ use Rattle.sql_values.specs.Limits.{max_rows, max_words}
 use Rattle.sql_values.specs.Stored.{row_of}
 use Rattle.db_catalog.specs.Database.{table_at}
 use Rattle.db_catalog.specs.Kept.{stored_table, kept_words}
-use Rattle.db_catalog.specs.Refused.{Refuses, past, words_in}
-use Rattle.db_catalog.proofs.Refusals.{not_first, within}
+use Rattle.db_catalog.specs.Refused.{RefusesExactly, past, words_in}
+use Rattle.db_catalog.proofs.Refusals.{exact_next, within}
 use Rattle.db_catalog.proofs.Tables.{is_kept, table_at-database_of}
 use Rattle.db_catalog.proofs.Appended.{words_seen}
 use Rattle.db_catalog.proofs.database.Database.check_room.Goals as goal
 
 pub overflow_add-words_in : goal.overflow_add-words_in
 overflow_add-words_in c =
-    let rows : c.from.result + c.from-2.result ≤ max_rows = within limit.Rows max_rows (c.from.result + c.from-2.result) c.in_ok-check_limit.ensures.answered in
+    let rows : c.from.result + c.from-2.result ≤ max_rows = within limit.Rows max_rows (c.from.result + c.from-2.result) c.in_ok-check_limit.ensures in
     let few : c.from-3.result ≤ max_rows = omega (arith, rows, c.from-2.ensures, c.from-3.ensures) in
     let product : c.from-3.result * c.len-width.result ≤ max_rows * c.len-width.result = mul-le-mul_right c.len-width.result few in
     record { fits = omega (arith, product, c.words_in.ensures.bound, c.len-width.type_inv, c.deref.type_inv) }
@@ -35,6 +35,6 @@ returns c =
     ap (λ db. words_in db.tables) (sym c.self.view_is) ∙ words_seen c.self.inside.texts c.self.inside.tables.items ∙ ap kept_words (sym c.deref.ensures.value) ∙ sym c.words_in.ensures.words in
     let all : words_in c.args.self.now.tables + c.args.rows * length (table_at c.args.self.now c.args.table).columns ≡ c.words_in.result + c.from-3.result * c.len-width.result =
     λ i. words i + sym c.from-3.ensures i * width i in
-    not_first (past limit.Rows max_rows (length (table_at c.args.self.now c.args.table).rows + c.args.rows)) _ c.check_limit-2.result
-    (ap (past limit.Rows max_rows) rows ∙ c.in_ok-check_limit.ensures.answered)
-    (subst (λ n. Refuses (past limit.Words max_words n) c.check_limit-2.result) (sym all) c.check_limit-2.ensures)
+    exact_next (past limit.Rows max_rows (length (table_at c.args.self.now c.args.table).rows + c.args.rows)) _ c.check_limit-2.result
+    (ap (past limit.Rows max_rows) rows ∙ c.in_ok-check_limit.ensures)
+    (subst (λ n. RefusesExactly (past limit.Words max_words n) c.check_limit-2.result) (sym all) c.check_limit-2.ensures)

@@ -14,7 +14,7 @@ pub invariant_of-self-2 : goal.invariant_of-self-2
 invariant_of-self-2 c =
     let names = map (λ table. table.name) c.args.self.now.tables in
     let seen : names ≡ c.self.inside.names = ap (λ db. map (λ table. table.name) db.tables) (sym c.self.view_is) ∙ names_seen c.self.inside.texts c.self.inside.tables.items ∙ sym c.self.invariant.names_of_tables in
-    let tables = neither (past limit.Tables max_tables (length c.args.self.now.tables + 1)) _ c.in_ok-check_creation.ensures.answered in
+    let tables = neither (past limit.Tables max_tables (length c.args.self.now.tables + 1)) _ c.in_ok-check_creation.ensures in
     let name = neither (taken names c.args.name.now) _ tables.1 in
     let columns = neither (past limit.Columns max_columns (length c.args.columns.now)) (columns_fault [] c.args.columns.now) name.1 in
     let free : has_text c.self.inside.names c.args.name.now ≡ false = subst (λ ns. has_text ns c.args.name.now ≡ false) seen (not_taken names c.args.name.now name.0) in
