@@ -1,9 +1,10 @@
 -- A query that nothing refuses binds to a block of which holds what is always so of blocks.
-use Rattle.std.proofs.Common.{◌≡◌, ◌≢◌, ◌∙◌, ℕ, zero, suc, ◌+◌, ◌<◌, ◌≤◌, Bool, true, false, ◌&&◌, nat_lt, ◌==◌, if◌then◌else◌, List, [], ◌∷◌, ◌++◌, length, map, filter, slice_index_or, All, IfSome, Option, Some, None, refl, sym, ap, subst, arith, ltb-true, ltb-false, eqb-true, true≢false}
-use Rattle.std.specs.List.{AllByRecursion, cons_option}
+use Rattle.std.proofs.Common.{◌≡◌, ◌≢◌, ◌∙◌, ℕ, zero, suc, ◌+◌, ◌<◌, ◌≤◌, Bool, true, false, ◌&&◌, nat_lt, ◌==◌, if◌then◌else◌, List, [], ◌∷◌, ◌++◌, length, map, filter, slice_index_or, All, IfSome, Option, Some, None, refl, sym, ap, subst, arith, ltb-true, ltb-false, eqb-true, true≢false, lit<}
+use Rattle.std.specs.List.{AllByRecursion, cons_option, count_by}
 use Rattle.std.specs.Option.{option_or}
 use Rattle.std.proofs.lemmas.Bool.{eqb-false}
 use Rattle.std.proofs.lemmas.List.{length-map}
+use Rattle.std.proofs.lemmas.List.Sums.{count_by-le-length}
 use Rattle.std.proofs.lemmas.List.Elements.{All-nil, All-cons, All-head, All-tail, All-map, All-append, All-weaker}
 use Rattle.sql_values.specs.declared.limit.LimitName.{LimitName}
 use Rattle.sql_values.specs.declared.limit.LimitName.TheVariants as limit
@@ -17,7 +18,8 @@ use Rattle.sql_values.specs.Limits.{max_relations, max_projection, max_axes}
 use Rattle.query_block.specs.declared.edge.ColumnAt.{ColumnAt}
 use Rattle.query_block.specs.declared.edge.Edge.{Edge}
 use Rattle.query_block.specs.Conditions.{FilterTree}
-use Rattle.query_block.specs.Blocks.{RelationTree, relation_at, kind_at, holds_texts, is_text_operand, IsOperand, AreOperands, FitsColumns, FitColumns, IsRelation, IsPlace, kind_of, IsEdge, IsBlock}
+use Rattle.query_block.specs.Blocks.{RelationTree, BlockTree, relation_at, kind_at, holds_texts, is_text_operand, IsOperand, AreOperands, FitsColumns, FitColumns, IsRelation, IsPlace, kind_of, IsEdge, IsBlock, has_parameter, put_relation}
+use Rattle.query_block.proofs.PutIn.{put-none, none-left}
 use Rattle.sql_parse.specs.declared.tree.ColRef.{ColRef}
 use Rattle.sql_parse.specs.declared.tree.Term.{Term}
 use Rattle.sql_parse.specs.declared.tree.Term.TheVariants as term
@@ -278,14 +280,14 @@ not_null (value.Int number) h = λ e. cc
 not_null (value.Text text) h = λ e. cc
 
 operand-fits : (tables : List NamedTable) (relation : ℕ) (t : Term) → IsGood tables t → IsWithin relation (reach_of_term tables t)
-    → IsOperand (kinds (table_named tables relation)) (bound_operand tables t)
+    → IsOperand [] (kinds (table_named tables relation)) (bound_operand tables t)
 operand-fits tables relation (term.Column written) good here =
     subst (λ n. (place_of tables written).column < length (kinds (table_named tables n))) here
     (omega (arith, good.1, kinds-count (table_named tables (place_of tables written).relation)))
 operand-fits tables relation (term.Literal literal) good here = not_null literal good
 
 operand-kind : (tables : List NamedTable) (relation : ℕ) (t : Term) → IsWithin relation (reach_of_term tables t)
-    → is_text_operand (kinds (table_named tables relation)) (bound_operand tables t) ≡ is_text_term tables t
+    → is_text_operand [] (kinds (table_named tables relation)) (bound_operand tables t) ≡ is_text_term tables t
 operand-kind tables relation (term.Column written) here =
     ap (λ n. holds_texts (kind_at (kinds (table_named tables n)) (place_of tables written).column)) (sym here)
 operand-kind tables relation (term.Literal literal) here = refl
@@ -301,7 +303,7 @@ both-true false b h = absurd (true≢false (sym h))
 
 operands-fit : (tables : List NamedTable) (relation : ℕ) (a b : Term) → IsGood tables a → IsGood tables b
     → agree (is_text_term tables a) (is_text_term tables b) ≡ true → IsWithin relation (reach_of_term tables a) → IsWithin relation (reach_of_term tables b)
-    → AreOperands (kinds (table_named tables relation)) (bound_operand tables a) (bound_operand tables b)
+    → AreOperands [] (kinds (table_named tables relation)) (bound_operand tables a) (bound_operand tables b)
 operands-fit tables relation a b good_a good_b alike here_a here_b = (
   operand-fits tables relation a good_a here_a,
   operand-fits tables relation b good_b here_b,
@@ -310,21 +312,21 @@ operands-fit tables relation a b good_a good_b alike here_a here_b = (
 
 terms-fit : (tables : List NamedTable) (relation : ℕ) (of : Term) (terms : List Term) → IsGood tables of → AllByRecursion (IsGood tables) terms
     → are_alike tables (of ∷ terms) ≡ true → IsWithin relation (reach_of_term tables of) → IsWithin relation (reach_of_terms tables terms)
-    → All (AreOperands (kinds (table_named tables relation)) (bound_operand tables of)) (map (bound_operand tables) terms)
-terms-fit tables relation of [] good goods alike here heres = All-nil (AreOperands (kinds (table_named tables relation)) (bound_operand tables of))
+    → All (AreOperands [] (kinds (table_named tables relation)) (bound_operand tables of)) (map (bound_operand tables) terms)
+terms-fit tables relation of [] good goods alike here heres = All-nil (AreOperands [] (kinds (table_named tables relation)) (bound_operand tables of))
 terms-fit tables relation of (t ∷ terms) good goods alike here heres =
     let both = both-true (agree (is_text_term tables of) (is_text_term tables t)) (are_alike tables (of ∷ terms)) alike in
     let reached = both-within relation (reach_of_term tables t) (reach_of_terms tables terms) heres in
-    All-cons (AreOperands (kinds (table_named tables relation)) (bound_operand tables of)) (bound_operand tables t) (map (bound_operand tables) terms)
+    All-cons (AreOperands [] (kinds (table_named tables relation)) (bound_operand tables of)) (bound_operand tables t) (map (bound_operand tables) terms)
     (operands-fit tables relation of t good goods.0 both.0 here reached.0) (terms-fit tables relation of terms good goods.1 both.1 here reached.1)
 
-negated-fits : (columns : List ColumnType) (negated : Bool) (tree : FilterTree) → FitsColumns columns tree → FitsColumns columns (negated_if negated tree)
+negated-fits : (columns : List ColumnType) (negated : Bool) (tree : FilterTree) → FitsColumns [] columns tree → FitsColumns [] columns (negated_if negated tree)
 negated-fits columns true tree h = h
 negated-fits columns false tree h = h
 
 mutual
   condition-fits : (tables : List NamedTable) (relation : ℕ) (tree : ConditionTree) → IsSound tables tree → IsWithin relation (reach_of tables tree)
-      → FitsColumns (kinds (table_named tables relation)) (bound_condition tables tree)
+      → FitsColumns [] (kinds (table_named tables relation)) (bound_condition tables tree)
   condition-fits tables relation (Compare op left right) h here =
       let heres = both-within relation (reach_of_term tables left) (reach_of_term tables right) here in
       let alike = both-true (agree (is_text_term tables left) (is_text_term tables right)) true h.1 in
@@ -349,25 +351,25 @@ mutual
   condition-fits tables relation (Or parts) h here = conditions-fit tables relation parts h here
 
   conditions-fit : (tables : List NamedTable) (relation : ℕ) (parts : ConditionTrees) → AreSound tables parts → IsWithin relation (reach_of_all tables parts)
-      → FitColumns (kinds (table_named tables relation)) (bound_conditions tables parts)
+      → FitColumns [] (kinds (table_named tables relation)) (bound_conditions tables parts)
   conditions-fit tables relation NoMore h here = tt
   conditions-fit tables relation (More part parts) h here =
       let heres = both-within relation (reach_of tables part) (reach_of_all tables parts) here in
       (condition-fits tables relation part h.0 heres.0, conditions-fit tables relation parts h.1 heres.1)
 
 filter-sound : (tables : List NamedTable) (relation : ℕ) (parts : List ConditionTree) → All (IsSound tables) parts
-    → All (λ part. FitsColumns (kinds (table_named tables relation)) (bound_condition tables part)) (filter (is_filter_of tables relation) parts)
-filter-sound tables relation [] h = All-nil (λ part. FitsColumns (kinds (table_named tables relation)) (bound_condition tables part))
+    → All (λ part. FitsColumns [] (kinds (table_named tables relation)) (bound_condition tables part)) (filter (is_filter_of tables relation) parts)
+filter-sound tables relation [] h = All-nil (λ part. FitsColumns [] (kinds (table_named tables relation)) (bound_condition tables part))
 filter-sound tables relation (part ∷ parts) h =
-    kept-if (λ some. FitsColumns (kinds (table_named tables relation)) (bound_condition tables some)) (is_filter_of tables relation part) part
+    kept-if (λ some. FitsColumns [] (kinds (table_named tables relation)) (bound_condition tables some)) (is_filter_of tables relation part) part
     (filter (is_filter_of tables relation) parts)
     (λ one. condition-fits tables relation part (All-head (IsSound tables) part parts h) (filtered-within relation (reach_of tables part) one))
     (filter-sound tables relation parts (All-tail (IsSound tables) part parts h))
 
 filter-fits : (tables : List NamedTable) (relation : ℕ) (parts : List ConditionTree) → All (IsSound tables) parts
-    → All (FitsColumns (kinds (table_named tables relation))) (filter_of tables parts relation)
+    → All (FitsColumns [] (kinds (table_named tables relation))) (filter_of tables parts relation)
 filter-fits tables relation parts h =
-    All-map (FitsColumns (kinds (table_named tables relation))) (bound_condition tables) (filter (is_filter_of tables relation) parts)
+    All-map (FitsColumns [] (kinds (table_named tables relation))) (bound_condition tables) (filter (is_filter_of tables relation) parts)
     (filter-sound tables relation parts h)
 
 -- the edge between two columns that exist, of one kind and of different relations
@@ -444,23 +446,23 @@ edges-sound tables parts (conjunct ∷ some) h =
 
 relation-sound : (tables : List NamedTable) (parts : List ConditionTree) (relation : ℕ) (table : NamedTable) → table_named tables relation ≡ table → IsNamed table
     → All (IsSound tables) parts
-    → IsRelation (record { table = table.number; columns = kinds table; filter = filter_of tables parts relation; indexes = table.indexed })
+    → IsRelation [] (record { table = table.number; columns = kinds table; filter = filter_of tables parts relation; indexes = table.indexed })
 relation-sound tables parts relation table same named h = record {
   some = omega (arith, named.some, kinds-count table);
   few = omega (arith, named.few, kinds-count table);
-  filter = subst (λ (t : NamedTable). All (FitsColumns (kinds t)) (filter_of tables parts relation)) same (filter-fits tables relation parts h);
+  filter = subst (λ (t : NamedTable). All (FitsColumns [] (kinds t)) (filter_of tables parts relation)) same (filter-fits tables relation parts h);
   indexes = λ k d below. omega (arith, named.indexed k d below, kinds-count table);
   different = named.different;
 }
 
 relations-sound : (tables : List NamedTable) (parts : List ConditionTree) (relation : ℕ) (rest : List NamedTable)
     → ((k : ℕ) → table_named tables (relation + k) ≡ table_named rest k) → All IsNamed rest → All (IsSound tables) parts
-    → All IsRelation (relations_from tables parts relation rest)
-relations-sound tables parts relation [] same named h = All-nil IsRelation
+    → All (IsRelation []) (relations_from tables parts relation rest)
+relations-sound tables parts relation [] same named h = All-nil (IsRelation [])
 relations-sound tables parts relation (table ∷ rest) same named h =
     let first : relation ≡ relation + 0 = omega arith in
     let next : (k : ℕ) → relation + 1 + k ≡ relation + suc k = λ k. omega arith in
-    All-cons IsRelation _ (relations_from tables parts (relation + 1) rest)
+    All-cons (IsRelation []) _ (relations_from tables parts (relation + 1) rest)
     (relation-sound tables parts relation table (ap (table_named tables) first ∙ same 0) (All-head IsNamed table rest named) h)
     (relations-sound tables parts (relation + 1) rest (λ k. ap (table_named tables) (next k) ∙ same (suc k)) (All-tail IsNamed table rest named) h)
 
@@ -504,6 +506,22 @@ free database query none =
       edges = within limit.Axes max_axes (length (edges_of tables (conjuncts_in query.condition))) filtered.1;
     }
 
+-- relations that fit no parameters have none: they are a block without edges, which no values change
+closed : (relations : List RelationTree) → 1 ≤ length relations → length relations ≤ max_relations → All (IsRelation []) relations → count_by has_parameter relations ≡ 0
+closed relations some few all =
+    let block : BlockTree = record { relations = relations; edges = []; projection = []; parameters = [] } in
+    let is : IsBlock block = record {
+      some = some;
+      few = few;
+      relations = all;
+      axes = omega (arith, few, count_by-le-length has_parameter relations);
+      edges = All-nil (IsEdge relations);
+      projection = All-nil (IsPlace relations);
+      parameters = lit< tt;
+    } in
+    let same : map (put_relation []) relations ≡ relations = ap (λ (one : BlockTree). one.relations) (put-none block is refl) in
+    ap (count_by has_parameter) (sym same) ∙ none-left [] relations
+
 pub block-sound : (database : DatabaseState) (query : QueryTree) → IsWellFormedQuery query → All IsNamed (named_tables database query.from)
     → bind_fault database query ≡ None → IsBlock (block_of database query)
 block-sound database query formed named none =
@@ -514,11 +532,15 @@ block-sound database query formed named none =
     let count : length (relations_from tables parts 0 tables) ≡ length query.from =
     relations-count tables parts 0 tables ∙ length-map query.from (named_table database) in
     let here : (k : ℕ) → 0 + k ≡ k = λ k. omega arith in
+    let some : 1 ≤ length (relations_from tables parts 0 tables) = omega (arith, count, formed.0) in
+    let few : length (relations_from tables parts 0 tables) ≤ max_relations = omega (arith, count, h.tables) in
+    let relations = relations-sound tables parts 0 tables (λ k. ap (table_named tables) (here k)) named sound in
     record {
-      some = omega (arith, count, formed.0);
-      few = omega (arith, count, h.tables);
-      relations = relations-sound tables parts 0 tables (λ k. ap (table_named tables) (here k)) named sound;
-      axes = h.edges;
+      some = some;
+      few = few;
+      relations = relations;
+      axes = omega (arith, h.edges, closed (relations_from tables parts 0 tables) some few relations);
       edges = edges-sound tables parts parts sound;
       projection = projection-sound tables parts query.columns h.projection;
+      parameters = lit< tt;
     }

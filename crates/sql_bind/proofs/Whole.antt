@@ -10,6 +10,7 @@ use Rattle.sql_values.specs.Stored.{StoredTable}
 use Rattle.sql_values.specs.declared.limit.LimitName.TheVariants as limit
 use Rattle.sql_values.specs.Limits.{max_relations, max_axes}
 use Rattle.query_block.specs.declared.edge.Edge.{Edge}
+use Rattle.query_block.specs.declared.kind.Kind.{Kind}
 use Rattle.query_block.specs.declared.edge.ColumnAt.{ColumnAt}
 use Rattle.query_block.specs.Conditions.{FilterTree}
 use Rattle.query_block.specs.Blocks.{RelationTree, BlockTree}
@@ -69,26 +70,29 @@ pub one_filter_each : (tables : List NamedTable) (conjuncts : List ConditionTree
 one_filter_each tables conjuncts parts has =
     sym (trees-count parts.filters.items) ∙ ap length has.filters ∙ filters-count tables conjuncts 0 (replicate (length tables) []) ∙ length-replicate (length tables) []
 
-pub same_block : (relations other : List RelationTree) (edges edges' : List Edge) (projection projection' : List ColumnAt) → relations ≡ other → edges ≡ edges' → projection ≡ projection'
-    → (let block : BlockTree = record { relations = relations; edges = edges; projection = projection } in block) ≡ record { relations = other; edges = edges'; projection = projection' }
-same_block relations other edges edges' projection projection' same_relations same_edges same_projection =
-    ap (λ r. record { relations = r; edges = edges; projection = projection }) same_relations
-    ∙ ap (λ e. record { relations = other; edges = e; projection = projection }) same_edges
-    ∙ ap (λ p. record { relations = other; edges = edges'; projection = p }) same_projection
+same_block : (relations other : List RelationTree) (edges edges' : List Edge) (projection projection' : List ColumnAt) (parameters parameters' : List Kind)
+    → relations ≡ other → edges ≡ edges' → projection ≡ projection' → parameters ≡ parameters'
+    → (let block : BlockTree = record { relations = relations; edges = edges; projection = projection; parameters = parameters } in block)
+    ≡ record { relations = other; edges = edges'; projection = projection'; parameters = parameters' }
+same_block relations other edges edges' projection projection' parameters parameters' same_relations same_edges same_projection same_parameters =
+    ap (λ r. record { relations = r; edges = edges; projection = projection; parameters = parameters }) same_relations
+    ∙ ap (λ e. record { relations = other; edges = e; projection = projection; parameters = parameters }) same_edges
+    ∙ ap (λ p. record { relations = other; edges = edges'; projection = p; parameters = parameters }) same_projection
+    ∙ ap (λ k. record { relations = other; edges = edges'; projection = projection'; parameters = k }) same_parameters
 
 -- parts that no check refused, put together, are the block, and nothing refuses the query
-pub whole : (database : DatabaseState) (query : QueryTree) (from : List Item) (tables : List NamedTable) (parts : Parts) (relations : List RelationTree) (projection : List ColumnAt) (edges : ℕ)
+pub whole : (database : DatabaseState) (query : QueryTree) (from : List Item) (tables : List NamedTable) (parts : Parts) (relations : List RelationTree) (projection : List ColumnAt) (parameters : List Kind) (edges : ℕ)
     → from ≡ query.from → tables ≡ named_tables database from → HasParts tables (conjuncts_in query.condition) parts → relations ≡ with_filters tables (filter_trees parts.filters.items)
     → projection ≡ projection_of tables query.columns → past_limit limit.Relations max_relations (length from) ≡ None → from_fault database [] from ≡ None
-    → projection_fault tables query.columns ≡ None → condition_fault tables query.condition ≡ None → edges ≡ length parts.edges.items → past_limit limit.Axes max_axes edges ≡ None
-    → ((let block : BlockTree = record { relations = relations; edges = parts.edges.items; projection = projection } in block) ≡ block_of database query) × (bind_fault database query ≡ None)
-whole database query from tables parts relations projection edges items is has made asked few from_none projection_none condition_none count axes_none =
+    → projection_fault tables query.columns ≡ None → condition_fault tables query.condition ≡ None → edges ≡ length parts.edges.items → past_limit limit.Axes max_axes edges ≡ None → parameters ≡ []
+    → ((let block : BlockTree = record { relations = relations; edges = parts.edges.items; projection = projection; parameters = parameters } in block) ≡ block_of database query) × (bind_fault database query ≡ None)
+whole database query from tables parts relations projection parameters edges items is has made asked few from_none projection_none condition_none count axes_none none =
     let conjuncts = conjuncts_in query.condition in
     let named = is ∙ ap (named_tables database) items in
-    let blocks : List NamedTable → BlockTree = λ some. record { relations = relations_from some conjuncts 0 some; edges = edges_of some conjuncts; projection = projection_of some query.columns } in
+    let blocks : List NamedTable → BlockTree = λ some. record { relations = relations_from some conjuncts 0 some; edges = edges_of some conjuncts; projection = projection_of some query.columns; parameters = [] } in
     let edges_are : edges ≡ length (edges_of (named_tables database query.from) conjuncts) = count ∙ ap length has.edges ∙ ap (λ some. length (edges_of some conjuncts)) named in (
-      same_block relations (relations_from tables conjuncts 0 tables) parts.edges.items (edges_of tables conjuncts) projection (projection_of tables query.columns)
-          (made ∙ ap (with_filters tables) has.filters ∙ relations-of_parts tables conjuncts 0 tables) has.edges asked
+      same_block relations (relations_from tables conjuncts 0 tables) parts.edges.items (edges_of tables conjuncts) projection (projection_of tables query.columns) parameters []
+          (made ∙ ap (with_filters tables) has.filters ∙ relations-of_parts tables conjuncts 0 tables) has.edges asked none
           ∙ ap blocks named,
       none_of _ _ (ap (λ some. past_limit limit.Relations max_relations (length some)) (sym items) ∙ few)
           (none_of _ _ (ap (from_fault database []) (sym items) ∙ from_none)

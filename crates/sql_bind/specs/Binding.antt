@@ -112,7 +112,7 @@ relations_from tables parts relation [] = []
 relations_from tables parts relation (table ∷ rest) =
     relation_with table (filter_of tables parts relation) ∷ relations_from tables parts (relation + 1) rest
 
--- the block of a query that nothing refuses
+-- the block of a query that nothing refuses: it has no parameter
 abbrev pub block_of : DatabaseState → QueryTree → BlockTree
 block_of database query =
     let tables = named_tables database query.from in
@@ -121,6 +121,7 @@ block_of database query =
       relations = relations_from tables parts 0 tables;
       edges = edges_of tables parts;
       projection = projection_of tables query.columns;
+      parameters = [];
     }
 
 -- FROM has too many tables

@@ -145,5 +145,6 @@ pub fn bind(alloc: Global, database: &Database, query: &Query) -> Result<Block, 
     check_limit(LimitName::Axes, MAX_AXES, parts.edges.len())?;
     let Parts { filters, edges } = parts;
     let relations = relations_with(alloc, &scope, filters)?;
-    Ok(Block::new(relations, edges, projection))
+    let parameters = Vec::new(alloc);
+    Ok(Block::new(relations, edges, projection, parameters))
 }
