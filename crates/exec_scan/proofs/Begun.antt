@@ -7,7 +7,7 @@ use Rattle.query_block.specs.Blocks.{RelationTree, BlockTree, IsBlock, relation_
 use Rattle.query_block.specs.Meaning.{meets_filter, rows_of}
 use Rattle.plan_tree.specs.Plans.{Scan, has_leaf}
 use Rattle.plan_tree.specs.Enumerated.{HasUsable, IsIndexed, IsSubPlan}
-use Rattle.plan_tree.specs.Usable.{is_usable}
+use Rattle.plan_tree.specs.Usable.{is_fixed_usable}
 use Rattle.plan_tree.specs.Work.{height_in, work_of}
 use Rattle.btree_index.specs.Height.{height_of}
 use Rattle.db_catalog.specs.Database.{DatabaseState}
@@ -39,7 +39,7 @@ index-leads database own column relation (indexed, usable) reader new =
       column = refl;
       all = record {
         rows = found-rows database own.table column wanted (meets_filter own.filter)
-            (λ row is. (meets-part (is_usable own.columns column) own.filter row is, meets-some own.columns column own.filter row usable is));
+            (λ row is. (meets-part (is_fixed_usable own.columns column) own.filter row is, meets-some own.columns column own.filter row usable is));
         due = λ out. omega (arith, levels, count-read database own.table column wanted);
       };
     })

@@ -2,7 +2,7 @@
 use Rattle.std.proofs.Common.{◌≡◌, ℕ, ℤ, ◌*◌, Bool, List, [], ◌∷◌, filter, map, length, Option, Some, None, IsSome, refl, sym, ap, subst, ◌∙◌, arith}
 use Rattle.sql_values.specs.Stored.{StandsFor}
 use Rattle.query_block.specs.Blocks.{RelationTree}
-use Rattle.plan_tree.specs.Usable.{is_usable}
+use Rattle.plan_tree.specs.Usable.{is_fixed_usable}
 use Rattle.plan_tree.specs.declared.range.WordRange.{WordRange}
 use Rattle.plan_tree.specs.Ranges.{Finds}
 use Rattle.btree_index.specs.declared.index.Cursor.{Cursor}
@@ -43,7 +43,7 @@ module _ (database : DatabaseState) (own : RelationTree) (fits : FitsTable datab
 
   -- so the descent leads to the entries that have to be read
   pub descended : (old new : EntryReaderState) (range : WordRange) → old.table ≡ own.table → (IsSome old.cursor → ⊥) → IsSome new.cursor
-      → Finds database.texts own.columns old.column range (filter (is_usable own.columns old.column) own.filter)
+      → Finds database.texts own.columns old.column range (filter (is_fixed_usable own.columns old.column) own.filter)
       → HaveWords (index_at database old.table old.column) → StandAsWords database old.table
       → entries_ahead database new ≡ filter (is_within range.from range.to) (index_at database old.table old.column)
       → wanted_entries database own new ≡ wanted_entries database own old

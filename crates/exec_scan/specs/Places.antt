@@ -12,7 +12,7 @@ placed_row relations number row = slice_set (map (λ _. []) relations) number ro
 -- this is the relation of a number in a block, and both are well-formed
 pub record IsRelationOf (tree : BlockTree) (number : ℕ) (own : RelationTree) : Type 0 where
   pub relation : own ≡ relation_at tree.relations number
-  pub allowed : IsRelation own
+  pub allowed : IsRelation tree.parameters own
   pub block : IsBlock tree
 
 -- the table, the number of columns and their place are those of a relation of the block

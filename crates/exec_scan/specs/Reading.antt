@@ -1,12 +1,12 @@
 -- What is left to read of a relation's rows on each of the two ways to them, and what is always so of a way.
-use Rattle.std.specs.Prelude.{◌≡◌, ℕ, ℤ, ◌+◌, ◌*◌, Bool, List, [], ◌∷◌, Option, Some, None, MatchOption, Result, IfOk, OnOk, length, map, filter}
+use Rattle.std.specs.Prelude.{◌≡◌, ℕ, ℤ, ◌+◌, ◌*◌, Bool, List, [], ◌∷◌, Option, Some, None, MatchOption, Result, IfOk, length, map, filter}
 use Rattle.std.specs.List.Sorted.{IsPermutation}
 use Rattle.work_ledger.specs.Charges.{open_charge}
 use Rattle.sql_values.specs.Stored.{AreWordsOf, StoredTable, ValueRow, values_of}
 use Rattle.query_block.specs.Blocks.{IsRelation, RelationTree}
 use Rattle.query_block.specs.Meaning.{meets_filter}
 use Rattle.plan_tree.specs.Enumerated.{HasUsable, IsIndexed}
-use Rattle.plan_tree.specs.Usable.{is_usable}
+use Rattle.plan_tree.specs.Usable.{is_fixed_usable}
 use Rattle.plan_tree.specs.Work.{index_scan_work, scan_work, table_rows}
 use Rattle.plan_tree.specs.Left.{Left}
 use Rattle.btree_index.specs.declared.index.Cursor.{Cursor}
@@ -31,9 +31,9 @@ abbrev pub column_of : Way → Option ℕ
 column_of (way.Table reader) = None
 column_of (way.Index reader) = Some reader.column
 
--- whether a row meets every conjunct of the filter that an index on the column can use
+-- whether a row meets every conjunct of the filter that has no parameter and that an index on the column can use
 abbrev pub is_wanted : RelationTree → (column : ℕ) → ValueRow → Bool
-is_wanted own column row = meets_filter (filter (is_usable own.columns column) own.filter) row
+is_wanted own column row = meets_filter (filter (is_fixed_usable own.columns column) own.filter) row
 
 -- of the entries of an index those that are still to be read: before the descent the wanted ones, then those ahead
 abbrev pub entries_to_read : (IndexEntry → Bool) → List IndexEntry → Option Cursor → List IndexEntry
@@ -80,9 +80,9 @@ abbrev pub IsReaderIn : DatabaseState → Way → Type 0
 IsReaderIn database (way.Table reader) = IsTableReader database reader
 IsReaderIn database (way.Index reader) = IsReaderOf database reader
 
--- a relation of a block, whose table is in the database
+-- a relation of a block, whose table is in the database and whose filter has no parameter
 pub record IsRelationIn (database : DatabaseState) (own : RelationTree) : Type 0 where
-  pub allowed : IsRelation own
+  pub allowed : IsRelation [] own
   pub fits : FitsTable database own
 
 -- the relation's rows are in its table; by a column they are found where an index on it can use the filter

@@ -1,5 +1,5 @@
 -- What the operator of a leaf has left of the rows of its relation, and what is always so of one.
-use Rattle.std.specs.Prelude.{◌≡◌, ℕ, ℤ, ◌+◌, Bool, List, Result, length, map}
+use Rattle.std.specs.Prelude.{◌≡◌, ℕ, ℤ, ◌+◌, Bool, List, [], Result, length, map}
 use Rattle.std.specs.List.Sorted.{IsPermutation}
 use Rattle.work_ledger.specs.Charges.{open_charge}
 use Rattle.plan_tree.specs.Plans.{PlanTree, has_leaf}
@@ -32,14 +32,16 @@ find_left database block relation way =
 abbrev pub scan_left : DatabaseState → BlockTree → ScanState → Left
 scan_left database block scan = with_emits (find_left database block scan.place.relation scan.way)
 
--- a leaf may be scanned: it is a plan of a block that fits the database
+-- a leaf may be scanned: it is a plan of a block that fits the database and has no parameter
 pub record MayScan (database : DatabaseState) (block : BlockTree) (leaf : PlanTree) : Type 0 where
   pub plan : IsSubPlan block leaf
   pub fits : Fits database block
+  pub closed : block.parameters ≡ []
 
--- a scan of a relation of the block, which fits the database, over its tables
+-- a scan of a relation of the block, which fits the database and has no parameter, over its tables
 pub record IsScanOver (database : DatabaseState) (block : BlockTree) (scan : ScanState) : Type 0 where
   pub fits : Fits database block
+  pub closed : block.parameters ≡ []
   pub numbers : AreOfRelation block scan.place.relation (table_of scan.way) scan.place.columns scan.place.offset
   pub reading : IsReaderIn database scan.way
 

@@ -13,6 +13,6 @@ returns c =
     let is = rw (c.relations.ensures.relations, c.from.ensures) at c.index-relations-from.is in
     record {
       relation = sym (get_or-map relation_tree relations c.args.number found none there ∙ ap relation_tree (sym is));
-      allowed = of_each IsRelation relations c.args.number found there is c.relations.ensures.block.relations;
+      allowed = of_each (IsRelation c.args.block.now.parameters) relations c.args.number found there is c.relations.ensures.block.relations;
       block = c.relations.ensures.block;
     }

@@ -1,4 +1,4 @@
-use Rattle.std.proofs.Common.{SFits, w64, IsSome, length, sym, ap, ◌∙◌, true≢false, arith, rules}
+use Rattle.std.proofs.Common.{[], SFits, w64, IsSome, length, sym, ap, ◌∙◌, true≢false, arith, rules}
 use Rattle.std.proofs.lemmas.Int.{to_z-of_z}
 use Rattle.query_block.specs.Blocks.{relation_tree}
 use Rattle.db_catalog.specs.Indexes.{index_height}
@@ -13,7 +13,7 @@ returns-clause-entries c =
     let from : SFits w64 range.from = search rules in
     let to : SFits w64 range.to = search rules in
     let led = simp to_z-of_z at c.in_ok-descend.ensures.descends.entries in
-    let finds = rw (c.as_slice.ensures, c.texts.ensures, c.column.ensures) at (c.range_of-range.ensures own.columns) in
+    let finds = rw (c.as_slice.ensures, c.texts.ensures, c.column.ensures) at (c.range_of-range.ensures [] own.columns) in
     descended c.args.meter.now.database own c.requires.way.relation.fits c.args.reader.now c.descend.new.self range c.requires.way.table none c.in_ok-descend.ensures.descends.descended (finds c.requires.way.relation.allowed.filter)
     c.descend.ensures.words.entries c.descend.ensures.words.rows led
 
