@@ -5,24 +5,27 @@ use Rattle.std.specs.List.{AllZip}
 use Rattle.std.proofs.Math.Nat.{mul-le-mul_left, mul-le-mul_right, mul_comm, mul_assoc, le-max_left, le-max_right}
 use Rattle.std.proofs.lemmas.Nat.{mul-le}
 use Rattle.std.proofs.lemmas.Bool.{cases_Bool}
-use Rattle.std.proofs.lemmas.List.{at_drop_more}
+use Rattle.std.proofs.lemmas.List.{at_drop_more, drop_all}
 use Rattle.std.proofs.lemmas.List.Elements.{All-nil, All-cons, All-head, All-tail, All-get_or}
 use Rattle.sql_values.specs.Limits.{max_rows, max_product}
-use Rattle.query_block.specs.Blocks.{RelationTree}
+use Rattle.query_block.specs.Blocks.{RelationTree, BlockTree}
 use Rattle.query_block.specs.Meaning.{RelationSet}
 use Rattle.plan_tree.specs.Plans.{PlanTree, Scan, IndexScan, Nest, Hash, Merge, IndexLoop, leaves_of, has_leaf}
 use Rattle.plan_tree.specs.Enumerated.{IsSubPlan, column_on, edge_at}
 use Rattle.plan_tree.specs.Work.{nest_work, hash_work, merge_work, index_loop_work}
+use Rattle.cost_model.specs.declared.stats.Stats.{Stats}
 use Rattle.cost_model.specs.declared.stats.RelationStats.{RelationStats}
 use Rattle.cost_model.specs.declared.stats.IndexStats.{IndexStats}
-use Rattle.cost_model.specs.Fits.{FitsIndex, FitsRelation, row_product}
+use Rattle.cost_model.specs.Fits.{FitsIndex, FitsRelation, FitsBlock, row_product}
 use Rattle.cost_model.specs.Bounded.{ShareNone}
 use Rattle.cost_model.specs.Costing.{CostingTree, IsCosting}
+use Rattle.cost_model.specs.AtPoint.{stats_at}
 use Rattle.cost_model.specs.Cards.{kept_product, card_of}
 use Rattle.cost_model.specs.Costs.{relation_stats, index_on, index_stats, out_card, candidate_card, cost_of}
 use Rattle.cost_model.specs.Few.{IsFewIndex, AreFew}
 use Rattle.plan_tree.proofs.Digits.{bits-few}
 use Rattle.plan_tree.proofs.LeafSets.{apart-sets, alone, size_of, size-few, leaf-size, both-sizes}
+use Rattle.cost_model.proofs.AtPoint.{fits-at}
 use Rattle.cost_model.proofs.Cards.{card-few, candidates-few}
 
 -- ---- products of counts
@@ -82,18 +85,22 @@ rows-few set number (suc place) (one ∷ more) none out below few =
 
 -- ---- cards
 
-pub fits-kept : (costing : CostingTree) → IsCosting costing → All HasFewKept costing.stats.relations
-fits-kept costing is = few-kept costing.block.relations costing.stats.relations is.stats.relations
+pub fits-kept : (costing : CostingTree) (point : List ℕ) → IsCosting costing → All HasFewKept (stats_at costing point).relations
+fits-kept costing point is = few-kept costing.block.relations (stats_at costing point).relations (fits-at costing point is).relations
+
+-- the product of what the filters of a set's relations keep
+pub product-few : (costing : CostingTree) (set : RelationSet) (point : List ℕ) → IsCosting costing → kept_product set 0 (stats_at costing point).relations ≤ max_product
+product-few costing set point is =
+    omega (arith, kept-few set 0 (stats_at costing point).relations (fits-kept costing point is), (fits-at costing point is).product)
 
 pub card-below : (costing : CostingTree) (set : RelationSet) (point : List ℕ) → IsCosting costing → card_of costing set point ≤ max_product
-card-below costing set point is =
-    omega (arith, card-few costing set point, kept-few set 0 costing.stats.relations (fits-kept costing is), is.stats.product)
+card-below costing set point is = omega (arith, card-few costing set point, product-few costing set point is)
 
 pub pairs-below : (costing : CostingTree) (set other : RelationSet) (point : List ℕ) → IsCosting costing → ShareNone set other
     → card_of costing set point * card_of costing other point ≤ max_product
 pairs-below costing set other point is apart =
     let cards = mul-le _ _ _ _ (card-few costing set point) (card-few costing other point) in
-    omega (arith, cards, pairs-few set other 0 costing.stats.relations apart (fits-kept costing is), is.stats.product)
+    omega (arith, cards, pairs-few set other 0 (stats_at costing point).relations apart (fits-kept costing point is), (fits-at costing point is).product)
 
 length-fits : (relations : List RelationTree) (stats : List RelationStats) → AllZip FitsRelation relations stats → length stats ≡ length relations
 length-fits [] [] fits = refl
@@ -104,62 +111,69 @@ length-fits (relation ∷ relations) (one ∷ more) fits = ap suc (length-fits r
 pub stats-long : (costing : CostingTree) → IsCosting costing → length costing.stats.relations ≡ length costing.block.relations
 stats-long costing is = length-fits costing.block.relations costing.stats.relations is.stats.relations
 
+pub stats-at-long : (costing : CostingTree) (point : List ℕ) → IsCosting costing → length (stats_at costing point).relations ≡ length costing.block.relations
+stats-at-long costing point is = length-fits costing.block.relations (stats_at costing point).relations (fits-at costing point is).relations
+
 pub loop-pairs-below : (costing : CostingTree) (set : RelationSet) (relation : ℕ) (point : List ℕ) → IsCosting costing → set relation ≡ false → relation < length costing.block.relations
-    → card_of costing set point * (relation_stats costing.stats relation).rows ≤ max_product
+    → card_of costing set point * (relation_stats (stats_at costing point) relation).rows ≤ max_product
 loop-pairs-below costing set relation point is out below =
-    let stats = costing.stats.relations in
+    let stats = (stats_at costing point).relations in
     let none : RelationStats = record { rows = 0; pages = 0; kept = 0; columns = [] } in
-    let rows = (relation_stats costing.stats relation).rows in
-    let there : relation < length stats = omega (arith, below, stats-long costing is) in
+    let rows = (relation_stats (stats_at costing point) relation).rows in
+    let there : relation < length stats = omega (arith, below, stats-at-long costing point is) in
     let product : kept_product set 0 stats * rows ≤ row_product stats =
-    rows-few set 0 relation stats none (ap set (omega arith) ∙ out) there (fits-kept costing is) in
+    rows-few set 0 relation stats none (ap set (omega arith) ∙ out) there (fits-kept costing point is) in
     let cards : card_of costing set point * rows ≤ kept_product set 0 stats * rows = mul-le-mul_right rows (card-few costing set point) in
-    omega (arith, cards, product, is.stats.product)
+    omega (arith, cards, product, (fits-at costing point is).product)
 
 -- ---- the steps of the product
 
 pub one-times : (n : ℕ) → 1 * n ≡ n
 one-times n = omega arith
 
-times-one : (n : ℕ) → n * 1 ≡ n
+pub times-one : (n : ℕ) → n * 1 ≡ n
 times-one n = omega arith
 
 pub product-some : (stats : List RelationStats) → 1 ≤ row_product stats
 product-some [] = omega arith
 product-some (one ∷ more) = mul-le 1 1 (max 1 one.rows) (row_product more) (le-max_left 1 one.rows) (product-some more)
 
-pub next-kept : (set : RelationSet) (number : ℕ) (stats : List RelationStats) (item : RelationStats) → number < length stats → item ≡ get_or stats number item
-    → kept_product set number (drop number stats) ≡ cond (set number) item.kept 1 * kept_product set (number + 1) (drop (number + 1) stats)
-next-kept set number stats item below is =
-    at_drop_more (kept_product set number) stats number item below
-    ∙ ap (λ one. cond (set number) one.kept 1 * kept_product set (number + 1) (drop (number + 1) stats)) (sym is)
+next-kept : (set : RelationSet) (number : ℕ) (stats : List RelationStats) (none : RelationStats) → number < length stats
+    → kept_product set number (drop number stats) ≡ cond (set number) (get_or stats number none).kept 1 * kept_product set (number + 1) (drop (number + 1) stats)
+next-kept set number stats none below = at_drop_more (kept_product set number) stats number none below
 
--- after each factor the rest of the product still fits
-pub record FitsNext (product kept rest : ℕ) : Type 0 where
-  pub taken : product * kept ≤ max_product
-  pub with : product * kept * rest ≤ max_product
-  pub without : product * rest ≤ max_product
+-- the product of what the first relations keep, with room for the others
+pub record IsSoFar (set : RelationSet) (stats : List RelationStats) (number product : ℕ) : Type 0 where
+  pub whole : kept_product set 0 stats ≡ product * kept_product set number (drop number stats)
+  pub fits : product * row_product (drop number stats) ≤ max_product
 
-pub next-product : (number : ℕ) (stats : List RelationStats) (item : RelationStats) (product : ℕ) → number < length stats → item ≡ get_or stats number item → All HasFewKept stats
-    → product * row_product (drop number stats) ≤ max_product → FitsNext product item.kept (row_product (drop (number + 1) stats))
-next-product number stats item product below is few fits =
+pub so-far-none : (set : RelationSet) (stats : List RelationStats) → row_product stats ≤ max_product → IsSoFar set stats 0 1
+so-far-none set stats few = record { whole = sym (one-times (kept_product set 0 stats)); fits = omega (arith, few, one-times (row_product stats)) }
+
+pub so-far-more : (set : RelationSet) (stats : List RelationStats) (none : RelationStats) (number product more : ℕ) → number < length stats → All HasFewKept stats → IsSoFar set stats number product
+    → more ≡ product * cond (set number) (get_or stats number none).kept 1 → IsSoFar set stats (number + 1) more
+so-far-more set stats none number product more below few so_far is =
+    let item = get_or stats number none in
+    let factor = cond (set number) item.kept 1 in
+    let kept = kept_product set (number + 1) (drop (number + 1) stats) in
     let rest = row_product (drop (number + 1) stats) in
-    let most = max 1 item.rows in
-    let opened : row_product (drop number stats) ≡ most * rest =
-    at_drop_more row_product stats number item below ∙ ap (λ one. max 1 one.rows * rest) (sym is) in
-    let whole : product * (most * rest) ≤ max_product = subst (λ n. product * n ≤ max_product) opened fits in
-    let here : HasFewKept item = subst HasFewKept (sym is) (All-get_or HasFewKept stats number item below few) in
-    let factor : item.kept ≤ most = omega (arith, here, le-max_right 1 item.rows) in
-    let with : product * item.kept * rest ≤ max_product =
-    omega (arith, mul_assoc product item.kept rest, mul-le-mul_left product (mul-le-mul_right rest factor), whole) in
-    let single : 1 * rest ≤ most * rest = mul-le-mul_right rest (le-max_left 1 item.rows) in
-    let without : product * rest ≤ max_product = omega (arith, mul-le-mul_left product single, whole, ap (λ n. product * n) (one-times rest)) in
-    let taken : product * item.kept ≤ max_product =
-    omega (arith, mul-le-mul_left (product * item.kept) (product-some (drop (number + 1) stats)), with, times-one (product * item.kept)) in
-    record { taken = taken; with = with; without = without }
+    let at_most : factor ≤ max 1 item.rows = factor-few (set number) item.kept item.rows (All-get_or HasFewKept stats number none below few) in
+    let opened : row_product (drop number stats) ≡ max 1 item.rows * rest = at_drop_more row_product stats number none below in
+    let whole : product * (max 1 item.rows * rest) ≤ max_product = subst (λ n. product * n ≤ max_product) opened so_far.fits in
+    record {
+      whole =
+          so_far.whole ∙ ap (λ n. product * n) (next-kept set number stats none below) ∙ sym (mul_assoc product factor kept)
+          ∙ ap (λ n. n * kept) (sym is);
+      fits = omega (arith, ap (λ n. n * rest) is, mul_assoc product factor rest, mul-le-mul_left product (mul-le-mul_right rest at_most), whole);
+    }
 
-pub few-stats : (costing : CostingTree) → IsCosting costing → length costing.stats.relations ≤ 6
-few-stats costing is = omega (arith, stats-long costing is, is.block.few)
+pub so-far-few : (set : RelationSet) (stats : List RelationStats) (number product : ℕ) → IsSoFar set stats number product → product ≤ max_product
+so-far-few set stats number product so_far =
+    omega (arith, mul-le-mul_left product (product-some (drop number stats)), so_far.fits, times-one product)
+
+pub so-far-all : (set : RelationSet) (stats : List RelationStats) (number product : ℕ) → length stats ≤ number → IsSoFar set stats number product → product ≡ kept_product set 0 stats
+so-far-all set stats number product all so_far =
+    sym (so_far.whole ∙ ap (λ rest. product * kept_product set number rest) (drop_all number stats all) ∙ times-one product)
 
 -- ---- the nodes of a plan, each of which costs at most 2^108 by itself
 
@@ -173,7 +187,7 @@ merge-few : (l r cand out : ℕ) → l ≤ max_product → r ≤ max_product →
 merge-few l r cand out left right pairs few =
     omega (arith, left, right, pairs, few, mul-le-mul_left l (bits-few l left), mul-le-mul_left r (bits-few r right))
 
-loop-few : (height l cand out : ℕ) → height ≤ 4 → l ≤ max_product → cand ≤ max_product → out ≤ max_product → index_loop_work height l cand out ≤ 2 ^ 108
+pub loop-few : (height l cand out : ℕ) → height ≤ 4 → l ≤ max_product → cand ≤ max_product → out ≤ max_product → index_loop_work height l cand out ≤ 2 ^ 108
 loop-few height l cand out low left pairs few =
     omega (arith, left, pairs, few, mul-le (2 * height) l 8 max_product (omega (arith, low)) left)
 
@@ -210,14 +224,21 @@ stats-few (relation ∷ relations) (one ∷ more) zero none fits empty = record 
 }
 stats-few (relation ∷ relations) (one ∷ more) (suc number) none fits empty = stats-few relations more number none fits.1 empty
 
-pub relation-few : (costing : CostingTree) (relation : ℕ) → IsCosting costing → AreFew (relation_stats costing.stats relation)
-relation-few costing relation is =
-    stats-few costing.block.relations costing.stats.relations relation (record { rows = 0; pages = 0; kept = 0; columns = [] }) is.stats.relations
+are-few : (block : BlockTree) (stats : Stats) (relation : ℕ) → FitsBlock block stats → AreFew (relation_stats stats relation)
+are-few block stats relation fits =
+    stats-few block.relations stats.relations relation (record { rows = 0; pages = 0; kept = 0; columns = [] }) fits.relations
     (record { rows = omega arith; pages = omega arith; columns = All-nil IsFewIndex })
 
-pub index-few : (costing : CostingTree) (relation column : ℕ) → IsCosting costing → IsFewIndex (index_stats costing.stats relation column)
-index-few costing relation column is =
-    index-on-few (relation_stats costing.stats relation).columns column (relation-few costing relation is).columns
+pub relation-few : (costing : CostingTree) (relation : ℕ) → IsCosting costing → AreFew (relation_stats costing.stats relation)
+relation-few costing relation is = are-few costing.block costing.stats relation is.stats
+
+-- at a point too
+relation-few-at : (costing : CostingTree) (point : List ℕ) (relation : ℕ) → IsCosting costing → AreFew (relation_stats (stats_at costing point) relation)
+relation-few-at costing point relation is = are-few costing.block (stats_at costing point) relation (fits-at costing point is)
+
+pub index-few-at : (costing : CostingTree) (point : List ℕ) (relation column : ℕ) → IsCosting costing → IsFewIndex (index_stats (stats_at costing point) relation column)
+index-few-at costing point relation column is =
+    index-on-few (relation_stats (stats_at costing point) relation).columns column (relation-few-at costing point relation is).columns
 
 -- ---- costs
 
@@ -228,11 +249,11 @@ IsBounded costing point p =
 
 bounded : (costing : CostingTree) (point : List ℕ) → IsCosting costing → (p : PlanTree) → IsSubPlan costing.block p → IsBounded costing point p
 bounded costing point is (Scan relation) plan =
-    let few = relation-few costing relation is in
+    let few = relation-few-at costing point relation is in
     let card = card-below costing (has_leaf (Scan relation)) point is in
     omega (arith, few.rows, few.pages, card, leaf-size (length costing.block.relations) relation plan)
 bounded costing point is (IndexScan relation column) plan =
-    let few = index-few costing relation column is in
+    let few = index-few-at costing point relation column is in
     let card = card-below costing (has_leaf (IndexScan relation column)) point is in
     omega (arith, few.height, few.matches, card, leaf-size (length costing.block.relations) relation plan.exists)
 bounded costing point is (Nest left right) plan =
@@ -276,11 +297,11 @@ bounded costing point is (Merge edge left right) plan =
     )
 bounded costing point is (IndexLoop edge left relation) plan =
     let l = out_card costing left point in
-    let rows = (relation_stats costing.stats relation).rows in
-    let index = index_stats costing.stats relation (column_on (edge_at costing.block.edges edge) relation) in
+    let rows = (relation_stats (stats_at costing point) relation).rows in
+    let index = index_stats (stats_at costing point) relation (column_on (edge_at costing.block.edges edge) relation) in
     let pairs = loop-pairs-below costing (has_leaf left) relation point is plan.1.apart plan.1.exists in
     let own = loop-few index.height l (candidate_card costing edge point (l * rows)) (out_card costing (IndexLoop edge left relation) point)
-    (index-few costing relation (column_on (edge_at costing.block.edges edge) relation) is).height (card-below costing (has_leaf left) point is)
+    (index-few-at costing point relation (column_on (edge_at costing.block.edges edge) relation) is).height (card-below costing (has_leaf left) point is)
     (omega (arith, candidates-few costing.grid point edge (l * rows), pairs)) (card-below costing (has_leaf (IndexLoop edge left relation)) point is) in
     omega (
       arith,

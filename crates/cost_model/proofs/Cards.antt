@@ -1,11 +1,10 @@
 -- Cards: rounded once, grown with selectivity, and never more than there are rows.
-use Rattle.std.proofs.Common.{◌≡◌, ℕ, ◌+◌, ◌-◌, ◌*◌, ◌^◌, ◌≤◌, cond, List, [], ◌∷◌, ap, sym, subst, ◌∙◌, le_refl, arith}
+use Rattle.std.proofs.Common.{◌≡◌, ℕ, ◌+◌, ◌*◌, ◌^◌, ◌≤◌, cond, List, [], ◌∷◌, ap, sym, subst, ◌∙◌, le_refl, arith}
 use Rattle.std.specs.Prelude.{Bool, true, false, slice_index}
 use Rattle.std.specs.Int.{div_ceil}
 use Rattle.std.proofs.Math.Path.{fun_ext}
-use Rattle.std.proofs.Math.Nat.{pow-le-pow_right, mul-le-mul_left}
 use Rattle.std.proofs.lemmas.Nat.{pow-add, pow_pos}
-use Rattle.ess_grid.specs.Levels.{selectivity_bits, step_of, halvings_of, selectivity_of}
+use Rattle.ess_grid.specs.Levels.{halvings_of, selectivity_of}
 use Rattle.ess_grid.specs.Points.{GridShape}
 use Rattle.ess_grid.specs.Order.{PointBelow}
 use Rattle.ess_grid.proofs.PointOrder.{level-below}
@@ -13,9 +12,11 @@ use Rattle.ess_grid.proofs.Selectivities.{selectivity_of-halvings, selectivity_o
 use Rattle.query_block.specs.declared.edge.Edge.{Edge}
 use Rattle.query_block.specs.Meaning.{RelationSet, is_inside}
 use Rattle.cost_model.specs.Costing.{CostingTree}
-use Rattle.cost_model.specs.Cards.{scaled, selectivity_at, kept_product, scaled_by_edges, card_of}
+use Rattle.cost_model.specs.AtPoint.{scaled, stats_at}
+use Rattle.cost_model.specs.Cards.{selectivity_at, kept_product, scaled_by_edges, card_of}
 use Rattle.cost_model.specs.Rounding.{halvings_inside}
 use Rattle.cost_model.proofs.Rounding.{IsCeiling, ceiling, ceiling-one, twice, halved, scaled-few, scaled-le}
+use Rattle.cost_model.proofs.AtPoint.{selectivity-le, kept-le}
 
 -- halved so often, and then perhaps so often more
 halved-if : (b : Bool) (n h levels level : ℕ)
@@ -44,27 +45,19 @@ whole : (n : ℕ) → n ≡ div_ceil n (2 ^ 0)
 whole n = ceiling-one n 1 n (div_ceil n 1) (omega arith, omega arith) (ceiling n 1 (omega arith))
 
 pub card-once : (costing : CostingTree) (set : RelationSet) (point : List ℕ)
-    → card_of costing set point ≡ div_ceil (kept_product set 0 costing.stats.relations) (2 ^ halvings_inside costing.grid point set 0 costing.block.edges)
+    → card_of costing set point ≡ div_ceil (kept_product set 0 (stats_at costing point).relations) (2 ^ halvings_inside costing.grid point set 0 costing.block.edges)
 unfolding card_of
 card-once costing set point =
-    let kept = kept_product set 0 costing.stats.relations in
+    let kept = kept_product set 0 (stats_at costing point).relations in
     let edges = costing.block.edges in
     ap (scaled_by_edges costing.grid point set 0 edges) (whole kept)
     ∙ edges-once costing.grid point set 0 edges kept 0
     ∙ ap (λ k. div_ceil kept (2 ^ k)) (omega arith)
 
--- a card depends on the set alone
+-- a card depends on which relations are in the set
 pub card-of-set : (costing : CostingTree) (set other : RelationSet) (point : List ℕ) → ((relation : ℕ) → set relation ≡ other relation)
     → card_of costing set point ≡ card_of costing other point
 card-of-set costing set other point same = ap (λ one. card_of costing one point) (fun_ext same)
-
--- selectivities grow from level to level
-selectivity-le : (levels lower higher : ℕ) → lower ≤ higher → selectivity_of levels lower ≤ selectivity_of levels higher
-selectivity-le levels lower higher le =
-    let fewer : levels - 1 - higher ≤ levels - 1 - lower = omega (arith, le) in
-    let halvings : halvings_of levels higher ≤ halvings_of levels lower = mul-le-mul_left (step_of levels) fewer in
-    let bits : selectivity_bits - halvings_of levels lower ≤ selectivity_bits - halvings_of levels higher = omega (arith, halvings) in
-    pow-le-pow_right (omega arith) bits
 
 scaled-if-le : (b : Bool) (rows more selectivity greater : ℕ) → rows ≤ more → selectivity ≤ greater → cond b (scaled rows selectivity) rows ≤ cond b (scaled more greater) more
 scaled-if-le true rows more selectivity greater le part = scaled-le rows more selectivity greater le part
@@ -80,9 +73,7 @@ edges-le grid point other set number (edge ∷ edges) rows more below le =
 -- cards grow with selectivity
 pub card-le : (costing : CostingTree) (set : RelationSet) (point other : List ℕ) → PointBelow point other → card_of costing set point ≤ card_of costing set other
 unfolding card_of
-card-le costing set point other below =
-    let kept = kept_product set 0 costing.stats.relations in
-    edges-le costing.grid point other set 0 costing.block.edges kept kept below (le_refl kept)
+card-le costing set point other below = edges-le costing.grid point other set 0 costing.block.edges _ _ below (kept-le costing point other below set)
 
 -- so do the candidates of an edge
 pub candidates-le : (grid : GridShape) (point other : List ℕ) (edge pairs more : ℕ) → PointBelow point other → pairs ≤ more
@@ -101,8 +92,8 @@ edges-few grid point set number (edge ∷ edges) rows =
     let rest = edges-few grid point set (number + 1) edges (cond (is_inside set edge) (scaled rows (selectivity_at grid point number)) rows) in
     omega (arith, rest, scaled-if-few (is_inside set edge) rows grid.levels (slice_index point number))
 
--- a set gives no more rows than its relations have together after their filters
-pub card-few : (costing : CostingTree) (set : RelationSet) (point : List ℕ) → card_of costing set point ≤ kept_product set 0 costing.stats.relations
+-- a set gives no more rows than its relations' filters keep together
+pub card-few : (costing : CostingTree) (set : RelationSet) (point : List ℕ) → card_of costing set point ≤ kept_product set 0 (stats_at costing point).relations
 unfolding card_of
 card-few costing set point = edges-few costing.grid point set 0 costing.block.edges _
 

@@ -1,6 +1,9 @@
 pub mod Rounding
+pub mod AtPoint
+pub mod OnAxes
 pub mod Sets
 pub mod Cards
+pub mod Alike
 pub mod Bounds
 pub mod Monotone
 pub mod Pairs

@@ -1,16 +1,17 @@
 -- Costs grow with selectivity.
 use Rattle.std.proofs.Common.{ℕ, ◌*◌, ◌≤◌, List, [], ◌∷◌, map, arith}
-use Rattle.std.proofs.Math.Nat.{mul-le-mul_left}
 use Rattle.std.proofs.lemmas.Nat.{mul-le}
 use Rattle.ess_grid.specs.Order.{PointBelow}
 use Rattle.plan_tree.specs.Plans.{PlanTree, Scan, IndexScan, Nest, Hash, Merge, IndexLoop, has_leaf}
 use Rattle.plan_tree.specs.Enumerated.{column_on, edge_at}
 use Rattle.plan_tree.specs.Work.{bits}
 use Rattle.cost_model.specs.Costing.{CostingTree}
+use Rattle.cost_model.specs.AtPoint.{stats_at}
 use Rattle.cost_model.specs.Costs.{relation_stats, index_stats, out_card, cost_of}
 use Rattle.plan_tree.specs.AllPlans.{plans_of}
 use Rattle.cost_model.specs.Optimal.{least_of, optimal_cost}
 use Rattle.plan_tree.proofs.Digits.{bits-le}
+use Rattle.cost_model.proofs.AtPoint.{rows-at, pages-at, height-at, matches-le}
 use Rattle.cost_model.proofs.Cards.{card-le, candidates-le}
 
 sort-le : (n m : ℕ) → n ≤ m → n * bits n ≤ m * bits m
@@ -24,8 +25,23 @@ pairs-le : (costing : CostingTree) (left right : PlanTree) (point other : List �
 pairs-le costing left right point other below = mul-le _ _ _ _ (out-le costing left point other below) (out-le costing right point other below)
 
 pub cost-le : (costing : CostingTree) (p : PlanTree) (point other : List ℕ) → PointBelow point other → cost_of costing p point ≤ cost_of costing p other
-cost-le costing (Scan relation) point other below = omega (arith, out-le costing (Scan relation) point other below)
-cost-le costing (IndexScan relation column) point other below = omega (arith, out-le costing (IndexScan relation column) point other below)
+cost-le costing (Scan relation) point other below =
+    omega (
+      arith,
+      rows-at costing point relation,
+      rows-at costing other relation,
+      pages-at costing point relation,
+      pages-at costing other relation,
+      out-le costing (Scan relation) point other below,
+    )
+cost-le costing (IndexScan relation column) point other below =
+    omega (
+      arith,
+      height-at costing point relation column,
+      height-at costing other relation column,
+      matches-le costing point other below relation column,
+      out-le costing (IndexScan relation column) point other below,
+    )
 cost-le costing (Nest left right) point other below =
     omega (
       arith,
@@ -63,13 +79,16 @@ cost-le costing (Merge edge left right) point other below =
     )
 cost-le costing (IndexLoop edge left relation) point other below =
     let l = out-le costing left point other below in
-    let rows = (relation_stats costing.stats relation).rows in
-    let height = (index_stats costing.stats relation (column_on (edge_at costing.block.edges edge) relation)).height in
-    let pairs : out_card costing left point * rows ≤ out_card costing left other * rows = mul-le _ _ _ _ l (omega arith) in
+    let column = column_on (edge_at costing.block.edges edge) relation in
+    let rows : (relation_stats (stats_at costing point) relation).rows ≤ (relation_stats (stats_at costing other) relation).rows =
+    omega (arith, rows-at costing point relation, rows-at costing other relation) in
+    let height : 2 * (index_stats (stats_at costing point) relation column).height ≤ 2 * (index_stats (stats_at costing other) relation column).height =
+    omega (arith, height-at costing point relation column, height-at costing other relation column) in
+    let pairs = mul-le _ _ _ _ l rows in
     omega (
       arith,
       cost-le costing left point other below,
-      mul-le-mul_left (2 * height) l,
+      mul-le _ _ _ _ height l,
       candidates-le costing.grid point other edge _ _ below pairs,
       out-le costing (IndexLoop edge left relation) point other below,
     )

@@ -10,6 +10,7 @@ use Rattle.query_block.specs.Blocks.{relation_tree}
 use Rattle.plan_tree.specs.Work.{bits}
 use Rattle.cost_model.specs.Costing.{CostingShape, costing_tree, IsCosting}
 use Rattle.plan_tree.specs.Sets.{set_of}
+use Rattle.cost_model.specs.AtPoint.{stats_at}
 use Rattle.cost_model.specs.Costs.{relation_stats}
 use Rattle.plan_tree.proofs.Digits.{bits-few}
 use Rattle.cost_model.proofs.Bounds.{pairs-below, loop-pairs-below}
@@ -53,7 +54,7 @@ set-pairs-few costing point left right a b is apart one other =
     omega (arith, same, few)
 
 pub loop-pairs-few : (costing : CostingShape) (point : List ℕ) (left relation a rows : ℕ) → IsCosting (costing_tree costing) → bit_and left (2 ^ relation) ≡ 0
-    → relation < length costing.block.relations → a ≡ set_card (costing_tree costing) point left → rows ≡ (relation_stats costing.stats relation).rows → a * rows ≤ max_product
+    → relation < length costing.block.relations → a ≡ set_card (costing_tree costing) point left → rows ≡ (relation_stats (stats_at (costing_tree costing) point) relation).rows → a * rows ≤ max_product
 loop-pairs-few costing point left relation a rows is apart below one other =
     let same = ap₂ (λ x y. x * y) one other in
     let few = loop-pairs-below (costing_tree costing) (set_of left) relation point is (out-of _ apart)

@@ -5,7 +5,7 @@ use Rattle.std.proofs.lemmas.Nat.{mul-le, pow_pos}
 use Rattle.std.proofs.lemmas.Grind.{div_ceil_times}
 use Rattle.std.specs.Int.{div_ceil}
 use Rattle.ess_grid.specs.Levels.{full_selectivity}
-use Rattle.cost_model.specs.Cards.{scaled}
+use Rattle.cost_model.specs.AtPoint.{scaled}
 
 -- a number that lies where a quotient that is rounded up does
 abbrev pub IsCeiling : (n by up : ℕ) → Type 0

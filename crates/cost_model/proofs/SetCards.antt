@@ -14,9 +14,10 @@ use Rattle.plan_tree.specs.Enumerated.{edge_at}
 use Rattle.plan_tree.specs.Sets.{set_of}
 use Rattle.cost_model.specs.declared.stats.RelationStats.{RelationStats}
 use Rattle.cost_model.specs.Costing.{CostingShape, CostingTree, costing_tree, IsCosting}
-use Rattle.cost_model.specs.Cards.{scaled, selectivity_at, kept_product, scaled_by_edges, card_of}
+use Rattle.cost_model.specs.AtPoint.{scaled, stats_at}
+use Rattle.cost_model.specs.Cards.{selectivity_at, kept_product, scaled_by_edges, card_of}
 use Rattle.cost_model.specs.Costs.{relation_stats}
-use Rattle.cost_model.proofs.Bounds.{kept-few, fits-kept, one-times, stats-long}
+use Rattle.cost_model.proofs.Bounds.{one-times, product-few, stats-at-long}
 use Rattle.cost_model.specs.Pricing.{Pricing}
 use Rattle.cost_model.specs.Prices.{IsSetOf, block_at, AreCards}
 use Rattle.cost_model.specs.SetCards.{AreProducts, IsScaled, AreScaled}
@@ -95,25 +96,29 @@ no-kept set none number [] = refl
 no-kept set none number (one ∷ more) =
     ap (λ b. cond b one.kept 1 * kept_product set (number + 1) more) (none number) ∙ one-times _ ∙ no-kept set none (number + 1) more
 
-pub first-product : (costing : CostingTree) (products : List ℕ) → get_or products 0 0 ≡ 1 → AreProducts costing products (2 ^ 0)
-first-product costing products one set below =
+-- the counts at a point of a costing
+abbrev kept_at : Pricing → List RelationStats
+kept_at at = (stats_at (costing_tree at.costing) at.point).relations
+
+pub first-product : (at : Pricing) (products : List ℕ) → get_or products 0 0 ≡ 1 → AreProducts at products (2 ^ 0)
+first-product at products one set below =
     let none : set ≡ 0 = omega (arith, below) in
     ap (λ s. get_or products s 0) none ∙ one
-    ∙ sym (ap (λ s. kept_product (set_of s) 0 costing.stats.relations) none ∙ no-kept (set_of 0) (λ relation. refl) 0 costing.stats.relations)
+    ∙ sym (ap (λ s. kept_product (set_of s) 0 (kept_at at)) none ∙ no-kept (set_of 0) (λ relation. refl) 0 (kept_at at))
 
 -- the product of a set whose highest relation this is, by that of the others
-pub more-product : (costing : CostingShape) (relation rest kept product : ℕ) → IsCosting (costing_tree costing) → relation < length costing.block.relations → rest < 2 ^ relation
-    → kept ≡ (relation_stats costing.stats relation).kept → product ≡ kept_product (set_of rest) 0 costing.stats.relations
-    → (kept * product ≡ kept_product (set_of (2 ^ relation + rest)) 0 costing.stats.relations) × (kept * product ≤ max_product)
-more-product costing relation rest kept product is below less kept-is product-is =
-    let stats = costing.stats.relations in
-    let tree = costing_tree costing in
-    let there : relation < length stats = omega (arith, below, stats-long tree is, length-map costing.block.relations relation_tree) in
+pub more-product : (at : Pricing) (relation rest kept product : ℕ) → IsCosting (costing_tree at.costing) → relation < length at.costing.block.relations → rest < 2 ^ relation
+    → kept ≡ (relation_stats (stats_at (costing_tree at.costing) at.point) relation).kept → product ≡ kept_product (set_of rest) 0 (kept_at at)
+    → (kept * product ≡ kept_product (set_of (2 ^ relation + rest)) 0 (kept_at at)) × (kept * product ≤ max_product)
+more-product at relation rest kept product is below less kept-is product-is =
+    let stats = kept_at at in
+    let tree = costing_tree at.costing in
+    let there : relation < length stats = omega (arith, below, stats-at-long tree at.point is, length-map at.costing.block.relations relation_tree) in
     let both : kept * product ≡ kept_product (set_of (2 ^ relation + rest)) 0 stats =
     (λ i. kept-is i * product-is i)
     ∙ kept-more (set_of rest) (set_of (2 ^ relation + rest)) relation (others-stay relation rest less) (highest-out relation rest less) (highest-in relation rest less) 0 relation stats _
     (omega arith) there in
-    (both, omega (arith, both, kept-few (set_of (2 ^ relation + rest)) 0 stats (fits-kept tree is), is.stats.product))
+    (both, omega (arith, both, product-few tree (set_of (2 ^ relation + rest)) at.point is))
 
 -- the set after those before it
 pub highest-small : (costing : CostingShape) (relation rest : ℕ) → IsCosting (costing_tree costing) → relation < length costing.block.relations → rest < 2 ^ relation
@@ -122,22 +127,21 @@ highest-small costing relation rest is below less =
     let count = length (costing_tree costing).block.relations in
     set-small (costing_tree costing) (2 ^ relation + rest) is (sets-below relation count rest (omega (arith, below, length-map costing.block.relations relation_tree)) less)
 
-pub add-product : (costing : CostingTree) (products : List ℕ) (end next product : ℕ) → length products ≡ 64 → end < 64 → next ≡ end + 1 → AreProducts costing products end
-    → product ≡ kept_product (set_of end) 0 costing.stats.relations → AreProducts costing (slice_set products end product) next × (length (slice_set products end product) ≡ 64)
-add-product costing products end next product long small is before last =
+pub add-product : (at : Pricing) (products : List ℕ) (end next product : ℕ) → length products ≡ 64 → end < 64 → next ≡ end + 1 → AreProducts at products end
+    → product ≡ kept_product (set_of end) 0 (kept_at at) → AreProducts at (slice_set products end product) next × (length (slice_set products end product) ≡ 64)
+add-product at products end next product long small is before last =
     let lt : end < length products = omega (arith, long, small) in
-    let more = below_more (λ set. get_or (slice_set products end product) set 0 ≡ kept_product (set_of set) 0 costing.stats.relations) end
+    let more = below_more (λ set. get_or (slice_set products end product) set 0 ≡ kept_product (set_of set) 0 (kept_at at)) end
     (λ k h. let ne : k ≢ end = omega arith in rw get_or-set_other (before k h)) (rw get_or-set_same last) in
     (λ set below. more set (omega (arith, is, below)), omega (arith, length-set {A = ℕ}, long))
 
 -- ---- edges
 
-pub not-scaled : (costing : CostingShape) (point cards : List ℕ) → IsCosting (costing_tree costing) → AreProducts (costing_tree costing) cards (2 ^ length (costing_tree costing).block.relations)
-    → AreScaled (record { costing = costing; point = point }) cards 0
+pub not-scaled : (at : Pricing) (cards : List ℕ) → IsCosting (costing_tree at.costing) → AreProducts at cards (2 ^ length (block_at at).relations) → AreScaled at cards 0
 unfolding card_of
-not-scaled costing point cards is products set below = record {
-  card = ap (scaled_by_edges costing.grid point (set_of set) 0 costing.block.edges) (products set below);
-  few = omega (arith, products set below, kept-few (set_of set) 0 costing.stats.relations (fits-kept (costing_tree costing) is), is.stats.product);
+not-scaled at cards is products set below = record {
+  card = ap (scaled_by_edges at.costing.grid at.point (set_of set) 0 at.costing.block.edges) (products set below);
+  few = omega (arith, products set below, product-few (costing_tree at.costing) (set_of set) at.point is);
 }
 
 -- one edge more

@@ -5,6 +5,7 @@ use Rattle.plan_tree.specs.Enumerated.{AreApart, edge_at, column_on, IsSubPlan}
 use Rattle.plan_tree.specs.Work.{nest_work, hash_work, merge_work, index_loop_work}
 use Rattle.cost_model.specs.Costing.{CostingTree, IsCosting}
 use Rattle.plan_tree.specs.Sets.{set_of}
+use Rattle.cost_model.specs.AtPoint.{stats_at}
 use Rattle.cost_model.specs.Costs.{relation_stats, index_stats, out_card, scan_cost, index_scan_cost, candidate_card, cost_of}
 use Rattle.cost_model.proofs.Cards.{card-of-set}
 use Rattle.cost_model.proofs.Bounds.{cost-below}
@@ -21,8 +22,8 @@ right-card costing point l r apart =
 
 pub costs-are-sums : (costing : CostingTree) (point : List ℕ) (p : PlanTree) → IsSubPlan costing.block p → cost_of costing p point ≡ sum_of (own_cost costing point) p
 unfolding own_cost
-costs-are-sums costing point (Scan r) is = ap (scan_cost (relation_stats costing.stats r)) (out-card costing point (Scan r))
-costs-are-sums costing point (IndexScan r c) is = ap (index_scan_cost (index_stats costing.stats r c)) (out-card costing point (IndexScan r c))
+costs-are-sums costing point (Scan r) is = ap (scan_cost (relation_stats (stats_at costing point) r)) (out-card costing point (Scan r))
+costs-are-sums costing point (IndexScan r c) is = ap (index_scan_cost (index_stats (stats_at costing point) r c)) (out-card costing point (IndexScan r c))
 costs-are-sums costing point (Nest l r) (left, right, apart) =
     let a = costs-are-sums costing point l left in
     let b = costs-are-sums costing point r right in
@@ -48,8 +49,8 @@ costs-are-sums costing point (IndexLoop n l r) (left, look) =
     let a = costs-are-sums costing point l left in
     let c = out-card costing point l in
     let e = out-card costing point (IndexLoop n l r) in
-    λ i. a i + index_loop_work (index_stats costing.stats r (column_on (edge_at costing.block.edges n) r)).height (c i)
-    (candidate_card costing n point (c i * (relation_stats costing.stats r).rows)) (e i)
+    λ i. a i + index_loop_work (index_stats (stats_at costing point) r (column_on (edge_at costing.block.edges n) r)).height (c i)
+    (candidate_card costing n point (c i * (relation_stats (stats_at costing point) r).rows)) (e i)
 
 pub sum-below : (costing : CostingTree) (point : List ℕ) (p : PlanTree) → IsCosting costing → IsSubPlan costing.block p → sum_of (own_cost costing point) p < 2 ^ 113
 sum-below costing point p is plan = omega (arith, costs-are-sums costing point p plan, cost-below costing p point is plan)

@@ -1,17 +1,13 @@
 -- Cards: how many rows each set of relations is taken to give at a point of the grid.
 use Rattle.std.specs.Prelude.{ℕ, ◌+◌, ◌*◌, List, [], ◌∷◌, slice_index, if◌then◌else◌}
-use Rattle.std.specs.Int.{div_ceil}
-use Rattle.ess_grid.specs.Levels.{full_selectivity, selectivity_of}
+use Rattle.ess_grid.specs.Levels.{selectivity_of}
 use Rattle.ess_grid.specs.Points.{GridShape}
 use Rattle.query_block.specs.declared.edge.Edge.{Edge}
 use Rattle.query_block.specs.Blocks.{axis_of_edge}
 use Rattle.query_block.specs.Meaning.{RelationSet, is_inside}
 use Rattle.cost_model.specs.declared.stats.RelationStats.{RelationStats}
 use Rattle.cost_model.specs.Costing.{CostingTree}
-
--- a number of rows times a selectivity, rounded up
-abbrev pub scaled : (rows selectivity : ℕ) → ℕ
-scaled rows selectivity = div_ceil (rows * selectivity) full_selectivity
+use Rattle.cost_model.specs.AtPoint.{scaled, stats_at}
 
 -- the selectivity of an edge at a point: that on its axis
 abbrev pub selectivity_at : GridShape → (point : List ℕ) → (edge : ℕ) → ℕ
@@ -31,4 +27,4 @@ scaled_by_edges grid point set number (edge ∷ edges) rows =
 -- the card of a set of relations at a point
 unfoldable pub card_of : CostingTree → RelationSet → (point : List ℕ) → ℕ
 card_of costing set point =
-    scaled_by_edges costing.grid point set 0 costing.block.edges (kept_product set 0 costing.stats.relations)
+    scaled_by_edges costing.grid point set 0 costing.block.edges (kept_product set 0 (stats_at costing point).relations)

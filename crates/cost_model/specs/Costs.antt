@@ -8,7 +8,8 @@ use Rattle.cost_model.specs.declared.stats.Stats.{Stats}
 use Rattle.cost_model.specs.declared.stats.RelationStats.{RelationStats}
 use Rattle.cost_model.specs.declared.stats.IndexStats.{IndexStats}
 use Rattle.cost_model.specs.Costing.{CostingTree}
-use Rattle.cost_model.specs.Cards.{scaled, selectivity_at, card_of}
+use Rattle.cost_model.specs.AtPoint.{scaled, stats_at}
+use Rattle.cost_model.specs.Cards.{selectivity_at, card_of}
 
 -- the counts of the relation of this number, from 0
 abbrev pub relation_stats : Stats → (relation : ℕ) → RelationStats
@@ -40,9 +41,9 @@ index_scan_cost index out = open_charge + node_charge * index.height + (entry_ch
 -- the cost of a plan; an index loop's pairs are those of the left side with all rows of the table, before its filter
 abbrev pub cost_of : CostingTree → PlanTree → (point : List ℕ) → ℕ
 cost_of costing (Scan relation) point =
-    scan_cost (relation_stats costing.stats relation) (out_card costing (Scan relation) point)
+    scan_cost (relation_stats (stats_at costing point) relation) (out_card costing (Scan relation) point)
 cost_of costing (IndexScan relation column) point =
-    index_scan_cost (index_stats costing.stats relation column) (out_card costing (IndexScan relation column) point)
+    index_scan_cost (index_stats (stats_at costing point) relation column) (out_card costing (IndexScan relation column) point)
 cost_of costing (Nest left right) point =
     cost_of costing left point + cost_of costing right point
     + nest_work (out_card costing left point) (out_card costing right point) (out_card costing (Nest left right) point)
@@ -58,7 +59,7 @@ cost_of costing (Merge edge left right) point =
     (out_card costing (Merge edge left right) point)
 cost_of costing (IndexLoop edge left relation) point =
     cost_of costing left point
-    + index_loop_work (index_stats costing.stats relation (column_on (edge_at costing.block.edges edge) relation)).height
+    + index_loop_work (index_stats (stats_at costing point) relation (column_on (edge_at costing.block.edges edge) relation)).height
     (out_card costing left point)
-    (candidate_card costing edge point (out_card costing left point * (relation_stats costing.stats relation).rows))
+    (candidate_card costing edge point (out_card costing left point * (relation_stats (stats_at costing point) relation).rows))
     (out_card costing (IndexLoop edge left relation) point)

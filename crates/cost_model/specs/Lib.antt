@@ -2,6 +2,7 @@ pub mod Fits
 pub mod Counts
 pub mod Staleness
 pub mod Costing
+pub mod AtPoint
 pub mod Cards
 pub mod Costs
 pub mod Best
@@ -11,9 +12,11 @@ pub mod FrontierPoints
 pub mod Greedy
 pub mod Rounding
 pub mod Growth
+pub mod Alike
 pub mod Bounded
 pub mod Few
 pub mod Pricing
 pub mod Prices
 -- what only proofs need
+pub mod Axes
 pub mod SetCards

@@ -6,6 +6,7 @@ use Rattle.plan_tree.specs.Work.{bits, nest_work, hash_work, merge_work, index_l
 use Rattle.query_block.specs.Blocks.{BlockTree, block_tree}
 use Rattle.ess_grid.specs.Points.{IsPoint}
 use Rattle.cost_model.specs.Costing.{CostingTree, costing_tree}
+use Rattle.cost_model.specs.AtPoint.{stats_at}
 use Rattle.cost_model.specs.Cards.{card_of}
 use Rattle.plan_tree.specs.Sets.{set_of}
 use Rattle.cost_model.specs.Costs.{relation_stats, index_stats, scan_cost, index_scan_cost, candidate_card}
@@ -25,9 +26,9 @@ set_card costing point set = card_of costing (set_of set) point
 
 -- what a node costs by itself over a set
 unfoldable pub own_cost : CostingTree → (point : List ℕ) → OwnCost
-own_cost costing point (root.Scan relation) set = scan_cost (relation_stats costing.stats relation) (set_card costing point set)
+own_cost costing point (root.Scan relation) set = scan_cost (relation_stats (stats_at costing point) relation) (set_card costing point set)
 own_cost costing point (root.IndexScan relation column) set =
-    index_scan_cost (index_stats costing.stats relation column) (set_card costing point set)
+    index_scan_cost (index_stats (stats_at costing point) relation column) (set_card costing point set)
 own_cost costing point (root.Nest left) set =
     nest_work (set_card costing point left) (set_card costing point (set - left)) (set_card costing point set)
 own_cost costing point (root.Hash edge left) set =
@@ -39,9 +40,9 @@ own_cost costing point (root.Merge edge left) set =
     (candidate_card costing edge point (set_card costing point left * set_card costing point (set - left)))
     (set_card costing point set)
 own_cost costing point (root.IndexLoop edge left relation) set =
-    index_loop_work (index_stats costing.stats relation (column_on (edge_at costing.block.edges edge) relation)).height
+    index_loop_work (index_stats (stats_at costing point) relation (column_on (edge_at costing.block.edges edge) relation)).height
     (set_card costing point left)
-    (candidate_card costing edge point (set_card costing point left * (relation_stats costing.stats relation).rows))
+    (candidate_card costing edge point (set_card costing point left * (relation_stats (stats_at costing point) relation).rows))
     (set_card costing point set)
 
 -- the cost of a plan, by the own costs of its nodes

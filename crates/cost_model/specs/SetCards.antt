@@ -2,14 +2,16 @@
 use Rattle.std.specs.Prelude.{◌≡◌, ℕ, ◌<◌, ◌≤◌, List, drop, slice_index}
 use Rattle.sql_values.specs.Limits.{max_product}
 use Rattle.plan_tree.specs.Sets.{set_of}
-use Rattle.cost_model.specs.Costing.{CostingTree, costing_tree}
+use Rattle.cost_model.specs.Costing.{costing_tree}
+use Rattle.cost_model.specs.AtPoint.{stats_at}
 use Rattle.cost_model.specs.Cards.{kept_product, scaled_by_edges}
 use Rattle.cost_model.specs.Pricing.{Pricing}
 use Rattle.cost_model.specs.Prices.{IsSetOf, block_at, set_card}
 
 -- the products of the filtered counts of the sets that are numbers below the end
-abbrev pub AreProducts : CostingTree → (products : List ℕ) → (end : ℕ) → Type 0
-AreProducts costing products end = (set : ℕ) → set < end → slice_index products set ≡ kept_product (set_of set) 0 costing.stats.relations
+abbrev pub AreProducts : Pricing → (products : List ℕ) → (end : ℕ) → Type 0
+AreProducts at products end =
+    (set : ℕ) → set < end → slice_index products set ≡ kept_product (set_of set) 0 (stats_at (costing_tree at.costing) at.point).relations
 
 -- scaled by the edges from this one on, a number is the card of the set
 pub record IsScaled (at : Pricing) (set edge number : ℕ) : Type 0 where

@@ -3,7 +3,7 @@ ghost use Rattle.std.specs.Prelude.{◌≡◌, ◌*◌, ◌≤◌};
 ghost use Rattle.sql_values.specs.Limits.{max_product};
 ghost use Rattle.ess_grid.specs.Levels.{full_selectivity};
 ghost use Rattle.plan_tree.specs.Work.{bits};
-ghost use Rattle.cost_model.specs.Cards.{scaled};
+ghost use Rattle.cost_model.specs.AtPoint.{scaled};
 
 // The whole of a selectivity.
 const FULL_SELECTIVITY: u128 = 16777216;

@@ -1,21 +1,24 @@
 // What the cards and costs of plans depend on. A card is worked out anew from the counts; whoever asks for many has `Prices`.
-ghost use Rattle.std.specs.Prelude.{◌≡◌, ◌<◌, ◌≤◌, length};
+ghost use Rattle.std.specs.Prelude.{◌≡◌, ◌<◌, ◌≤◌, IfSome, length};
 ghost use Rattle.sql_values.specs.Limits.{max_product};
 ghost use Rattle.ess_grid.specs.Levels.{full_selectivity};
 ghost use Rattle.ess_grid.specs.Points.{IsPoint};
-ghost use Rattle.query_block.specs.Blocks.{axes_of, block_tree};
+ghost use Rattle.query_block.specs.Blocks.{axes_of, axis_of, block_tree};
 ghost use Rattle.plan_tree.specs.Sets.{set_of};
 ghost use Rattle.cost_model.specs.Fits.{FitsBlock};
 ghost use Rattle.cost_model.specs.Costing.{costing_tree, IsCosting};
+ghost use Rattle.cost_model.specs.AtPoint.{axis_of_index, stats_at};
 ghost use Rattle.cost_model.specs.Cards.{kept_product, card_of, selectivity_at};
-ghost use Rattle.cost_model.specs.Costs.{relation_stats, index_on};
+ghost use Rattle.cost_model.specs.Costs.{relation_stats};
 ghost use Rattle.cost_model.specs.Few.{AreFew};
 
 use crate::arithmetic::scaled;
-use crate::stats::{IndexStats, RelationStats, Stats};
+use crate::axes::{Axes, axes_of};
+use crate::stats::{RelationStats, Stats};
 use ess_grid::{Grid, Point};
 use plan_tree::Subset;
 use query_block::{Block, axis_of_edge};
+use sql_values::MAX_COLUMNS;
 use std::marker::Model;
 
 /// What plans of a block cost at the points of a grid: the block, the counts of its tables and the grid, lent.
@@ -24,12 +27,14 @@ pub struct Costing<'c> {
     block: &'c Block,
     stats: &'c Stats,
     grid: &'c Grid,
+    axes: Axes,
 }
 
 impl<'c> Model for Costing<'c> {
     ghost use Rattle.query_block.specs.contracts.condition.Condition as condition;
     ghost use Rattle.std.specs.Coded.{codes};
-    ghost use Rattle.cost_model.specs.Costing.{CostingShape, costing_tree, IsCosting};
+    ghost use Rattle.cost_model.specs.Costing.{CostingShape, costing_tree};
+    ghost use Rattle.cost_model.specs.Axes.{KeepsAxes};
 
     ghost Value = { CostingShape };
 
@@ -37,8 +42,9 @@ impl<'c> Model for Costing<'c> {
 
     ghost view = { λ c. record { block = c.block.now; stats = c.stats.now; grid = c.grid.now } };
 
-    ghost invariant = { λ c. IsCosting (costing_tree
-        (record { block = c.block.now; stats = c.stats.now; grid = c.grid.now })) };
+    ghost invariant = { λ c. KeepsAxes (costing_tree
+        (record { block = c.block.now; stats = c.stats.now; grid = c.grid.now }))
+        c.axes };
 }
 
 impl<'c> Costing<'c> {
@@ -50,7 +56,13 @@ impl<'c> Costing<'c> {
     {
         prove!(!block.relations().is_empty());
         prove!(grid.levels() >= 2);
-        Costing { block, stats, grid }
+        let axes = axes_of(block);
+        Costing {
+            block,
+            stats,
+            grid,
+            axes,
+        }
     }
 
     /// The block.
@@ -77,15 +89,47 @@ impl<'c> Costing<'c> {
 }
 
 impl<'c> Costing<'c> {
-    /// How many rows a set of relations is taken to give at a point of the grid: the product of
-    /// their filtered counts, scaled by the selectivity of each edge between them, each time rounded up. It takes no
-    /// memory.
+    /// The axis of a relation whose filter has a parameter; any other has none.
+    pub fn axis_of(&self, relation: u8) -> Option<u8>
+        requires { relation < length self.now.block.relations }
+        ensures axis { result ≡ axis_of (block_tree self.now.block) relation }
+        ensures of_grid { IfSome result (λ axis. axis < self.now.grid.axes) }
+    {
+        self.axes.relations[relation as usize]
+    }
+
+    /// The axis of an index on a column of a relation, where the rows that it finds depend on a parameter.
+    pub(crate) fn axis_of_index(&self, relation: u8, column: u8) -> Option<u8>
+        requires { relation < length self.now.block.relations }
+        ensures axis { result ≡ axis_of_index (block_tree self.now.block) relation column }
+        ensures of_grid { IfSome result (λ axis. axis < self.now.grid.axes) }
+    {
+        let _block = self.block;
+        if column as usize >= MAX_COLUMNS {
+            return None;
+        }
+        self.axes.indexes[relation as usize][column as usize]
+    }
+
+    /// The counts of a relation.
+    pub(crate) fn relation(&self, relation: u8) -> &'c RelationStats
+        requires { relation < length self.now.block.relations }
+        ensures stats { result.now ≡ relation_stats self.now.stats relation }
+        ensures few { AreFew result.now }
+    {
+        &self.stats.relations.as_slice()[relation as usize]
+    }
+}
+
+impl<'c> Costing<'c> {
+    /// How many rows a set of relations is taken to give at a point of the grid: the product of what their filters keep
+    /// there, scaled by the selectivity of each edge between them, each time rounded up. It takes no memory.
     pub fn card(&self, set: Subset, q: &Point) -> u128
         requires point { IsPoint self.now.grid q.now }
         ensures card { result ≡ card_of (costing_tree self.now) (set_of set) q.now }
         ensures few { result ≤ max_product }
     {
-        let mut card = self.kept_product(set);
+        let mut card = self.kept_product(set, q);
         for (number, edge) in self.block.edges().iter().enumerate() {
             if set.has_both(edge) {
                 card = scaled(card, self.selectivity(number as u8, q));
@@ -94,15 +138,17 @@ impl<'c> Costing<'c> {
         card
     }
 
-    // The product of the filtered counts of a set's relations.
-    fn kept_product(&self, set: Subset) -> u128
-        ensures product { result ≡ kept_product (set_of set) 0 self.now.stats.relations }
+    // The product of the rows that the filters of a set's relations are taken to keep.
+    fn kept_product(&self, set: Subset, q: &Point) -> u128
+        requires { IsPoint self.now.grid q.now }
+        ensures product { let stats = stats_at (costing_tree self.now) q.now in
+            result ≡ kept_product (set_of set) 0 stats.relations }
         ensures few { result ≤ max_product }
     {
         let mut product = 1u128;
-        for (number, stats) in self.stats.relations.as_slice().iter().enumerate() {
-            if set.has(number as u8) {
-                product *= u128::from(stats.kept);
+        for relation in 0..self.block().relations().len() {
+            if set.has(relation as u8) {
+                product *= u128::from(self.kept(relation as u8, q));
             }
         }
         product
@@ -116,30 +162,5 @@ impl<'c> Costing<'c> {
         ensures part { result ≤ full_selectivity }
     {
         self.grid.selectivity(q.levels()[axis_of_edge(edge)])
-    }
-
-    /// The counts of a relation.
-    pub(crate) fn relation(&self, relation: u8) -> &'c RelationStats
-        requires { relation < length self.now.block.relations }
-        ensures stats { result.now ≡ relation_stats self.now.stats relation }
-        ensures few { AreFew result.now }
-    {
-        &self.stats.relations.as_slice()[relation as usize]
-    }
-}
-
-/// The counts of the index on a column, among these. A column without one has one level and no matches.
-pub(crate) fn index_on(columns: &[IndexStats], column: u8) -> IndexStats
-    ensures { result ≡ index_on columns.now column }
-{
-    for index in columns {
-        if index.column == column {
-            return *index;
-        }
-    }
-    IndexStats {
-        column,
-        height: 1,
-        matches: None,
     }
 }

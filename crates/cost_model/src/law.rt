@@ -7,6 +7,8 @@ ghost use Rattle.query_block.specs.Meaning.{RelationSet};
 ghost use Rattle.plan_tree.specs.Plans.{PlanTree};
 ghost use Rattle.plan_tree.specs.Enumerated.{IsPlan, IsSubPlan};
 ghost use Rattle.cost_model.specs.Costing.{CostingTree, IsCosting};
+ghost use Rattle.cost_model.specs.AtPoint.{stats_at};
+ghost use Rattle.cost_model.specs.Alike.{IsAlike};
 ghost use Rattle.cost_model.specs.Cards.{kept_product, card_of};
 ghost use Rattle.cost_model.specs.Rounding.{halvings_inside};
 ghost use Rattle.cost_model.specs.Costs.{cost_of};
@@ -25,19 +27,21 @@ pub fn costs_grow_with_selectivity()
     ensures optimal { (costing : CostingTree) → IsMonotone (optimal_cost costing) }
 {}
 
-/// The law of rounding: every selectivity is the whole, halved, so a card is also the product of the filtered counts,
-/// halved for all edges inside the set together, and rounded up once.
+/// The law of rounding: every selectivity is the whole, halved, so a card is also the product of the filtered counts
+/// at the point, halved for all edges inside the set together, and rounded up once.
 pub fn a_card_is_rounded_once()
     ensures { (costing : CostingTree) (set : RelationSet) (point : List ℕ) →
-        card_of costing set point ≡ div_ceil (kept_product set 0 costing.stats.relations)
+        card_of costing set point ≡ div_ceil (kept_product set 0 (stats_at costing point).relations)
         (2 ^ halvings_inside costing.grid point set 0 costing.block.edges) }
 {}
 
-/// The law of sets: a card depends on nothing but which relations are in the set.
+/// The law of sets: a card depends on nothing but which relations are in the set, and the levels on the axes of the edges
+/// inside it and of its relations.
 pub fn cards_see_the_set_alone()
-    ensures { (costing : CostingTree) (set other : RelationSet) (point : List ℕ) →
+    ensures { (costing : CostingTree) (set other : RelationSet) (point elsewhere : List ℕ) →
         ((relation : ℕ) → set relation ≡ other relation) →
-        card_of costing set point ≡ card_of costing other point }
+        IsAlike costing.block set point elsewhere →
+        card_of costing set point ≡ card_of costing other elsewhere }
 {}
 
 /// The law of bounds: neither a card, nor the pairs of rows of two sets without a common relation, pass the limit of

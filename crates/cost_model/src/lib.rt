@@ -1,5 +1,6 @@
-//! What plans cost: the exact counts of a block's tables, how many rows each set of relations is taken to give at a
-//! point of the grid (its card), what each node of a plan costs by itself there (its price), and the cost of each plan.
+//! What plans cost: the exact counts of a block's tables, these counts at a point of the grid, where a selectivity stands
+//! for each parameter, how many rows each set of relations is taken to give there (its card), what each node of a plan costs
+//! by itself (its price), and the cost of each plan.
 //! The definitions of the exact counts, of the optimal cost and the best plan, of frontiers and of greedy reduction stand
 //! here too, and a point of a frontier with its best plan, as plain data.
 //! To the layers above it promises that `card`, `cost` and `own` are exactly those of the definitions, rounded up and
@@ -8,6 +9,8 @@
 #![tactic(auto)]
 
 mod arithmetic;
+mod at_point;
+mod axes;
 mod costing;
 mod frontier_point;
 mod law;

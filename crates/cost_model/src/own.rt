@@ -43,7 +43,7 @@ impl Prices<'_> {
         requires set { IsSetOf (block_at self.now) set }
         ensures { IsPrice self.now (IndexScan relation column) set result }
     {
-        let index = self.index(relation, column);
+        let index = self.index_at(relation, column);
         let descent = charge::NODE * u128::from(index.height);
         let matches = u128::from(index.matches.unwrap_or(0));
         charge::OPEN + descent + (charge::ENTRY + charge::FETCH) * matches + self.card(set)

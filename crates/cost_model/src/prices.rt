@@ -6,12 +6,13 @@ ghost use Rattle.ess_grid.specs.Points.{IsPoint};
 ghost use Rattle.plan_tree.specs.Work.{bits};
 ghost use Rattle.query_block.specs.Blocks.{block_tree};
 ghost use Rattle.cost_model.specs.Costing.{costing_tree, IsCosting};
+ghost use Rattle.cost_model.specs.AtPoint.{stats_at};
 ghost use Rattle.cost_model.specs.Costs.{index_stats, candidate_card};
 ghost use Rattle.cost_model.specs.Few.{IsFewIndex};
 ghost use Rattle.cost_model.specs.Prices.{IsSetOf, AreFewCards, AreSorts, block_at, card_at};
 
 use crate::arithmetic::{scaled, times_bits};
-use crate::costing::{Costing, index_on};
+use crate::costing::Costing;
 use crate::set::set_count;
 use crate::set_cards::fill_cards;
 use crate::stats::IndexStats;
@@ -140,12 +141,22 @@ impl<'a> Prices<'a> {
         scaled(pairs, self.costing.selectivity(edge, self.q))
     }
 
-    /// The counts of the index on a column.
+    /// The counts of the index on a column at the point.
+    pub(crate) fn index_at(&self, relation: u8, column: u8) -> IndexStats
+        requires { relation < length self.now.costing.block.relations }
+        ensures stats { let stats = stats_at (costing_tree self.now.costing) self.now.point in
+            result ≡ index_stats stats relation column }
+        ensures few { IsFewIndex result }
+    {
+        self.costing.index_at(relation, column, self.q)
+    }
+
+    /// The counts of the index on a column, those of the block's tables.
     pub fn index(&self, relation: u8, column: u8) -> IndexStats
         requires { relation < length self.now.costing.block.relations }
         ensures stats { result ≡ index_stats self.now.costing.stats relation column }
         ensures few { IsFewIndex result }
     {
-        index_on(self.costing.relation(relation).columns.as_slice(), column)
+        self.costing.index(relation, column)
     }
 }

@@ -5,8 +5,7 @@ ghost use Rattle.sql_values.specs.Limits.{max_product};
 ghost use Rattle.ess_grid.specs.Levels.{full_selectivity};
 ghost use Rattle.ess_grid.specs.Points.{IsPoint};
 ghost use Rattle.query_block.specs.Blocks.{block_tree};
-ghost use Rattle.cost_model.specs.Costing.{costing_tree};
-ghost use Rattle.cost_model.specs.Cards.{scaled};
+ghost use Rattle.cost_model.specs.AtPoint.{scaled};
 ghost use Rattle.cost_model.specs.Prices.{AreCards, AreFewCards};
 ghost use Rattle.cost_model.specs.SetCards.{AreProducts, AreScaled};
 
@@ -17,27 +16,31 @@ use ess_grid::Point;
 use plan_tree::Subset;
 
 // The products of the sets whose highest relation this is.
-fn add_relation(costing: &Costing<'_>, products: &mut [u128; 64], relation: u8)
+fn add_relation(costing: &Costing<'_>, q: &Point, products: &mut [u128; 64], relation: u8)
     requires relation { relation < length costing.now.block.relations }
-    requires smaller { AreProducts (costing_tree costing.now) products.old (2 ^ relation) }
-    ensures { AreProducts (costing_tree costing.now) products.new (2 ^ (relation + 1)) }
+    requires point { IsPoint costing.now.grid q.now }
+    requires smaller { AreProducts (record { costing = costing.now; point = q.now }) products.old
+        (2 ^ relation) }
+    ensures { AreProducts (record { costing = costing.now; point = q.now }) products.new
+        (2 ^ (relation + 1)) }
 {
     let _block = costing.block();
     let alone = Subset::one(relation).number();
-    let kept = u128::from(costing.relation(relation).kept);
+    let kept = u128::from(costing.kept(relation, q));
     for rest in 0..alone {
         products[(alone + rest) as usize] = kept * products[rest as usize];
     }
 }
 
 // The products of the filtered counts of all sets.
-fn fill_products(costing: &Costing<'_>, products: &mut [u128; 64])
-    ensures { AreProducts (costing_tree costing.now) products.new
+fn fill_products(costing: &Costing<'_>, q: &Point, products: &mut [u128; 64])
+    requires { IsPoint costing.now.grid q.now }
+    ensures { AreProducts (record { costing = costing.now; point = q.now }) products.new
         (2 ^ length (block_tree costing.now.block).relations) }
 {
     products[0] = 1;
     for relation in 0..costing.block().relations().len() {
-        add_relation(costing, products, relation as u8);
+        add_relation(costing, q, products, relation as u8);
     }
 }
 
@@ -77,7 +80,7 @@ pub(crate) fn fill_cards(costing: &Costing<'_>, q: &Point, cards: &mut [u128; 64
     ensures cards { AreCards (record { costing = costing.now; point = q.now }) cards.new }
     ensures few { AreFewCards (block_tree costing.now.block) cards.new }
 {
-    fill_products(costing, cards);
+    fill_products(costing, q, cards);
     for edge in 0..costing.block().edges().len() {
         scale_by_edge(costing, q, cards, edge);
     }

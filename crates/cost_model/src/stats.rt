@@ -15,7 +15,7 @@ pub struct RelationStats {
     pub rows: u64,
     /// The pages on which they stand.
     pub pages: u64,
-    /// The rows on which each conjunct of the relation's filter is true.
+    /// The rows on which each conjunct of the relation's filter that has no parameter is true.
     pub kept: u64,
     /// One for each indexed column of the relation, in the block's order.
     pub columns: Sequence<IndexStats>,
@@ -28,6 +28,7 @@ pub struct IndexStats {
     pub column: u8,
     /// The levels of its index, 1 to 4.
     pub height: u32,
-    /// The rows in which the column isn't NULL and meets every usable conjunct on it; none where no conjunct is usable.
+    /// The rows in which the column isn't NULL and meets every usable conjunct on it that has no parameter; none where no
+    /// conjunct is usable.
     pub matches: Option<u64>,
 }

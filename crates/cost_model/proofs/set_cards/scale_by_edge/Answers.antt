@@ -3,7 +3,7 @@ use Rattle.query_block.specs.Blocks.{block_tree}
 use Rattle.query_block.specs.Meaning.{is_inside}
 use Rattle.plan_tree.specs.Enumerated.{edge_at}
 use Rattle.plan_tree.specs.Sets.{set_of}
-use Rattle.cost_model.specs.Cards.{scaled}
+use Rattle.cost_model.specs.AtPoint.{scaled}
 use Rattle.cost_model.specs.Pricing.{Pricing}
 use Rattle.cost_model.specs.Prices.{IsSetOf, block_at}
 use Rattle.cost_model.proofs.SetCards.{scaled-next, add-scaled}

@@ -1,7 +1,8 @@
 use Rattle.std.proofs.Common.{◌∙◌, List, ap, sym}
 use Rattle.std.proofs.lemmas.List.{drop_all}
 use Rattle.query_block.specs.declared.edge.Edge.{Edge}
-use Rattle.cost_model.specs.Costing.{CostingShape}
+use Rattle.cost_model.specs.Costing.{CostingShape, costing_tree}
+use Rattle.cost_model.specs.AtPoint.{stats_at}
 use Rattle.cost_model.specs.Cards.{kept_product, scaled_by_edges, card_of}
 use Rattle.plan_tree.specs.Sets.{set_of}
 use Rattle.cost_model.proofs.costing.Costing.card.Goals as goal
@@ -11,7 +12,7 @@ unfolding card_of
 returns-clause-card c =
     let shape = c.args.self.now in
     let set = set_of c.args.set in
-    let kept = kept_product set 0 shape.stats.relations in
+    let kept = kept_product set 0 (stats_at (costing_tree shape) c.args.q.now).relations in
     let edges = c.edges-edge-items.result.now in
     let number = c.loop-number.number in
     let edges_of : CostingShape → List Edge = λ one. one.block.edges in

@@ -1,50 +1,64 @@
-use Rattle.std.proofs.Common.{◌≡◌, ◌∙◌, ◌+◌, ◌*◌, ◌≤◌, All, length, cond, drop, ap, sym, subst, arith}
-use Rattle.cost_model.specs.Fits.{row_product}
-use Rattle.cost_model.specs.Cards.{kept_product}
+use Rattle.std.proofs.Common.{◌≡◌, ◌∙◌, ℕ, ◌+◌, ◌*◌, ◌<◌, ◌≤◌, Bool, true, List, length, cond, ap, sym, arith}
+use Rattle.std.proofs.Math.ListN.{length-map}
+use Rattle.query_block.specs.Blocks.{relation_tree}
 use Rattle.plan_tree.specs.Sets.{set_of}
-use Rattle.std.proofs.Math.Nat.{mul_assoc}
-use Rattle.sql_values.specs.Limits.{max_product}
-use Rattle.cost_model.proofs.Bounds.{HasFewKept, few-stats, fits-kept, next-kept, next-product, one-times}
+use Rattle.cost_model.specs.Costing.{CostingShape, costing_tree, IsCosting}
+use Rattle.cost_model.specs.AtPoint.{stats_at}
+use Rattle.cost_model.specs.Costs.{relation_stats}
+use Rattle.cost_model.proofs.AtPoint.{fits-at}
+use Rattle.cost_model.proofs.Bounds.{fits-kept, stats-at-long, times-one, IsSoFar, so-far-none, so-far-more, so-far-few, so-far-all}
 use Rattle.cost_model.proofs.costing.Costing.kept_product.Goals as goal
 use Rattle.cost_model.proofs.costing.Costing.kept_product.Goals.{then-has, else-has}
 
-pub overflow_cast-number : goal.overflow_cast-number
-overflow_cast-number c =
-    omega (arith, c.loop-number-test.true, ap length c.as_slice-stats-items.ensures, few-stats _ c.self.invariant)
+kept_at : CostingShape → (point : List ℕ) → (relation : ℕ) → ℕ
+kept_at costing point relation = (relation_stats (stats_at (costing_tree costing) point) relation).kept
 
-pub has-requires : goal.has-requires
-has-requires c =
-    omega (arith, c.loop-number-test.true, ap length c.as_slice-stats-items.ensures, few-stats _ c.self.invariant)
+-- one relation more
+next : (costing : CostingShape) (point : List ℕ) (set relation many product more : ℕ) → IsCosting (costing_tree costing) → many ≡ length costing.block.relations → relation < many
+    → IsSoFar (set_of set) (stats_at (costing_tree costing) point).relations relation product → more ≡ product * cond (set_of set relation) (kept_at costing point relation) 1
+    → IsSoFar (set_of set) (stats_at (costing_tree costing) point).relations (relation + 1) more
+unfolding kept_at
+next costing point set relation many product more is same below =
+    let tree = costing_tree costing in
+    so-far-more (set_of set) (stats_at tree point).relations _ relation product more
+    (omega (arith, below, same, stats-at-long tree point is, length-map costing.block.relations relation_tree)) (fits-kept tree point is)
+
+pub loop-relation-init : goal.loop-relation-init
+loop-relation-init c =
+    let tree = costing_tree c.args.self.now in
+    so-far-none (set_of c.args.set) (stats_at tree c.args.q.now).relations (fits-at tree c.args.q.now c.block.ensures.costing).product
 
 pub overflow_mul-product : goal.overflow_mul-product
+unfolding kept_at
 overflow_mul-product c =
-    let few = subst (All HasFewKept) (sym c.as_slice-stats-items.ensures) (fits-kept _ c.self.invariant) in
-    let next = next-product c.loop-number.number c.as_slice-stats-items.result.now c.stats-item.result c.loop-number.product
-    c.loop-number-test.true c.stats-item.is few c.loop-number.invariant.1 in
-    omega (arith, next.taken, ap (λ n. c.loop-number.product * n) c.from-product.ensures)
+    let many = ap length (c.relations-relation-end.ensures.relations ∙ ap (λ block. block.relations) c.block.ensures.block) in
+    let product = c.loop-relation.product in
+    let relation = c.loop-relation.relation in
+    let there : set_of c.args.set relation ≡ true = sym c.has.ensures ∙ c.if-has.true in
+    let kept = c.from-product.ensures ∙ c.kept.ensures ∙ ap (λ b. cond b (kept_at c.args.self.now c.args.q.now relation) 1) (sym there) in
+    let so_far = next c.args.self.now c.args.q.now c.args.set relation _ product _ c.block.ensures.costing many c.loop-relation-test.true c.loop-relation.invariant (ap (λ n. product * n) kept) in
+    omega (arith, so-far-few _ _ _ _ so_far)
 
-pub loop-number-preserved : goal.loop-number-preserved
-loop-number-preserved c =
-    let stats = c.as_slice-stats-items.result.now in
-    let product = c.loop-number.product in
-    let item = c.stats-item.result in
-    let number = c.loop-number.number in
-    let few = subst (All HasFewKept) (sym c.as_slice-stats-items.ensures) (fits-kept _ c.self.invariant) in
-    let next = next-product number stats item product c.loop-number-test.true c.stats-item.is few c.loop-number.invariant.1 in
-    let rest = kept_product (set_of c.args.set) (number + 1) (drop (number + 1) stats) in
-    let after = row_product (drop (number + 1) stats) in
-    let kept : kept_product (set_of c.args.set) number (drop number stats) ≡ cond c.has.result item.kept 1 * rest =
-    next-kept (set_of c.args.set) number stats item c.loop-number-test.true c.stats-item.is
-    ∙ ap (λ b. cond b item.kept 1 * rest) (sym c.has.ensures) in
-    let whole = c.loop-number.invariant.0 ∙ ap (λ n. product * n) kept in
-    elim c.if-has.branch [
-      | then-has w ↦
-          let grown : c.if-has.product ≡ product * item.kept = w.product-is ∙ ap (λ n. product * n) w.from-product.ensures in (
-            whole ∙ ap (λ b. product * (cond b item.kept 1 * rest)) w.if-has.true ∙ sym (mul_assoc product item.kept rest) ∙ ap (λ n. n * rest) (sym grown),
-            subst (λ n. n * after ≤ max_product) (sym grown) next.with,
-          )
-      | else-has w ↦ (
-        whole ∙ ap (λ b. product * (cond b item.kept 1 * rest)) w.if-has.false ∙ ap (λ n. product * n) (one-times rest) ∙ ap (λ n. n * rest) (sym w.product-is),
-        subst (λ n. n * after ≤ max_product) (sym w.product-is) next.without,
-      )
-    ]
+pub loop-relation-preserved : goal.loop-relation-preserved
+unfolding kept_at
+loop-relation-preserved c =
+    let many = ap length (c.relations-relation-end.ensures.relations ∙ ap (λ block. block.relations) c.block.ensures.block) in
+    let product = c.loop-relation.product in
+    let relation = c.loop-relation.relation in
+    let factor : Bool → ℕ = λ b. cond b (kept_at c.args.self.now c.args.q.now relation) 1 in
+    next c.args.self.now c.args.q.now c.args.set relation _ product c.if-has.product c.block.ensures.costing many c.loop-relation-test.true c.loop-relation.invariant
+    (elim c.if-has.branch [
+      | then-has w ↦ w.product-is ∙ ap (λ n. product * n) (w.from-product.ensures ∙ w.kept.ensures ∙ ap factor (sym w.if-has.true ∙ c.has.ensures))
+      | else-has w ↦ w.product-is ∙ sym (times-one product) ∙ ap (λ n. product * n) (ap factor (sym w.if-has.false ∙ c.has.ensures))
+    ])
+
+pub returns-clause-product : goal.returns-clause-product
+returns-clause-product c =
+    let tree = costing_tree c.args.self.now in
+    let many = ap length (c.relations-relation-end.ensures.relations ∙ ap (λ block. block.relations) c.block.ensures.block) in
+    let all : length (stats_at tree c.args.q.now).relations ≤ c.loop-relation.relation =
+    omega (arith, c.loop-relation-test.false, many, stats-at-long tree c.args.q.now c.block.ensures.costing, length-map c.args.self.now.block.relations relation_tree) in
+    so-far-all (set_of c.args.set) (stats_at tree c.args.q.now).relations _ _ all c.loop-relation.invariant
+
+pub returns-clause-few : goal.returns-clause-few
+returns-clause-few c = so-far-few _ _ _ _ c.loop-relation.invariant

@@ -22,14 +22,14 @@ none = record { rows = 0; pages = 0; kept = 0; columns = [] }
 pub bounds-as_slice-relation : goal.bounds-as_slice-relation
 bounds-as_slice-relation c =
     let many : CostingShape → ℕ = λ shape. length shape.block.relations in
-    there c.args.relation _ _ _ _ c.requires c.as_slice.ensures (stats-long _ c.self.invariant) (ap many c.self.view_is)
+    there c.args.relation _ _ _ _ c.requires c.as_slice.ensures (stats-long _ c.self.invariant.is_costing) (ap many c.self.view_is)
 
 pub returns-clause-stats : goal.returns-clause-stats
 unfolding none
 returns-clause-stats c =
     let relation = c.args.relation in
     let many : CostingShape → ℕ = λ shape. length shape.block.relations in
-    let below = there relation _ _ _ _ c.requires c.as_slice.ensures (stats-long _ c.self.invariant) (ap many c.self.view_is) in
+    let below = there relation _ _ _ _ c.requires c.as_slice.ensures (stats-long _ c.self.invariant.is_costing) (ap many c.self.view_is) in
     let at : CostingShape → RelationStats = λ shape. relation_stats shape.stats relation in
     c.index-as_slice-relation.is
     ∙ get_or_default c.as_slice.result.now relation c.index-as_slice-relation.result none below
@@ -41,8 +41,8 @@ unfolding none
 returns-clause-few c =
     let relation = c.args.relation in
     let many : CostingShape → ℕ = λ shape. length shape.block.relations in
-    let below = there relation _ _ _ _ c.requires c.as_slice.ensures (stats-long _ c.self.invariant) (ap many c.self.view_is) in
+    let below = there relation _ _ _ _ c.requires c.as_slice.ensures (stats-long _ c.self.invariant.is_costing) (ap many c.self.view_is) in
     let is = c.index-as_slice-relation.is
     ∙ get_or_default c.as_slice.result.now relation c.index-as_slice-relation.result none below
     ∙ ap (λ all. get_or all relation none) c.as_slice.ensures in
-    subst AreFew (sym is) (relation-few _ relation c.self.invariant)
+    subst AreFew (sym is) (relation-few _ relation c.self.invariant.is_costing)
