@@ -1,7 +1,7 @@
 -- Rows that are counted one after another, page after page, or by the entries of an index.
 use Rattle.std.proofs.Common.{◌≡◌, ℕ, ℤ, ◌+◌, ◌*◌, ◌<◌, ◌≤◌, Bool, true, false, List, [], ◌++◌, length, map, filter, count_by, get_or, take, drop, cond, sym, ap, ap₂, ◌∙◌, inl, inr, refl, arith}
 use mir.Val.{bool_byte}
-use Rattle.std.specs.Prelude.{min}
+use Rattle.std.specs.Prelude.{IsTrue, min}
 use Rattle.std.proofs.Math.Nat.{mul-le-mul_right}
 use Rattle.std.proofs.Math.Seq.{take-add}
 use Rattle.std.proofs.lemmas.Bool.{cases_Bool}
@@ -15,19 +15,21 @@ use Rattle.heap_pages.specs.Rows.{pages_of, rows_on_page, rows_per_page, row_num
 use Rattle.heap_pages.proofs.PageStarts.{pages_enough}
 use Rattle.query_block.specs.Blocks.{RelationTree}
 use Rattle.query_block.specs.Meaning.{meets_filter}
+use Rattle.query_block.specs.Parameters.{fixed_of}
 use Rattle.btree_index.specs.Entries.{HaveWords, IndexEntry, is_within}
 use Rattle.plan_tree.specs.declared.range.WordRange.{WordRange}
-use Rattle.plan_tree.specs.Enumerated.{HasUsable}
 use Rattle.plan_tree.specs.Ranges.{Finds}
-use Rattle.plan_tree.specs.Usable.{is_usable}
-use Rattle.plan_tree.proofs.MetParts.{meets-part, meets-some}
+use Rattle.plan_tree.specs.Usable.{is_fixed_usable}
+use Rattle.plan_tree.proofs.MetParts.{meets-some}
 use Rattle.db_catalog.specs.Database.{DatabaseState, StandAsWords, table_at}
 use Rattle.db_catalog.specs.Fits.{FitsTable}
 use Rattle.db_catalog.specs.Indexes.{index_at, row_of_entry}
 use Rattle.db_catalog.proofs.IndexEntries.{found-rows}
 use Rattle.db_catalog.proofs.OfRelations.{relation_words, relation_values}
 use Rattle.db_catalog.proofs.Picked.{in-range}
+use Rattle.table_stats.specs.Narrow.{uses_some}
 use Rattle.table_stats.specs.Ready.{IsOwnRow}
+use Rattle.table_stats.proofs.Fixed.{fixed-part}
 
 -- the words of a row of a relation's table may be tried
 pub own-row : (database : DatabaseState) (own : RelationTree) → FitsTable database own → (words : List ℤ) (row : ValueRow)
@@ -109,20 +111,21 @@ few-counted test rows n = omega (arith, count_by-le-length test (take n rows), l
 
 -- ---- the rows that an index leads to
 
-module _ (database : DatabaseState) (own : RelationTree) (fits : FitsTable database own) (column : ℕ) (range : WordRange) (usable : HasUsable own column)
-    (finds : Finds database.texts own.columns column range (filter (is_usable own.columns column) own.filter))
+module _ (database : DatabaseState) (own : RelationTree) (fits : FitsTable database own) (column : ℕ) (range : WordRange) (usable : IsTrue (uses_some own column))
+    (finds : Finds database.texts own.columns column range (filter (is_fixed_usable own.columns column) own.filter))
     (words : HaveWords (index_at database own.table column)) (stand : StandAsWords database own.table) where
-  -- no other row meets the filter
-  pub found-all : count_by (meets_filter own.filter) (map (row_of_entry database own.table) (filter (is_within range.from range.to) (index_at database own.table column)))
-      ≡ count_by (meets_filter own.filter) (table_at database own.table).rows
+  -- no other row meets each fixed conjunct
+  pub found-all : count_by (meets_filter (fixed_of own.filter)) (map (row_of_entry database own.table) (filter (is_within range.from range.to) (index_at database own.table column)))
+      ≡ count_by (meets_filter (fixed_of own.filter)) (table_at database own.table).rows
   found-all =
-      let test = meets_filter own.filter in
-      let wanted = meets_filter (filter (is_usable own.columns column) own.filter) in
+      let fixed = fixed_of own.filter in
+      let test = meets_filter fixed in
+      let wanted = meets_filter (filter (is_fixed_usable own.columns column) own.filter) in
       let row = row_of_entry database own.table in
       let read : List ValueRow = map row (filter (λ (entry : IndexEntry). wanted (row entry)) (index_at database own.table column)) in
       let rows = (table_at database own.table).rows in
       let same = found-rows database own.table column wanted test
-      (λ r is. (meets-part (is_usable own.columns column) own.filter r is, meets-some own.columns column own.filter r usable is)) in
+      (λ r is. (fixed-part own.columns column own.filter r is, meets-some own.columns column fixed r usable is)) in
       ap (λ entries. count_by test (map row entries)) (in-range database own fits column range.from range.to wanted finds words stand)
       ∙ sym (length-filter test read)
       ∙ sym (length_permutation (filter test read) (filter test rows) same)

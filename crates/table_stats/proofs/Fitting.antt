@@ -11,6 +11,7 @@ use Rattle.std.proofs.lemmas.List.Sums.{count_by-le-length}
 use Rattle.sql_values.specs.Limits.{max_rows, max_product}
 use Rattle.sql_values.specs.Stored.{StoredTable}
 use Rattle.heap_pages.specs.Rows.{pages_of, rows_per_page}
+use Rattle.query_block.specs.declared.kind.Kind.{Kind}
 use Rattle.query_block.specs.Blocks.{RelationTree, BlockTree, IsRelation, IsBlock}
 use Rattle.sql_values.specs.Truth.{is_null}
 use Rattle.query_block.specs.Truth.{value_at}
@@ -73,9 +74,9 @@ columns-same : (tables : List StoredTable) (relation : RelationTree) (indexes : 
 columns-same tables relation [] = refl
 columns-same tables relation (column ∷ indexes) = ap (λ more. column ∷ more) (columns-same tables relation indexes)
 
-relation-fits : (tables : List StoredTable) (relation : RelationTree) → IsRelation relation → length (table_rows tables relation) ≤ max_rows
+relation-fits : (tables : List StoredTable) (kinds : List Kind) (relation : RelationTree) → IsRelation kinds relation → length (table_rows tables relation) ≤ max_rows
     → FitsRelation relation (relation_stats_of tables relation)
-relation-fits tables relation is few = record {
+relation-fits tables kinds relation is few = record {
   rows = few;
   pages = pages-few (length relation.columns) (length (table_rows tables relation)) is.some is.few;
   kept = count_by-le-length _ (table_rows tables relation);
@@ -86,12 +87,12 @@ relation-fits tables relation is few = record {
 abbrev HasFewRows : List StoredTable → RelationTree → Type 0
 HasFewRows tables relation = length (table_rows tables relation) ≤ max_rows
 
-relations-fit : (tables : List StoredTable) (relations : List RelationTree) → All IsRelation relations → All (HasFewRows tables) relations
+relations-fit : (tables : List StoredTable) (kinds : List Kind) (relations : List RelationTree) → All (IsRelation kinds) relations → All (HasFewRows tables) relations
     → AllZip FitsRelation relations (map (relation_stats_of tables) relations)
-relations-fit tables [] are few = tt
-relations-fit tables (relation ∷ relations) are few = (
-  relation-fits tables relation (All-head IsRelation relation relations are) (All-head (HasFewRows tables) relation relations few),
-  relations-fit tables relations (All-tail IsRelation relation relations are) (All-tail (HasFewRows tables) relation relations few),
+relations-fit tables kinds [] are few = tt
+relations-fit tables kinds (relation ∷ relations) are few = (
+  relation-fits tables kinds relation (All-head (IsRelation kinds) relation relations are) (All-head (HasFewRows tables) relation relations few),
+  relations-fit tables kinds relations (All-tail (IsRelation kinds) relation relations are) (All-tail (HasFewRows tables) relation relations few),
 )
 
 -- where no product is past the limit, the last isn't
@@ -117,6 +118,6 @@ pub counts-fit : (tables : List StoredTable) (block : BlockTree) → IsBlock blo
 counts-fit tables block is few none =
     let product = product-fits tables 1 block.relations (omega arith) none in
     record {
-      relations = relations-fit tables block.relations is.relations few;
+      relations = relations-fit tables block.parameters block.relations is.relations few;
       product = omega (arith, product);
     }

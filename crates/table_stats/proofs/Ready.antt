@@ -1,27 +1,28 @@
 -- A row has a word of the range of a condition where the condition is true.
-use Rattle.std.proofs.Common.{◌≡◌, ℕ, zero, suc, ℤ, get_or, ◌+◌, ◌&&◌, ◌<◌, Bool, true, false, not, cond, List, [], ◌∷◌, ◌++◌, length, Option, Some, None, FitsSigned, w64, refl, sym, ap, subst, ◌∙◌, below_more, arith}
-use Rattle.std.specs.Prelude.{slice_index_or}
+use Rattle.std.proofs.Common.{◌≡◌, ℕ, zero, suc, ℤ, get_or, ◌&&◌, ◌<◌, Bool, true, false, not, cond, List, [], ◌∷◌, length, map, Option, Some, None, FitsSigned, w64, refl, sym, ap, subst, ◌∙◌, arith}
+use Rattle.std.specs.Prelude.{Contains, slice_index_or}
 use Rattle.std.specs.Ordering.{int_eq}
 use Rattle.std.proofs.lemmas.Bool.{false_from_ne_true, true≢false}
-use Rattle.std.proofs.lemmas.List.{get_or-map, get_or_append_left, get_or_push, length-map, length_push}
+use Rattle.std.proofs.lemmas.List.{get_or-map, length-map}
 use Rattle.sql_values.specs.declared.column.ColumnType.{ColumnType}
 use Rattle.sql_values.specs.declared.column.ColumnType.TheVariants.{Integer, Varchar}
 use Rattle.sql_values.specs.declared.value.Value.TheVariants as value
 use Rattle.sql_values.specs.Words.{null_word, word_of, word_meaning}
 use Rattle.sql_values.specs.Stored.{AreWordsOf, ValueRow, values_of}
 use Rattle.sql_values.specs.Truth.{is_null}
-use Rattle.query_block.specs.declared.condition.Condition.{Condition}
-use Rattle.query_block.specs.Conditions.{FilterTree, filter_tree}
+use Rattle.query_block.specs.Conditions.{FilterTree}
 use Rattle.query_block.specs.Blocks.{kind_at}
 use Rattle.query_block.specs.Meaning.{is_true, meets_filter}
+use Rattle.query_block.specs.Parameters.{fixed_of}
 use Rattle.query_block.specs.Truth.{truth_of, value_at}
 use Rattle.query_block.proofs.OfKinds.{of-words}
 use Rattle.query_block.proofs.Words.{length-words, value-at}
 use Rattle.plan_tree.specs.Ranges.{is_in}
 use Rattle.plan_tree.proofs.MetParts.{usable-some}
 use Rattle.table_stats.specs.declared.filter.ColumnRange.{ColumnRange}
+use Rattle.table_stats.specs.declared.filter.ReadyConjunct.{ReadyConjunct}
 use Rattle.table_stats.specs.declared.filter.ReadyFilter.{ReadyFilter}
-use Rattle.table_stats.specs.Ready.{AreKnown, IsKnown, IsOfConjunct, IsOwnRow, IsRangeOf}
+use Rattle.table_stats.specs.Ready.{IsKnown, IsOfConjunct, IsOwnRow, IsRangeOf, IsReadyConjunct, IsReadyFilter, own, own_tree}
 
 -- ---- NULL's word
 
@@ -71,33 +72,32 @@ module _ (texts : List (List ℕ)) (kinds : List ColumnType) (tree : FilterTree)
       ap (λ b. not b && is_in found.range (slice_index_or words found.column null_word)) (null-there texts kinds words found.column row.allowed is.there)
       ∙ same-truth (is_null (value_at (values_of texts kinds words) found.column)) refl
 
--- ---- one conjunct more
-
-pub known-more : (texts : List (List ℕ)) (kinds : List ColumnType) (filter : List Condition) (ranges : List (Option ColumnRange)) (known : Option ColumnRange) (place : ℕ)
-    → AreKnown texts kinds filter place ranges → ((d : Condition) → IsKnown texts kinds (filter_tree (slice_index_or filter place d)) known)
-    → AreKnown texts kinds filter (place + 1) (ranges ++ known ∷ [])
-known-more texts kinds filter ranges known place are is =
-    let IsKnownAt : ℕ → Type 0 = λ i. (d : Condition) → IsKnown texts kinds (filter_tree (slice_index_or filter i d)) (slice_index_or (ranges ++ known ∷ []) i None) in
-    record {
-      many = length_push ranges known ∙ ap (λ n. n + 1) are.many;
-      each = below_more IsKnownAt place
-          (λ i below d.
-          let there : i < length ranges = omega (arith, below, are.many) in
-          subst (IsKnown texts kinds (filter_tree (slice_index_or filter i d))) (sym (get_or_append_left ranges (known ∷ []) None i there)) (are.each i below d))
-          (λ d. subst (IsKnown texts kinds (filter_tree (slice_index_or filter place d))) (sym (get_or_push ranges known None place are.many)) (is d));
-    }
-
 -- ---- one conjunct of a filter
 
-pub of-conjunct : (filter : ReadyFilter) (place : ℕ) (known : Option ColumnRange) → place < length filter.relation.now.filter
-    → ((d : Condition) → IsKnown filter.texts.now filter.relation.now.columns (filter_tree (slice_index_or filter.relation.now.filter place d)) known) → IsOfConjunct filter known
-of-conjunct filter place None below is = tt
-of-conjunct filter place (Some found) below is = (place, below, is)
+known-of : (filter : ReadyFilter) (tree : FilterTree) (words : Option ColumnRange) → Contains (fixed_of (own filter).filter) tree
+    → IsKnown filter.texts.now filter.relation.now.columns tree words → IsOfConjunct filter words
+known-of filter tree None there known = tt
+known-of filter tree (Some found) there known = (tree, there, known)
 
--- it is true where the filter is met
-pub one-met : (trees : List FilterTree) (place : ℕ) (d : FilterTree) (row : ValueRow) → place < length trees → meets_filter trees row ≡ true → is_true (truth_of (get_or trees place d) row) ≡ true
-one-met [] place d row below met = absurd (omega (arith, below))
-one-met (tree ∷ trees) zero d row below met = grind arith
-one-met (tree ∷ trees) (suc place) d row below met =
+pub of-conjunct : (filter : ReadyFilter) (i : ℕ) (conjunct : ReadyConjunct) → IsReadyFilter filter → i < length filter.conjuncts.items → conjunct ≡ get_or filter.conjuncts.items i conjunct
+    → IsOfConjunct filter conjunct.words
+of-conjunct filter i conjunct ready below is =
+    let conjuncts = filter.conjuncts.items in
+    let tree = own_tree conjunct in
+    let there : i < length (map own_tree conjuncts) = simp length-map below in
+    let here : Contains (map own_tree conjuncts) tree = (i, there, get_or-map own_tree conjuncts i conjunct tree below ∙ ap own_tree (sym is)) in
+    let fit : IsReadyConjunct filter.texts.now filter.relation.now.columns conjunct =
+    subst (IsReadyConjunct filter.texts.now filter.relation.now.columns) (sym is) (ready.fixed.ready i conjunct below) in
+    known-of filter tree conjunct.words (subst (λ (trees : List FilterTree). Contains trees tree) ready.fixed.trees here) fit.known
+
+-- it is true where each is
+true-at : (trees : List FilterTree) (place : ℕ) (d : FilterTree) (row : ValueRow) → place < length trees → meets_filter trees row ≡ true → is_true (truth_of (get_or trees place d) row) ≡ true
+true-at [] place d row below met = absurd (omega (arith, below))
+true-at (tree ∷ trees) zero d row below met = grind arith
+true-at (tree ∷ trees) (suc place) d row below met =
     let rest : meets_filter trees row ≡ true = grind arith in
-    one-met trees place d row (omega (arith, below)) rest
+    true-at trees place d row (omega (arith, below)) rest
+
+pub one-met : (trees : List FilterTree) (tree : FilterTree) (row : ValueRow) → Contains trees tree → meets_filter trees row ≡ true → is_true (truth_of tree row) ≡ true
+one-met trees tree row there met =
+    ap (λ (one : FilterTree). is_true (truth_of one row)) (sym there.2) ∙ true-at trees there.0 tree row there.1 met

@@ -3,16 +3,16 @@ use Rattle.std.specs.Prelude.{◌≡◌, ℕ, ◌≤◌, List, drop, length, tak
 use Rattle.sql_values.specs.Limits.{max_rows}
 use Rattle.sql_values.specs.Stored.{ValueRow}
 use Rattle.heap_pages.specs.Rows.{row_number}
-use Rattle.query_block.specs.Blocks.{IsRelation, RelationTree}
+use Rattle.query_block.specs.Blocks.{RelationTree}
 use Rattle.db_catalog.specs.Database.{DatabaseState, table_at}
 use Rattle.db_catalog.specs.Fits.{FitsTable}
 use Rattle.db_catalog.specs.Meter.{page_rows}
 use Rattle.table_stats.specs.declared.filter.ReadyFilter.{ReadyFilter}
-use Rattle.table_stats.specs.Ready.{IsReadyFilter, own}
+use Rattle.table_stats.specs.Ready.{IsOfBlock, IsReadyFilter, own}
 
--- what a block asks of a relation holds of it, and it stands over its table
+-- a relation of some block, which stands over its table
 pub record StandsIn (database : DatabaseState) (relation : RelationTree) : Type 0 where
-  pub well_formed : IsRelation relation
+  pub well_formed : IsOfBlock relation
   pub fits : FitsTable database relation
 
 -- the filter is ready, its relation stands over its table, its texts are the database's, and the table is within its limit

@@ -1,17 +1,20 @@
--- A filter that is made ready for many rows: of each condition the words of a column by which it is true, where an index
--- could find them.
-use Rattle.std.specs.Prelude.{◌≡◌, ℕ, ℤ, ◌<◌, IsTrue, List, length, map, Option, Some, None, slice_index_or}
+-- A filter whose fixed conjuncts are made ready for many rows: of each the words of a column by which it is true, where an
+-- index could find them.
+use Rattle.std.specs.Prelude.{◌≡◌, ℕ, ℤ, ◌<◌, All, Bool, Contains, IsTrue, List, [], length, map, Option, Some, None}
 use Rattle.sql_values.specs.declared.column.ColumnType.{ColumnType}
 use Rattle.sql_values.specs.Words.{word_of}
 use Rattle.sql_values.specs.Stored.{AreWordsOf, ValueRow, values_of}
 use Rattle.query_block.specs.declared.condition.Condition.{Condition}
+use Rattle.query_block.specs.declared.kind.Kind.{Kind}
 use Rattle.query_block.specs.Conditions.{FilterTree, filter_tree}
-use Rattle.query_block.specs.Blocks.{IsRelation, RelationTree, relation_tree}
-use Rattle.query_block.specs.Meaning.{is_true}
+use Rattle.query_block.specs.Blocks.{FitsColumns, IsRelation, RelationTree, relation_tree}
+use Rattle.query_block.specs.Meaning.{is_true, meets_filter}
+use Rattle.query_block.specs.Parameters.{fixed_of}
 use Rattle.query_block.specs.Picked.{Picks}
 use Rattle.query_block.specs.Truth.{truth_of}
 use Rattle.plan_tree.specs.Usable.{is_usable}
 use Rattle.table_stats.specs.declared.filter.ColumnRange.{ColumnRange}
+use Rattle.table_stats.specs.declared.filter.ReadyConjunct.{ReadyConjunct}
 use Rattle.table_stats.specs.declared.filter.ReadyFilter.{ReadyFilter}
 
 -- the words may stand in a row of columns of these kinds, and each is the word of its value
@@ -30,15 +33,32 @@ abbrev pub IsKnown : List (List ℕ) → List ColumnType → FilterTree → Opti
 IsKnown texts kinds tree None = Unit {0}
 IsKnown texts kinds tree (Some found) = IsRangeOf texts kinds tree found
 
--- so it is of the first so many conditions, place by place
-pub record AreKnown (texts : List (List ℕ)) (kinds : List ColumnType) (filter : List Condition) (count : ℕ) (ranges : List (Option ColumnRange)) : Type 0 where
-  pub many : length ranges ≡ count
-  pub each : (place : ℕ) → place < count → (d : Condition)
-      → IsKnown texts kinds (filter_tree (slice_index_or filter place d)) (slice_index_or ranges place None)
+-- the condition of a conjunct
+abbrev pub own_tree : ReadyConjunct → FilterTree
+own_tree conjunct = filter_tree conjunct.condition.now
+
+-- a condition without a parameter that fits the columns, and what is known of it
+pub record IsReadyConjunct (texts : List (List ℕ)) (kinds : List ColumnType) (conjunct : ReadyConjunct) : Type 0 where
+  pub fits : FitsColumns [] kinds (own_tree conjunct)
+  pub known : IsKnown texts kinds (own_tree conjunct) conjunct.words
+
+-- these are the fixed ones of some conditions, in order, each of them ready
+pub record AreFixed (texts : List (List ℕ)) (kinds : List ColumnType) (conditions : List Condition) (conjuncts : List ReadyConjunct) : Type 0 where
+  pub trees : map own_tree conjuncts ≡ fixed_of (map filter_tree conditions)
+  pub ready : All (IsReadyConjunct texts kinds) conjuncts
+
+-- a relation of some block, whose parameters are of these kinds
+pub record IsOfBlock (relation : RelationTree) : Type 0 where
+  pub kinds : List Kind
+  pub is : IsRelation kinds relation
 
 -- the relation whose filter it is
 abbrev pub own : ReadyFilter → RelationTree
 own filter = relation_tree filter.relation.now
+
+-- whether each fixed conjunct of the filter is true on a row
+abbrev pub is_kept : ReadyFilter → ValueRow → Bool
+is_kept filter row = meets_filter (fixed_of (own filter).filter) row
 
 -- the values for which the words of a row of that relation stand
 abbrev pub own_values : ReadyFilter → List ℤ → ValueRow
@@ -48,14 +68,14 @@ own_values filter words = values_of filter.texts.now filter.relation.now.columns
 abbrev pub IsRowFor : ReadyFilter → List ℤ → Type 0
 IsRowFor filter words = IsOwnRow filter.texts.now filter.relation.now.columns words
 
--- it is of a relation of a block, and what it keeps is known of each of the relation's conjuncts
+-- it is of a relation of a block, and its conjuncts are the fixed ones of the relation's filter
 pub record IsReadyFilter (filter : ReadyFilter) : Type 0 where
-  pub relation : IsRelation (own filter)
-  pub known : AreKnown filter.texts.now filter.relation.now.columns filter.relation.now.filter (length filter.relation.now.filter) filter.ranges.items
+  pub relation : IsOfBlock (own filter)
+  pub fixed : AreFixed filter.texts.now filter.relation.now.columns filter.relation.now.filter filter.conjuncts.items
 
--- what is known of one of the filter's conjuncts, if anything is
+-- what is known of one of the filter's fixed conjuncts, if anything is
 abbrev pub IsOfConjunct : ReadyFilter → Option ColumnRange → Type 0
 IsOfConjunct filter None = Unit {0}
 IsOfConjunct filter (Some found) =
-    (place : ℕ) × (place < length filter.relation.now.filter)
-    × ((d : Condition) → IsRangeOf filter.texts.now filter.relation.now.columns (filter_tree (slice_index_or filter.relation.now.filter place d)) found)
+    (tree : FilterTree) × Contains (fixed_of (own filter).filter) tree
+    × IsRangeOf filter.texts.now filter.relation.now.columns tree found

@@ -1,17 +1,20 @@
 // The counts of a relation's indexed columns. They lie in the indexes: no row is looked at.
-ghost use Rattle.std.specs.Prelude.{◌≡◌, ◌<◌, All, Contains, IfOk, IfSome, length};
+ghost use Rattle.std.specs.Prelude.{◌≡◌, Contains, IfOk, IfSome};
 ghost use Rattle.query_block.specs.Blocks.{relation_tree};
 ghost use Rattle.cost_model.specs.Counts.{index_stats_of, relation_stats_of};
 ghost use Rattle.table_stats.specs.Kept.{StandsIn};
-ghost use Rattle.table_stats.specs.Narrow.{HasMatches, TellsAll, uses_all};
+ghost use Rattle.table_stats.specs.Narrow.{AreColumns, LeadsToKept, TellsAll};
+ghost use Rattle.table_stats.specs.Ready.{IsReadyFilter, own};
 
+use crate::filter::ReadyFilter;
 use cost_model::IndexStats;
 use db_catalog::Database;
-use plan_tree::{has_usable, is_usable, range_of};
+use plan_tree::{has_usable, range_of};
 use query_block::Relation;
 use std::alloc::{AllocError, Global};
 
-// In how many rows an indexed column meets each conjunct that the index can use, where it can use some.
+// In how many rows an indexed column meets each fixed conjunct that the index can use, where it can use some conjunct, be it
+// one with a parameter.
 fn matches(db: &Database, relation: &Relation, column: u8) -> Option<u64>
     requires stands { StandsIn db.now (relation_tree relation.now) }
     requires indexed { Contains relation.now.indexes column }
@@ -57,28 +60,16 @@ pub(crate) fn index_stats(
     Ok(stats)
 }
 
-// Whether the index on a column can use every conjunct of a relation's filter.
-fn uses_all(relation: &Relation, column: u8) -> bool
-    requires { column < length relation.now.columns }
-    ensures { result ≡ uses_all (relation_tree relation.now) column }
-{
-    for conjunct in relation.filter.as_slice() {
-        if !is_usable(relation.columns.as_slice(), column, conjunct) {
-            return false;
-        }
-    }
-    true
-}
-
-/// The matches of a column on which every conjunct of the filter is usable, if there is one: then no row needs to be looked
-/// at.
-pub(crate) fn matches_of_all(relation: &Relation, columns: &[IndexStats]) -> Option<u64>
-    requires { All (λ index. index.column < length relation.now.columns) columns.now }
-    ensures { IfSome result (TellsAll (relation_tree relation.now) columns.now) }
+/// The matches of a column on which every fixed conjunct of the filter is usable, if there is one: then no row needs to be
+/// looked at.
+pub(crate) fn matches_of_all(filter: &ReadyFilter<'_>, columns: &[IndexStats]) -> Option<u64>
+    requires ready { IsReadyFilter filter.now }
+    requires there { AreColumns (own filter.now) columns.now }
+    ensures { IfSome result (TellsAll (own filter.now) columns.now) }
 {
     for index in columns {
         if let Some(matches) = index.matches {
-            if uses_all(relation, index.column) {
+            if filter.uses_all(index.column) {
                 return Some(matches);
             }
         }
@@ -86,15 +77,22 @@ pub(crate) fn matches_of_all(relation: &Relation, columns: &[IndexStats]) -> Opt
     None
 }
 
-/// Of these the one with the fewest matches, where these are at most so many.
-pub(crate) fn narrowest(columns: &[IndexStats], most: u64) -> Option<IndexStats>
-    ensures { IfSome result (HasMatches columns.now) }
+/// Of these the one with the fewest matches, where these are at most so many. An index that can use none but conjuncts with a
+/// parameter leads to too few rows: not to those without a value in its column.
+pub(crate) fn narrowest(
+    filter: &ReadyFilter<'_>,
+    columns: &[IndexStats],
+    most: u64,
+) -> Option<IndexStats>
+    requires ready { IsReadyFilter filter.now }
+    requires there { AreColumns (own filter.now) columns.now }
+    ensures { IfSome result (LeadsToKept (own filter.now) columns.now) }
 {
     let mut found = None;
     let mut least = most;
     for index in columns {
         if let Some(matches) = index.matches {
-            if matches <= least {
+            if matches <= least && filter.uses_some(index.column) {
                 found = Some(*index);
                 least = matches;
             }

@@ -1,12 +1,11 @@
-// How many rows of a relation's table its filter keeps. They are found through a range of an index, or page by page; both
-// ways lead to one number.
-ghost use Rattle.std.specs.Prelude.{◌≡◌, ◌+◌, ◌*◌, ◌<◌, ◌≤◌, Contains, count_by, drop, length, take};
-ghost use Rattle.query_block.specs.Meaning.{meets_filter};
-ghost use Rattle.plan_tree.specs.Enumerated.{HasUsable};
+// How many rows of a relation's table the fixed conjuncts of its filter keep. They are found through a range of an index, or
+// page by page; both ways lead to one number.
+ghost use Rattle.std.specs.Prelude.{◌≡◌, ◌+◌, ◌*◌, ◌<◌, ◌≤◌, Contains, IsTrue, count_by, drop, length, take};
 ghost use Rattle.cost_model.specs.Counts.{relation_stats_of};
 ghost use Rattle.db_catalog.specs.Meter.{table_pages};
 ghost use Rattle.table_stats.specs.Kept.{IsOver, rows_on};
-ghost use Rattle.table_stats.specs.Ready.{own};
+ghost use Rattle.table_stats.specs.Narrow.{uses_some};
+ghost use Rattle.table_stats.specs.Ready.{is_kept, own};
 
 use crate::filter::ReadyFilter;
 use db_catalog::Database;
@@ -24,7 +23,7 @@ fn row_in(words: &[i64], slot: usize, width: usize) -> &[i64]
 fn kept_on_page(db: &Database, filter: &ReadyFilter<'_>, no: u64) -> u64
     requires over { IsOver db.now filter.now }
     requires page { no < table_pages db.now filter.now.relation.now.table }
-    ensures { result ≡ count_by (meets_filter (own filter.now).filter)
+    ensures { result ≡ count_by (is_kept filter.now)
         (rows_on db.now filter.now.relation.now.table no) }
 {
     let table = filter.relation.table;
@@ -50,11 +49,11 @@ pub(crate) fn kept_in_pages(db: &Database, filter: &ReadyFilter<'_>) -> u64
     kept
 }
 
-/// Among the rows that meet each conjunct that the index on a column can use: no other row meets the filter.
+/// Among the rows that meet each fixed conjunct that the index on a column can use: no other row meets all of them.
 pub(crate) fn kept_within(db: &Database, filter: &ReadyFilter<'_>, column: u8) -> u64
     requires over { IsOver db.now filter.now }
     requires indexed { Contains filter.now.relation.now.indexes column }
-    requires usable { HasUsable (own filter.now) column }
+    requires usable { IsTrue (uses_some (own filter.now) column) }
     ensures { result ≡ (relation_stats_of db.now.tables (own filter.now)).kept }
 {
     let table = filter.relation.table;

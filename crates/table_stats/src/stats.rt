@@ -21,8 +21,8 @@ use std::alloc::{AllocError, Global};
 // A range that holds more than one of so many rows is wide: then a pass over all pages is quicker.
 const WIDE: u64 = 4;
 
-// How many rows of its table a relation's filter keeps. Without a filter these are all; where the filter asks for nothing
-// that an index can't use, its matches; else the rows that a narrow range of an index leads to are tried, or all.
+// How many rows of its table the fixed conjuncts of a relation's filter keep. Without one these are all; where they ask for
+// nothing that an index can't use, its matches; else the rows that a narrow range of an index leads to are tried, or all.
 fn kept_rows(
     alloc: Global,
     db: &Database,
@@ -35,14 +35,14 @@ fn kept_rows(
         (λ kept. kept ≡ (relation_stats_of db.now.tables (relation_tree relation.now)).kept) }
 {
     let rows = db.rows(relation.table);
-    if relation.filter.as_slice().is_empty() {
+    let filter = ReadyFilter::new(alloc, relation, db.texts())?;
+    if filter.conjuncts.is_empty() {
         return Ok(rows);
     }
-    if let Some(matches) = matches_of_all(relation, columns) {
+    if let Some(matches) = matches_of_all(&filter, columns) {
         return Ok(matches);
     }
-    let filter = ReadyFilter::new(alloc, relation, db.texts())?;
-    match narrowest(columns, rows / WIDE) {
+    match narrowest(&filter, columns, rows / WIDE) {
         Some(index) => Ok(kept_within(db, &filter, index.column)),
         None => Ok(kept_in_pages(db, &filter)),
     }
@@ -81,10 +81,11 @@ fn all_stats(alloc: Global, db: &Database, block: &Block) -> Result<Vec<Relation
     Ok(stats)
 }
 
-/// The exact counts of a block's tables: of each relation the rows, the pages and the rows that its filter keeps, and
-/// of each indexed column the height of its index and the rows in which it meets the usable conjuncts. Nothing is paid, and
-/// a row is looked at only where a filter asks for more than an index tells. There are none where the product of the tables' counts of rows, each at least 1,
-/// passes 2^100 on the way from left to right.
+/// The exact counts of a block's tables: of each relation the rows, the pages and the rows that the fixed conjuncts of its
+/// filter keep, and of each indexed column the height of its index and the rows in which it meets the fixed conjuncts that
+/// are usable on it. A conjunct with a parameter leaves no row out. Nothing is paid, and a row is looked at only where these
+/// conjuncts ask for more than an index tells. There are none where the product of the tables' counts of rows, each at least
+/// 1, passes 2^100 on the way from left to right.
 pub fn stats_of(alloc: Global, db: &Database, block: &Block) -> Result<Stats, StatsFault>
     requires { Fits db.now (block_tree block.now) }
     ensures counts { IfOk result (λ stats. stats ≡ stats_of db.now.tables (block_tree block.now)) }

@@ -26,9 +26,9 @@ returns c =
     let from : SFits w64 range.from = search rules in
     let to : SFits w64 range.to = search rules in
     let entries = simp to_z-of_z at c.entries_within-entries.ensures.entries in
-    let finds = rw (c.as_slice-filter.ensures, c.texts.ensures.texts) at (c.range_of-range.ensures own.columns) in
+    let finds = rw (c.as_slice-filter.ensures, c.texts.ensures.texts) at (c.range_of-range.ensures c.requires.stands.well_formed.kinds own.columns) in
     let usable = rw (c.as_slice-filter.ensures, c.as_slice.ensures) at c.has_usable.ensures in
     let some : Option ℕ = Some (matches_in database.tables own c.args.column) in
     ap Some (ap length entries
-    ∙ matches-are database own c.requires.stands.fits c.args.column range (finds c.requires.stands.well_formed.filter) c.entries_within-entries.ensures.words c.entries_within-entries.ensures.rows)
+    ∙ matches-are database own c.requires.stands.fits c.args.column range (finds c.requires.stands.well_formed.is.filter) c.entries_within-entries.ensures.words c.entries_within-entries.ensures.rows)
     ∙ sym (ap (λ (b : Bool). cond b some None) (sym usable ∙ c.if-not-has_usable.false))

@@ -3,11 +3,10 @@ use Rattle.std.specs.Prelude.{Bool, ℤ}
 use Rattle.sql_values.specs.declared.column.ColumnDef.{ColumnDef}
 use Rattle.sql_values.specs.Stored.{ValueRow, StandsFor, values_of}
 use Rattle.heap_pages.specs.Rows.{row_number}
-use Rattle.query_block.specs.Meaning.{meets_filter}
 use Rattle.db_catalog.specs.Database.{table_at, row_at}
 use Rattle.db_catalog.specs.Meter.{page_rows}
 use Rattle.db_catalog.proofs.OfRelations.{relation_values}
-use Rattle.table_stats.specs.Ready.{own}
+use Rattle.table_stats.specs.Ready.{is_kept, own}
 use Rattle.table_stats.proofs.Counted.{one-more, own-row, slot-ends, slot-row, slot-there}
 use Rattle.table_stats.proofs.kept.kept_on_page.Goals as goal
 
@@ -45,7 +44,7 @@ loop-slot-preserved c =
     let slot = c.loop-slot.slot in
     let words = c.row_in.result.now in
     let row = row_at table (row_number (length table.columns) c.args.no slot) in
-    let test : ValueRow → Bool = meets_filter relation.filter in
+    let test : ValueRow → Bool = is_kept c.args.filter.now in
     let below : slot < page_rows database relation.table c.args.no = subst (λ n. slot < n) c.rows_on_page-slot-end.ensures c.loop-slot-test.true in
     let values : values_of c.args.filter.now.texts.now relation.columns words ≡ get_or (drop begin table.rows) slot [] =
     ap (λ texts. values_of texts relation.columns words) c.requires.over.texts

@@ -4,13 +4,12 @@ use Rattle.std.proofs.lemmas.Int.{to_z-of_z}
 use Rattle.std.proofs.lemmas.List.{get_or-map, length-map, take_all}
 use Rattle.std.proofs.lemmas.List.Elements.{All-contains, All-filter}
 use Rattle.sql_values.specs.Stored.{ValueRow, values_of}
-use Rattle.query_block.specs.Meaning.{meets_filter}
 use Rattle.btree_index.specs.Entries.{IndexEntry, is_within}
 use Rattle.db_catalog.specs.Database.{table_at}
 use Rattle.db_catalog.specs.Indexes.{index_at, row_of_entry}
 use Rattle.db_catalog.proofs.OfIndexes.{index_at-below}
 use Rattle.db_catalog.proofs.OfRelations.{relation_values}
-use Rattle.table_stats.specs.Ready.{own}
+use Rattle.table_stats.specs.Ready.{is_kept, own}
 use Rattle.table_stats.proofs.Counted.{found-all, one-more, own-row}
 use Rattle.table_stats.proofs.kept.kept_within.Goals as goal
 
@@ -43,7 +42,7 @@ loop-entry-preserved c =
     let i = c.loop-entry.entry-index in
     let words = c.plain_row-row.result.now in
     let entry = get_or entries i (pos 0, 0) in
-    let test : ValueRow → Bool = meets_filter relation.filter in
+    let test : ValueRow → Bool = is_kept c.args.filter.now in
     let there : i < length (map row entries) = simp length-map c.loop-entry-test.true in
     let values : values_of c.args.filter.now.texts.now relation.columns words ≡ get_or (map row entries) i [] =
     ap (λ texts. values_of texts relation.columns words) c.requires.over.texts
@@ -61,10 +60,10 @@ returns c =
     let from : SFits w64 range.from = search rules in
     let to : SFits w64 range.to = search rules in
     let are = simp to_z-of_z at c.entries_within-entry-items.ensures.entries in
-    let test : ValueRow → Bool = meets_filter relation.filter in
-    let finds = rw (c.as_slice.ensures, c.requires.over.texts) at (c.range_of-range.ensures relation.columns) in
+    let test : ValueRow → Bool = is_kept c.args.filter.now in
+    let finds = rw (c.as_slice.ensures, c.requires.over.texts) at (c.range_of-range.ensures c.requires.over.ready.relation.kinds relation.columns) in
     let all : take c.loop-entry.entry-index (map row entries) ≡ map row entries = take_all c.loop-entry.entry-index (map row entries) (simp length-map c.loop-entry-test.false) in
     c.loop-entry.invariant
     ∙ ap (count_by test) (all ∙ ap (map row) are)
-    ∙ found-all database relation c.requires.over.fits c.args.column range c.requires.usable (finds c.requires.over.ready.relation.filter)
+    ∙ found-all database relation c.requires.over.fits c.args.column range c.requires.usable (finds c.requires.over.ready.relation.is.filter)
     c.entries_within-entry-items.ensures.words c.entries_within-entry-items.ensures.rows

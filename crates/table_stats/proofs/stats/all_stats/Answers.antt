@@ -15,7 +15,11 @@ relation_stats-requires c =
     let of : (P : RelationTree → Type 0) → All P (map relation_tree c.args.block.now.relations) → P (relation_tree c.relation-item.result) = λ P all.
     of_each P lent c.loop-relation.relation-index c.relation-item.result c.loop-relation-test.true c.relation-item.is
     (subst (λ relations. All P (map relation_tree relations)) (sym c.relations-relation-items.ensures.relations) all) in
-    record { well_formed = of IsRelation c.relations-relation-items.ensures.block.relations; fits = of fits c.requires }
+    let kinds = c.args.block.now.parameters in
+    record {
+      well_formed = record { kinds = kinds; is = of (IsRelation kinds) c.relations-relation-items.ensures.block.relations };
+      fits = of fits c.requires;
+    }
 
 twice : (f : RelationTree → RelationStats) (relations : List Relation) → map (λ relation. f (relation_tree relation)) relations ≡ map f (map relation_tree relations)
 twice f [] = refl

@@ -1,0 +1,10 @@
+use Rattle.std.proofs.Common.{◌≡◌, drop, map}
+use Rattle.std.specs.List.{list_all}
+use Rattle.plan_tree.specs.Usable.{is_usable}
+use Rattle.table_stats.specs.Narrow.{uses_all}
+use Rattle.table_stats.specs.Ready.{own, own_tree}
+use Rattle.table_stats.proofs.filter.ReadyFilter.uses_all.Given as goal
+
+abbrev pub invariant-loop-conjunct : goal.invariant-loop-conjunct
+invariant-loop-conjunct l =
+    uses_all (own l.self) l.column ≡ list_all (is_usable l.self.relation.now.columns l.column) (map own_tree (drop l.conjunct-index l.conjunct-items))
