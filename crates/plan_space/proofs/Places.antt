@@ -1,16 +1,36 @@
 -- The place of the point that keeps the levels of some axes and has the lowest level on the others.
-use Rattle.std.proofs.Common.{◌≡◌, ℕ, zero, suc, ◌+◌, ◌-◌, ◌*◌, ◌<◌, ◌≤◌, Bool, true, false, cond, List, [], ◌∷◌, length, drop, get_or, Some, refl, sym, ap, subst, ◌∙◌, arith}
-use Rattle.std.specs.Prelude.{All, slice_index_or}
+use Rattle.std.proofs.Common.{◌≡◌, ℕ, zero, suc, ◌+◌, ◌-◌, ◌*◌, ◌<◌, ◌≤◌, Bool, true, false, cond, inl, inr, List, [], ◌∷◌, length, drop, get_or, Option, Some, None, refl, sym, ap, subst, ◌∙◌, arith}
+use Rattle.std.specs.Prelude.{All, IfSome, IsTrue, slice_index_or}
+use Rattle.std.proofs.lemmas.Bool.{true≢false, cases_lt}
 use Rattle.std.proofs.Math.Seq.{drop-length}
 use Rattle.std.proofs.lemmas.List.Elements.{All-nil, All-cons, All-head, All-tail}
 use Rattle.sql_values.specs.Limits.{max_points}
 use Rattle.ess_grid.specs.Points.{GridShape, IsGrid, IsPoint, point_at}
 use Rattle.ess_grid.proofs.PointsAmong.{place_at, place_at-drop}
 use Rattle.ess_grid.proofs.GridPoints.{slice_get-place_at, place_at-drop-fits}
+use Rattle.query_block.specs.Blocks.{RelationTree, BlockTree, relation_at, has_parameter, axes_of, axis_of}
+use Rattle.cost_model.proofs.OnAxes.{axis-below}
 use Rattle.cost_model.specs.Costing.{costing_tree, IsCosting}
 use Rattle.cost_model.specs.Pricing.{Pricing}
 use Rattle.cost_model.specs.Prices.{block_at}
 use Rattle.plan_space.specs.Alike.{IsAlikePlace, AreInside}
+
+-- only a relation of the block has an axis
+none-beyond : (relations : List RelationTree) (relation : ℕ) → length relations ≤ relation → has_parameter (relation_at relations relation) ≡ false
+none-beyond [] relation beyond = refl
+none-beyond (one ∷ more) zero beyond = absurd (omega (arith, beyond))
+none-beyond (one ∷ more) (suc relation) beyond = none-beyond more relation (omega (arith, beyond))
+
+no-axis-where : (b : Bool) (axis one : ℕ) → b ≡ false → cond b (Some axis) None ≡ Some one → ⊥
+no-axis-where true axis one out is = true≢false out
+no-axis-where false axis one out is = cc
+
+axis-exists : (block : BlockTree) (relation axis : ℕ) → axis_of block relation ≡ Some axis → relation < length block.relations
+axis-exists block relation axis is =
+    elim (cases_lt relation (length block.relations)) [
+      | inl there ↦ there
+      | inr beyond ↦ absurd (no-axis-where (has_parameter (relation_at block.relations relation)) _ axis (none-beyond block.relations relation beyond) is)
+    ]
 
 -- the levels from the axis of this number on
 abbrev pub kept_levels : (inside : List Bool) → (number : ℕ) → List ℕ → List ℕ
@@ -48,20 +68,31 @@ is-point grid inside point is = record {
   levels = All-kept_levels inside 0 grid.levels point is.levels;
 }
 
+-- the level of a marked axis is kept
+stays : (inside : List Bool) (point : List ℕ) (axis : ℕ) → axis < length point → IsTrue (slice_index_or inside axis false) → get_or (kept_levels inside 0 point) axis 0 ≡ get_or point axis 0
+stays inside point axis there marked =
+    let here : 0 + axis ≡ axis = omega arith in
+    get_or-kept_levels inside 0 point axis there
+    ∙ ap (λ n. cond (slice_index_or inside n false) (get_or point axis 0) 0) here
+    ∙ ap (λ b. cond b (get_or point axis 0) 0) marked
+
+-- the axis of a relation is one of the grid's
+axis-there : (axes : ℕ) (found : Option ℕ) (axis : ℕ) → IfSome found (λ one. one < axes) → found ≡ Some axis → axis < axes
+axis-there axes found axis below is = subst (λ one. IfSome one (λ n. n < axes)) is below
+
 -- where these are the axes inside a set, it is alike for the set
 pub alike-place : (at : Pricing) (set : ℕ) (inside : List Bool) (place : ℕ) → IsCosting (costing_tree at.costing) → IsPoint at.costing.grid at.point → AreInside (block_at at) set inside
     → place ≡ place_at at.costing.grid.levels (kept_levels inside 0 at.point) → IsAlikePlace at set place
-alike-place at set inside place is point edges there = record {
+alike-place at set inside place is point axes there = record {
   other = kept_levels inside 0 at.point;
   there = subst (λ n. point_at at.costing.grid n ≡ Some (kept_levels inside 0 at.point)) (sym there)
       (slice_get-place_at at.costing.grid (kept_levels inside 0 at.point) is.grid (is-point at.costing.grid inside at.point point));
   alike = record {
-    levels = λ edge below within.
-        let exists : edge < length at.point = omega (arith, below, point.axes, is.axes) in
-        let here : 0 + edge ≡ edge = omega arith in
-        get_or-kept_levels inside 0 at.point edge exists
-        ∙ ap (λ n. cond (slice_index_or inside n false) (get_or at.point edge 0) 0) here
-        ∙ ap (λ b. cond b (get_or at.point edge 0) 0) (edges edge below ∙ within);
+    edges = λ edge below within. stays inside at.point edge (omega (arith, below, point.axes, is.axes)) (axes.edges edge below within);
+    relations = λ relation axis member found.
+        let exists = axis-exists (block_at at) relation axis found in
+        let below = axis-there (axes_of (block_at at)) (axis_of (block_at at) relation) axis (axis-below (block_at at) relation exists) found in
+        stays inside at.point axis (omega (arith, below, point.axes, is.axes)) (axes.relations relation exists axis member found);
   };
 }
 

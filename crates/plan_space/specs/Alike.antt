@@ -1,31 +1,38 @@
 -- When what was found for a set at one point serves at another one, and the tables of many points.
-use Rattle.std.specs.Prelude.{◌≡◌, ℕ, ◌^◌, ◌<◌, Bool, false, Some, IsTrue, List, [], length, slice_index, slice_index_or}
+use Rattle.std.specs.Prelude.{◌≡◌, ℕ, ◌^◌, ◌<◌, Bool, false, Some, IsTrue, List, [], length, slice_index_or}
 use Rattle.ess_grid.specs.Points.{point_at}
-use Rattle.query_block.specs.Blocks.{BlockTree, axis_of_edge, block_tree}
+use Rattle.query_block.specs.Blocks.{BlockTree, axis_of, axis_of_edge, block_tree}
 use Rattle.query_block.specs.Meaning.{is_inside}
 use Rattle.plan_tree.specs.Enumerated.{edge_at}
 use Rattle.plan_tree.specs.Sets.{set_of}
 use Rattle.cost_model.specs.Costing.{CostingShape}
+use Rattle.cost_model.specs.Alike.{IsAlike}
 use Rattle.plan_space.specs.declared.entry.Entry.{Entry}
 use Rattle.plan_space.specs.Table.{AreLeast}
 use Rattle.cost_model.specs.Pricing.{Pricing}
 use Rattle.cost_model.specs.Prices.{own_at, block_at}
 
--- the axis of each edge inside a set has the same level at both points: then each plan of the set costs the same at both
-pub record IsAlike (block : BlockTree) (set : ℕ) (point other : List ℕ) : Type 0 where
-  pub levels : (edge : ℕ) → edge < length block.edges → IsTrue (is_inside (set_of set) (edge_at block.edges edge))
-      → slice_index point (axis_of_edge edge) ≡ slice_index other (axis_of_edge edge)
-
--- the point of the grid at this place is such a one
+-- the point of the grid at this place is alike for a set: then each plan of the set costs the same at both
 pub record IsAlikePlace (at : Pricing) (set place : ℕ) : Type 0 where
   pub other : List ℕ
   pub there : point_at at.costing.grid place ≡ Some other
-  pub alike : IsAlike (block_at at) set other at.point
+  pub alike : IsAlike (block_at at) (set_of set) other at.point
 
--- for each axis, whether its edge is inside a set
-abbrev pub AreInside : BlockTree → (set : ℕ) → List Bool → Type 0
-AreInside block set inside =
-    (edge : ℕ) → edge < length block.edges → slice_index_or inside (axis_of_edge edge) false ≡ is_inside (set_of set) (edge_at block.edges edge)
+-- the axes of the edges inside a set are marked
+abbrev pub MarksEdges : BlockTree → (set : ℕ) → List Bool → Type 0
+MarksEdges block set inside =
+    (edge : ℕ) → edge < length block.edges → IsTrue (is_inside (set_of set) (edge_at block.edges edge))
+    → IsTrue (slice_index_or inside (axis_of_edge edge) false)
+
+-- the axis of a relation is marked, if it is in the set and has one
+abbrev pub MarksRelation : BlockTree → (set relation : ℕ) → List Bool → Type 0
+MarksRelation block set relation inside =
+    (axis : ℕ) → IsTrue (set_of set relation) → axis_of block relation ≡ Some axis → IsTrue (slice_index_or inside axis false)
+
+-- the axes inside a set are marked: those of the edges inside it, and those of its relations
+pub record AreInside (block : BlockTree) (set : ℕ) (inside : List Bool) : Type 0 where
+  pub edges : MarksEdges block set inside
+  pub relations : (relation : ℕ) → relation < length block.relations → MarksRelation block set relation inside
 
 -- the same for all sets
 abbrev pub AreInsideSets : BlockTree → List (List Bool) → Type 0
@@ -48,5 +55,5 @@ AreLeastRows costing rows =
 
 -- what is known of earlier points: which axes are inside which sets, and the tables of the first points
 pub record AreEarlier (costing : CostingShape) (inside : List (List Bool)) (rows : List (List Entry)) : Type 0 where
-  pub edges : AreInsideSets (block_tree costing.block) inside
+  pub axes : AreInsideSets (block_tree costing.block) inside
   pub tables : AreLeastRows costing rows

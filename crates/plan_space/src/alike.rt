@@ -1,17 +1,18 @@
 // Which other point serves for a set of relations: what plans of a set cost depends on the levels of the axes inside it alone.
-ghost use Rattle.std.specs.Prelude.{◌≡◌, ◌<◌, ◌≤◌, if◌then◌else◌, length};
+// These are the axes of the edges inside it and of its relations.
+ghost use Rattle.std.specs.Prelude.{ℕ, ◌≡◌, ◌<◌, ◌≤◌, IsTrue, false, if◌then◌else◌, length, slice_index_or};
 ghost use Rattle.query_block.specs.Blocks.{block_tree};
 ghost use Rattle.cost_model.specs.Prices.{block_at};
-ghost use Rattle.plan_space.specs.Alike.{AreInside, AreInsideSets, IsAlikePlace};
+ghost use Rattle.plan_space.specs.Alike.{AreInside, AreInsideSets, IsAlikePlace, MarksEdges, MarksRelation};
 
-use cost_model::Prices;
+use cost_model::{Costing, Prices};
 use plan_tree::Subset;
 use query_block::{Block, axis_of_edge};
 use sql_values::MAX_AXES;
 
-// For each axis, whether its edge is inside a set.
-fn axes_inside(block: &Block, set: Subset) -> [bool; MAX_AXES]
-    ensures { AreInside (block_tree block.now) set result }
+// The axes of the edges inside a set.
+fn edges_inside(block: &Block, set: Subset) -> [bool; MAX_AXES]
+    ensures { MarksEdges (block_tree block.now) set result }
 {
     let edges = block.edges();
     let mut inside = [false; MAX_AXES];
@@ -21,13 +22,40 @@ fn axes_inside(block: &Block, set: Subset) -> [bool; MAX_AXES]
     inside
 }
 
-/// For each set of relations and each axis, whether its edge is inside the set.
-pub(crate) fn axes_inside_sets(block: &Block) -> [[bool; MAX_AXES]; 64]
-    ensures { AreInsideSets (block_tree block.now) result }
+// Marks the axis of a relation, if it is in the set and has one.
+fn mark_relation(costing: &Costing<'_>, set: Subset, relation: u8, inside: &mut [bool; MAX_AXES])
+    requires { relation < length costing.now.block.relations }
+    ensures marked { MarksRelation (block_tree costing.now.block) set relation inside.new }
+    ensures others { (axis : ℕ) → IsTrue (slice_index_or inside.old axis false) →
+        IsTrue (slice_index_or inside.new axis false) }
+{
+    let _block = costing.block();
+    if let Some(axis) = costing.axis_of(relation)
+        && set.has(relation)
+    {
+        inside[axis as usize] = true;
+    }
+}
+
+// The axes inside a set.
+fn axes_inside(costing: &Costing<'_>, set: Subset) -> [bool; MAX_AXES]
+    ensures { AreInside (block_tree costing.now.block) set result }
+{
+    let block = costing.block();
+    let mut inside = edges_inside(block, set);
+    for relation in 0..block.relations().len() {
+        mark_relation(costing, set, relation as u8, &mut inside);
+    }
+    inside
+}
+
+/// For each set of relations the axes inside it.
+pub(crate) fn axes_inside_sets(costing: &Costing<'_>) -> [[bool; MAX_AXES]; 64]
+    ensures { AreInsideSets (block_tree costing.now.block) result }
 {
     let mut sets = [[false; MAX_AXES]; 64];
     for set in 0..64 {
-        sets[set] = axes_inside(block, Subset::new(set as u8));
+        sets[set] = axes_inside(costing, Subset::new(set as u8));
     }
     sets
 }

@@ -67,7 +67,7 @@ fn rows_of(alloc: Global, costing: &Costing<'_>) -> Result<Vec<[Entry; 64]>, All
     ensures rows { IfOk result (λ rows. AreLeastRows costing.now rows.items) }
     ensures all { IfOk result (λ rows. length rows.items ≡ length (points_of costing.now.grid)) }
 {
-    let inside = axes_inside_sets(costing.block());
+    let inside = axes_inside_sets(costing);
     let points = costing.grid().points();
     let mut room = PriceRoom::new();
     let mut rows = Vec::with_capacity(alloc, points)?;

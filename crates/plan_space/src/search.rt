@@ -6,6 +6,8 @@ ghost use Rattle.plan_tree.specs.Plans.{plan_tree, covers_of};
 ghost use Rattle.cost_model.specs.Costing.{costing_tree};
 ghost use Rattle.cost_model.specs.Best.{IsBest};
 ghost use Rattle.cost_model.specs.Optimal.{optimal_cost};
+ghost use Rattle.cost_model.specs.Prices.{block_at};
+ghost use Rattle.plan_space.specs.Alike.{AreInsideSets};
 ghost use Rattle.plan_space.specs.Table.{Follows, AllStand, HasEntry};
 
 use crate::alike::axes_inside_sets;
@@ -16,6 +18,7 @@ use cost_model::{Costing, PriceRoom, Prices};
 use ess_grid::Point;
 use plan_tree::{Plan, Root, Subset};
 use query_block::Block;
+use sql_values::MAX_AXES;
 use std::alloc::{AllocError, Global};
 
 // The plan of a set that the entries tell, in a box.
@@ -76,15 +79,20 @@ pub(crate) fn rebuilt(
     }
 }
 
-// The best plan at the prices of a point, and what it costs there.
-fn best_at(alloc: Global, prices: &Prices<'_>) -> Result<(Plan, u128), AllocError>
+// The best plan at the prices of a point, and what it costs there. These are the axes inside the sets.
+fn best_at(
+    alloc: Global,
+    prices: &Prices<'_>,
+    inside: &[[bool; MAX_AXES]; 64],
+) -> Result<(Plan, u128), AllocError>
+    requires { AreInsideSets (block_at prices.now) inside.now }
     ensures best { IfOk result (λ it. IsBest
         (costing_tree prices.now.costing) prices.now.point (plan_tree it.0)) }
     ensures cost { IfOk result (λ found.
         found.1 ≡ optimal_cost (costing_tree prices.now.costing) prices.now.point) }
 {
     let block = prices.block();
-    let table = filled(prices, &axes_inside_sets(block), &[]);
+    let table = filled(prices, inside, &[]);
     let all = set_of_all(block);
     let p = rebuilt(alloc, block, &table, all)?;
     Ok((p, table[all.number() as usize].cost))
@@ -99,5 +107,10 @@ pub fn best(alloc: Global, costing: &Costing<'_>, q: &Point) -> Result<(Plan, u1
     ensures cost { IfOk result (λ found.
         found.1 ≡ optimal_cost (costing_tree costing.now) q.now) }
 {
-    best_at(alloc, &Prices::new(costing, q, &mut PriceRoom::new()))
+    let inside = axes_inside_sets(costing);
+    best_at(
+        alloc,
+        &Prices::new(costing, q, &mut PriceRoom::new()),
+        &inside,
+    )
 }

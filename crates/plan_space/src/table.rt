@@ -1,5 +1,5 @@
 // The table of the best plans of all sets of relations. Sets are numbers, and each one's sides are smaller numbers, so the
-// table is filled upwards. An entry that was found at an earlier point, where each edge inside the set has the same level, is
+// table is filled upwards. An entry that was found at an earlier point, where each axis inside the set has the same level, is
 // taken from there.
 ghost use Rattle.std.specs.Prelude.{◌≡◌, ◌+◌, ◌^◌, ◌<◌, ◌≤◌, length};
 ghost use Rattle.plan_space.specs.Table.{AreLeast};

@@ -1,9 +1,10 @@
-use Rattle.std.proofs.Common.{◌≡◌, ℕ, ◌<◌, false, length, get_or}
-use Rattle.query_block.specs.Meaning.{is_inside}
-use Rattle.plan_tree.specs.Enumerated.{edge_at}
-use Rattle.plan_tree.specs.Sets.{set_of}
+use Rattle.std.proofs.Common.{◌≡◌, ℕ, ◌<◌, length}
+use Rattle.query_block.specs.Blocks.{block_tree}
+use Rattle.plan_space.specs.Alike.{MarksEdges, MarksRelation}
 use Rattle.plan_space.proofs.alike.axes_inside.Given as goal
 
-abbrev pub invariant-loop-edge : goal.invariant-loop-edge
-invariant-loop-edge l =
-    ((edge : ℕ) → edge < l.edge → get_or l.inside edge false ≡ is_inside (set_of l.set) (edge_at l.edges edge)) × (length l.inside ≡ 6)
+abbrev pub invariant-loop-relation : goal.invariant-loop-relation
+invariant-loop-relation l =
+    MarksEdges (block_tree l.costing.block) l.set l.inside
+    × ((relation : ℕ) → relation < l.relation → MarksRelation (block_tree l.costing.block) l.set relation l.inside)
+    × (length l.inside ≡ 6)

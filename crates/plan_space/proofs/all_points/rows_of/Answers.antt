@@ -1,12 +1,11 @@
 use Rattle.std.proofs.Common.{sym, subst, arith}
-use Rattle.query_block.specs.Blocks.{block_tree}
-use Rattle.plan_space.specs.Alike.{AreInsideSets, AreLeastRows, IsLeastRow}
+use Rattle.plan_space.specs.Alike.{AreLeastRows, IsLeastRow}
 use Rattle.plan_space.proofs.Rows.{add-row}
 use Rattle.plan_space.proofs.all_points.rows_of.Goals as goal
 
 pub row_of-row-requires-clause-earlier : goal.row_of-row-requires-clause-earlier
 row_of-row-requires-clause-earlier c = record {
-  edges = subst (λ block. AreInsideSets (block_tree block) c.axes_inside_sets-inside.result) c.block.ensures.block c.axes_inside_sets-inside.ensures;
+  axes = c.axes_inside_sets-inside.ensures;
   tables = subst (AreLeastRows c.args.costing.now) (sym c.as_slice.ensures.value) c.loop-place.invariant.0;
 }
 
