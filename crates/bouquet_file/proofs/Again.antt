@@ -9,7 +9,7 @@ use Rattle.sql_values.specs.Limits.{max_rows, max_columns, max_points, min_level
 use Rattle.serde_json.specs.Data.{Data, array, depth, items_depth}
 use Rattle.serde_json.specs.View.{items_of}
 use Rattle.serde_json.specs.Written.{has_float, items_have_float}
-use Rattle.query_block.specs.Blocks.{BlockTree, IsBlock}
+use Rattle.query_block.specs.Blocks.{BlockTree, IsBlock, axes_of}
 use Rattle.plan_tree.specs.Plans.{PlanTree}
 use Rattle.plan_tree.specs.Enumerated.{IsPlan}
 use Rattle.plan_tree.specs.Text.{plan_text_of}
@@ -109,10 +109,10 @@ contour-again block is_block n contour is =
 -- what holds of a bouquet whose file is read again
 pub record IsWritable (bouquet : BouquetTree) : Type 0 where
   pub block : IsBlock bouquet.costing.block
-  pub axes : bouquet.costing.grid.axes ≡ length bouquet.costing.block.edges
+  pub axes : bouquet.costing.grid.axes ≡ axes_of bouquet.costing.block
   pub low_levels : min_levels ≤ bouquet.costing.grid.levels
   pub high_levels : bouquet.costing.grid.levels ≤ max_levels
-  pub points : bouquet.costing.grid.levels ^ length bouquet.costing.block.edges ≤ max_points
+  pub points : bouquet.costing.grid.levels ^ axes_of bouquet.costing.block ≤ max_points
   pub threshold : bouquet.threshold ≤ max_threshold
   pub relations : length bouquet.costing.stats.relations ≡ length bouquet.costing.block.relations
   pub counts : All AreFew bouquet.costing.stats.relations
@@ -135,7 +135,7 @@ parts-again bouquet query is =
     let block = bouquet.costing.block in
     let stats = bouquet.costing.stats.relations in
     rw (
-      levels-again (length block.edges) bouquet.costing.grid.levels is.low_levels is.high_levels is.points,
+      levels-again (axes_of block) bouquet.costing.grid.levels is.low_levels is.high_levels is.points,
       in-range 0 max_threshold bouquet.threshold (omega arith) is.threshold,
       list-written relation_value (length block.relations) (length block.relations) stats (omega (arith, is.relations)) (omega (arith, is.relations)),
       each-written relation_value counts_at kept_of AreFew counts-again 1 stats is.counts,

@@ -12,6 +12,7 @@ use Rattle.sql_values.specs.Limits.{max_points}
 use Rattle.ess_grid.specs.Points.{GridShape, IsGrid}
 use Rattle.serde_json.specs.Read.{read}
 use Rattle.query_block.specs.Shape.{BlockShape}
+use Rattle.query_block.specs.declared.kind.Kind.{Kind}
 use Rattle.query_block.specs.Blocks.{RelationTree, BlockTree, IsRelation, IsBlock, axes_of, block_tree}
 use Rattle.plan_tree.specs.Plans.{plan_tree}
 use Rattle.plan_tree.specs.Enumerated.{IsPlan}
@@ -28,8 +29,8 @@ use Rattle.bouquet_file.specs.Opened.{file_of, json_value}
 use Rattle.bouquet_file.proofs.Again.{AreFew, IsContourTree, IsWritable, file_again}
 
 -- a relation has at most 32 indexes
-few-indexes : (relation : RelationTree) → IsRelation relation → length relation.indexes ≤ 32
-few-indexes relation is =
+few-indexes : (kinds : List Kind) (relation : RelationTree) → IsRelation kinds relation → length relation.indexes ≤ 32
+few-indexes kinds relation is =
     let below : length relation.indexes ≤ length relation.columns = length-le_from_distinct_below relation.indexes (length relation.columns) is.different (λ column there.
     let found = of-any (nat_eq column) relation.indexes there in
     let less : found.0 < length relation.columns = All-contains (λ other. other < length relation.columns) relation.indexes found.0 is.indexes (contained-in found.0 relation.indexes found.1) in
@@ -37,19 +38,20 @@ few-indexes relation is =
     omega (arith, less, same)) in
     omega (arith, below, is.few)
 
-are-few : (relation : RelationTree) (stats : RelationStats) → IsRelation relation → FitsRelation relation stats → AreFew stats
-are-few relation stats is fits = record {
+are-few : (kinds : List Kind) (relation : RelationTree) (stats : RelationStats) → IsRelation kinds relation → FitsRelation relation stats → AreFew stats
+are-few kinds relation stats is fits = record {
   rows = fits.rows;
   kept = omega (arith, fits.rows, fits.kept);
-  indexes = omega (arith, few-indexes relation is, ap length fits.indexes, length-map stats.columns (λ index. index.column));
+  indexes = omega (arith, few-indexes kinds relation is, ap length fits.indexes, length-map stats.columns (λ index. index.column));
 }
 
-all-few : (relations : List RelationTree) (stats : List RelationStats) → All IsRelation relations → AllZip FitsRelation relations stats → All AreFew stats
-all-few [] [] all fits = All-nil AreFew
-all-few [] (one ∷ stats) all fits = absurd fits
-all-few (relation ∷ relations) [] all fits = absurd fits
-all-few (relation ∷ relations) (one ∷ stats) all fits =
-    All-cons AreFew one stats (are-few relation one (All-head IsRelation relation relations all) fits.0) (all-few relations stats (All-tail IsRelation relation relations all) fits.1)
+all-few : (kinds : List Kind) (relations : List RelationTree) (stats : List RelationStats) → All (IsRelation kinds) relations → AllZip FitsRelation relations stats → All AreFew stats
+all-few kinds [] [] all fits = All-nil AreFew
+all-few kinds [] (one ∷ stats) all fits = absurd fits
+all-few kinds (relation ∷ relations) [] all fits = absurd fits
+all-few kinds (relation ∷ relations) (one ∷ stats) all fits =
+    All-cons AreFew one stats (are-few kinds relation one (All-head (IsRelation kinds) relation relations all) fits.0)
+    (all-few kinds relations stats (All-tail (IsRelation kinds) relation relations all) fits.1)
 
 of-contour : (block : BlockTree) (contour : Contour) → IsContour block contour → IsContourTree block (contour_tree contour)
 of-contour block contour is = record {
@@ -70,7 +72,7 @@ writable bouquet is =
       points = subst (λ axes. tree.costing.grid.levels ^ axes ≤ max_points) is.costing.axes is.costing.grid.few_points;
       threshold = is.threshold;
       relations = AllZip-long FitsRelation block.relations bouquet.stats.relations is.costing.stats.relations;
-      counts = all-few block.relations bouquet.stats.relations is.costing.block.relations is.costing.stats.relations;
+      counts = all-few block.parameters block.relations bouquet.stats.relations is.costing.block.relations is.costing.stats.relations;
       some = omega (arith, is.some, length-map bouquet.contours contour_tree);
       few = omega (arith, is.few, length-map bouquet.contours contour_tree);
       contours = All-map (IsContourTree block) contour_tree bouquet.contours

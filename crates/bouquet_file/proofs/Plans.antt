@@ -3,6 +3,7 @@ use Rattle.std.proofs.Common.{◌≡◌, ◌&&◌, ℕ, ◌<◌, ◌≤◌, Bool
 use Rattle.std.proofs.lemmas.Bool.Decides.{nat_tests}
 use Rattle.std.proofs.lemmas.Slice.Eq.{bytes_eq-Decides}
 use Rattle.std.proofs.lemmas.List.Elements.{All-contains}
+use Rattle.query_block.specs.declared.kind.Kind.{Kind}
 use Rattle.query_block.specs.Blocks.{RelationTree, BlockTree, relation_at, IsRelation, IsBlock}
 use Rattle.plan_tree.specs.Plans.{PlanTree, Scan, IndexScan, Nest, Hash, Merge, IndexLoop, leaves_of, has_leaf}
 use Rattle.plan_tree.specs.Enumerated.{is_indexed, IsSubPlan, IsPlan}
@@ -18,8 +19,8 @@ use Rattle.bouquet_file.specs.Checks.{first_with_text}
 -- ---- each plan of a block has a text that is read
 
 -- an indexed column is one of at most 32
-indexed-few : (relation : RelationTree) (column : ℕ) → IsRelation relation → IsTrue (is_indexed relation column) → column ≤ 31
-indexed-few relation column is indexed =
+indexed-few : (kinds : List Kind) (relation : RelationTree) (column : ℕ) → IsRelation kinds relation → IsTrue (is_indexed relation column) → column ≤ 31
+indexed-few kinds relation column is indexed =
     let found = of-any (λ other. nat_eq other column) relation.indexes indexed in
     let below : found.0 < length relation.columns = All-contains (λ other. other < length relation.columns) relation.indexes found.0 is.indexes (contained-in found.0 relation.indexes found.1) in
     let same : found.0 ≡ column = grind (arith, nat_tests, found.2) in
@@ -29,7 +30,7 @@ numbers : (block : BlockTree) (p : PlanTree) → IsBlock block → IsSubPlan blo
 numbers block (Scan relation) is plan = omega (arith, is.few, plan)
 numbers block (IndexScan relation column) is plan = (
   omega (arith, is.few, plan.exists),
-  indexed-few (relation_at block.relations relation) column (is.relations relation (record { table = 0; columns = []; filter = []; indexes = [] }) plan.exists) plan.indexed,
+  indexed-few block.parameters (relation_at block.relations relation) column (is.relations relation (record { table = 0; columns = []; filter = []; indexes = [] }) plan.exists) plan.indexed,
 )
 numbers block (Nest left right) is plan = (numbers block left is plan.0, numbers block right is plan.1)
 numbers block (Hash edge left right) is plan = (omega (arith, is.axes, plan.3.0), numbers block left is plan.0, numbers block right is plan.1)

@@ -18,7 +18,7 @@ use std::alloc::Global;
 pub(crate) struct KeptCounts {
     /// The rows of its table.
     pub rows: u64,
-    /// The rows that its filter keeps.
+    /// The rows on which each conjunct of its filter that has no parameter is true.
     pub kept: u64,
     /// How many of its table's columns are indexed.
     pub indexes: u64,

@@ -5,7 +5,7 @@ ghost use Rattle.plan_tree.specs.Enumerated.{IsPlan};
 ghost use Rattle.query_block.specs.Blocks.{block_tree};
 ghost use Rattle.bouquet_type.specs.Cursor.{attempt_member, members_left};
 ghost use Rattle.bouquet_type.specs.Schedule.{schedule};
-ghost use Rattle.bouquet_type.specs.Trees.{bouquet_tree};
+ghost use Rattle.bouquet_type.specs.Trees.{bouquet_tree, IsBouquet};
 
 use crate::bouquet::{Bouquet, budget_on};
 use crate::contour::Contour;
@@ -69,6 +69,7 @@ impl<'b> Schedule<'b> {
         ensures members { members_left result ≡ schedule (bouquet_tree bouquet.now) }
         ensures few { length (members_left result) ≤ 2 ^ 19 }
         ensures bouquet { result.bouquet ≡ bouquet.now }
+        ensures well_formed { IsBouquet bouquet.now }
     {
         Schedule {
             bouquet,

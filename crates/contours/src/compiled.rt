@@ -12,8 +12,8 @@ use ess_grid::Grid;
 use query_block::Block;
 use std::alloc::{AllocError, Global};
 
-/// The compiled bouquet of a block, by the counts of its tables, on a grid each of whose axes is an edge of the block, with
-/// a threshold in percent. An error is want of memory alone.
+/// The compiled bouquet of a block, by the counts of its tables, on a grid with the axes of the block, with a threshold in
+/// percent. An error is want of memory alone.
 pub fn compile(
     alloc: Global,
     block: Block,
