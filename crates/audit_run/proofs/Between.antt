@@ -6,6 +6,7 @@ use Rattle.std.proofs.lemmas.List.{drop_more, drop_all, length-map}
 use Rattle.std.proofs.lemmas.List.Elements.{All-nil, All-cons}
 use Rattle.std.proofs.lemmas.List.Sums.{sum_by-cons}
 use Rattle.row_stack.specs.declared.space.Space.{Space}
+use Rattle.query_block.specs.Blocks.{BlockTree}
 use Rattle.plan_tree.specs.declared.plan.Plan.{Plan}
 use Rattle.plan_tree.specs.Plans.{PlanTree, plan_tree}
 use Rattle.plan_tree.specs.AllPlans.{plans_of}
@@ -17,34 +18,34 @@ use Rattle.bouquet_type.specs.Shapes.{BouquetShape}
 use Rattle.bouquet_type.specs.Trees.{BouquetTree, bouquet_tree}
 use Rattle.audit_run.specs.declared.figures.Figures.{Figures}
 use Rattle.audit_run.specs.declared.figures.Measured.{Measured}
-use Rattle.audit_run.specs.Measures.{Measure, audited_block, measure_of, measures_of, worst_of}
+use Rattle.audit_run.specs.Measures.{Measure, measure_of, measures_of, worst_of}
 use Rattle.audit_run.specs.Executed.{measure, AreWith, HasWork}
 use Rattle.audit_run.specs.Audits.{audit_of, work_of_all}
 use Rattle.audit_run.proofs.Some.{cost_some, work_some}
 use Rattle.audit_run.proofs.Worst.{IsMeasure}
 use Rattle.audit_run.proofs.Walk.{AreFigures, first_figures, figures-begin, figures-next, figures-end}
 
-module _ (bouquet : BouquetTree) (database : DatabaseState) (point : List ℕ) where
+module _ (bouquet : BouquetTree) (block : BlockTree) (database : DatabaseState) (point : List ℕ) where
   abbrev pub measures_in : List Plan → List Measure
-  measures_in plans = map (measure_of bouquet database point) (map plan_tree plans)
+  measures_in plans = map (measure_of bouquet block database point) (map plan_tree plans)
 
-  pub each_measured : (plans : List PlanTree) → All IsMeasure (map (measure_of bouquet database point) plans)
+  pub each_measured : (plans : List PlanTree) → All IsMeasure (map (measure_of bouquet block database point) plans)
   each_measured [] = All-nil IsMeasure
   each_measured (p ∷ plans) =
-      let m = measure_of bouquet database point p in
-      let here : IsMeasure m = record { cost = cost_some bouquet.costing p point; work = work_some database.tables (audited_block bouquet) p } in
-      All-cons IsMeasure m (map (measure_of bouquet database point) plans) here (each_measured plans)
+      let m = measure_of bouquet block database point p in
+      let here : IsMeasure m = record { cost = cost_some bouquet.costing p point; work = work_some database.tables block p } in
+      All-cons IsMeasure m (map (measure_of bouquet block database point) plans) here (each_measured plans)
 
   -- what all plans work is the sum of what is measured
   work-measured : (plans : List PlanTree)
-      → sum_by (λ m. m.work) (map (measure_of bouquet database point) plans) ≡ sum_by (work_of database.tables (audited_block bouquet)) plans
+      → sum_by (λ m. m.work) (map (measure_of bouquet block database point) plans) ≡ sum_by (work_of database.tables block) plans
   work-measured [] = refl
   work-measured (p ∷ plans) =
-      let m = measure_of bouquet database point p in
+      let m = measure_of bouquet block database point p in
       omega (
         arith,
-        sum_by-cons (λ (n : Measure). n.work) m (map (measure_of bouquet database point) plans),
-        sum_by-cons (work_of database.tables (audited_block bouquet)) p plans,
+        sum_by-cons (λ (n : Measure). n.work) m (map (measure_of bouquet block database point) plans),
+        sum_by-cons (work_of database.tables block) p plans,
         work-measured plans,
       )
 
@@ -53,12 +54,12 @@ module _ (bouquet : BouquetTree) (database : DatabaseState) (point : List ℕ) w
   begins plans figures spent first none = rw (first, none) (figures-begin (measures_in plans) (each_measured (map plan_tree plans)))
 
   next-left : (plans : List Plan) (index : ℕ) (plan : Plan) → index < length plans → plan ≡ get_or plans index plan
-      → measures_in (drop index plans) ≡ measure_of bouquet database point (plan_tree plan) ∷ measures_in (drop (index + 1) plans)
+      → measures_in (drop index plans) ≡ measure_of bouquet block database point (plan_tree plan) ∷ measures_in (drop (index + 1) plans)
   next-left plans index plan there at =
       ap measures_in (drop_more plans index plan there ∙ ap (λ p. p ∷ drop (index + 1) plans) (sym at))
 
   pub next-figures : (plans : List Plan) (index : ℕ) (plan : Plan) (m : Measured) (old new : Figures) (spent : ℕ) → index < length plans
-      → plan ≡ get_or plans index plan → measure m ≡ measure_of bouquet database point (plan_tree plan) → HasWork m → AreWith m old new
+      → plan ≡ get_or plans index plan → measure m ≡ measure_of bouquet block database point (plan_tree plan) → HasWork m → AreWith m old new
       → AreFigures (measures_in plans) (measures_in (drop index plans)) old spent
       → AreFigures (measures_in plans) (measures_in (drop (index + 1) plans)) new (spent + m.work)
   next-figures plans index plan m old new spent there at is has with are =
@@ -67,8 +68,8 @@ module _ (bouquet : BouquetTree) (database : DatabaseState) (point : List ℕ) w
       figures-next (measures_in plans) rest m old new spent (subst (λ left. AreFigures (measures_in plans) left old spent) left are) has with
 
   -- the figures of all plans, told
-  pub told : (plans : List Plan) (figures : Figures) (spent most : ℕ) → 1 ≤ length (plans_of (audited_block bouquet))
-      → map plan_tree plans ≡ plans_of (audited_block bouquet) → spent < 2 ^ 64 → most ≡ (audit_of bouquet database point).r
+  pub told : (plans : List Plan) (figures : Figures) (spent most : ℕ) → 1 ≤ length (plans_of block)
+      → map plan_tree plans ≡ plans_of block → spent < 2 ^ 64 → most ≡ (audit_of bouquet block database point).r
       → AreFigures (measures_in plans) (measures_in (drop (length plans) plans)) figures spent
       → record {
         point = point;
@@ -79,25 +80,25 @@ module _ (bouquet : BouquetTree) (database : DatabaseState) (point : List ℕ) w
         cheapest = figures.cheapest;
         r = most;
         work = spent;
-      } ≡ audit_of bouquet database point
+      } ≡ audit_of bouquet block database point
   told plans figures spent most some all few ranks are =
-      let whole = measures_of bouquet database point in
+      let whole = measures_of bouquet block database point in
       let none : measures_in (drop (length plans) plans) ≡ [] = ap measures_in (drop_all (length plans) plans (omega arith)) in
       let over : AreFigures (measures_in plans) [] figures spent = subst (λ left. AreFigures (measures_in plans) left figures spent) none are in
       let of : AreFigures whole [] figures spent =
-      subst (λ ps. AreFigures (map (measure_of bouquet database point) ps) [] figures spent) all over in
-      let counted = length-map (plans_of (audited_block bouquet)) (measure_of bouquet database point) in
+      subst (λ ps. AreFigures (map (measure_of bouquet block database point) ps) [] figures spent) all over in
+      let counted = length-map (plans_of block) (measure_of bouquet block database point) in
       let end = figures-end whole figures spent (omega (arith, some, counted)) few of in
       let count : length plans ≡ length whole = sym (length-map plans plan_tree) ∙ ap (λ (ps : List PlanTree). length ps) all ∙ sym counted in
       let a : figures.worst.cost ≡ (worst_of whole).cost = ap (λ (m : Measure). m.cost) end.worst in
       let b : figures.worst.work ≡ (worst_of whole).work = ap (λ (m : Measure). m.work) end.worst in
-      let work : spent ≡ work_of_all bouquet database = end.work ∙ work-measured (plans_of (audited_block bouquet)) in
+      let work : spent ≡ work_of_all block database = end.work ∙ work-measured (plans_of block) in
       rw (count, end.below, a, b, end.cheapest, ranks, work) refl
 
 -- so many plans were executed, and these are their figures
-pub record IsBetween (b : BouquetShape) (database : DatabaseState) (point : List ℕ) (plans : List Plan) (index : ℕ) (figures : Figures) (meter : MeterState) (space : Space) (most : ℕ) : Type 0 where
-  pub so_far : AreFigures (measures_in (bouquet_tree b) database point plans)
-      (measures_in (bouquet_tree b) database point (drop index plans)) figures meter.account.spent
+pub record IsBetween (b : BouquetShape) (block : BlockTree) (database : DatabaseState) (point : List ℕ) (plans : List Plan) (index : ℕ) (figures : Figures) (meter : MeterState) (space : Space) (most : ℕ) : Type 0 where
+  pub so_far : AreFigures (measures_in (bouquet_tree b) block database point plans)
+      (measures_in (bouquet_tree b) block database point (drop index plans)) figures meter.account.spent
   pub unchanged : meter.database ≡ database
   pub within : meter.account.spent ≤ most
-  pub context : IsEmptyContext meter (audited_block (bouquet_tree b)) space
+  pub context : IsEmptyContext meter block space

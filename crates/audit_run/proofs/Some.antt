@@ -1,15 +1,19 @@
 -- Every plan works and costs something, every block has a plan, and its rows have a word.
-use Rattle.std.proofs.Common.{◌≡◌, inl, inr, ℕ, ◌≤◌, List, [], ◌∷◌, length, map, sum_by, refl, subst, arith}
+use Rattle.std.proofs.Common.{◌≡◌, inl, inr, ℕ, ◌≤◌, List, [], ◌∷◌, length, map, sum_by, refl, subst, sym, arith}
 use Rattle.std.specs.Prelude.{All}
 use Rattle.std.proofs.lemmas.List.Elements.{All-nil, All-cons, All-head}
 use Rattle.std.proofs.lemmas.List.Sums.{sum_by-cons}
+use Rattle.sql_values.specs.declared.value.Value.{Value}
 use Rattle.sql_values.specs.Stored.{StoredTable}
-use Rattle.query_block.specs.Blocks.{BlockTree, RelationTree, IsRelation, IsBlock, block_tree, width_of}
+use Rattle.query_block.specs.declared.kind.Kind.{Kind}
+use Rattle.query_block.specs.Blocks.{BlockTree, RelationTree, IsRelation, IsBlock, IsPutOf, block_tree, put_of, width_of}
 use Rattle.plan_tree.specs.Plans.{PlanTree, Scan, IndexScan, Nest, Hash, Merge, IndexLoop, plan_tree}
 use Rattle.plan_tree.specs.declared.plan.Plan.{Plan}
 use Rattle.plan_tree.specs.Enumerated.{IsPlan}
 use Rattle.plan_tree.specs.AllPlans.{plans_of}
 use Rattle.plan_tree.specs.Work.{work_of}
+use Rattle.query_block.proofs.PutIn.{put-block}
+use Rattle.plan_tree.proofs.PutPlans.{put-plan}
 use Rattle.plan_tree.proofs.Members.{IsIn}
 use Rattle.plan_tree.proofs.Enumerated.{in-plans, of-plans}
 use Rattle.cost_model.specs.Costing.{CostingTree}
@@ -39,31 +43,34 @@ has-length : (p : PlanTree) (plans : List PlanTree) → IsIn p plans → 1 ≤ l
 has-length p [] is = absurd is
 has-length p (q ∷ plans) is = omega arith
 
-planned : (block : BlockTree) (plans : List Plan) → 1 ≤ length plans → All (λ p. IsPlan block (plan_tree p)) plans
-    → 1 ≤ length (plans_of block)
-planned block [] some are = absurd (omega (arith, some))
-planned block (p ∷ plans) some are =
-    has-length (plan_tree p) (plans_of block) (in-plans block (plan_tree p) (All-head (λ q. IsPlan block (plan_tree q)) p plans are))
+planned : (block : BlockTree) (values : List Value) (plans : List Plan) → 1 ≤ length plans → All (λ p. IsPlan block (plan_tree p)) plans
+    → 1 ≤ length (plans_of (put_of values block))
+planned block values [] some are = absurd (omega (arith, some))
+planned block values (p ∷ plans) some are =
+    let plan = (put-plan values block (plan_tree p)).1 (All-head (λ q. IsPlan block (plan_tree q)) p plans are) in
+    has-length (plan_tree p) (plans_of (put_of values block)) (in-plans (put_of values block) (plan_tree p) plan)
 
-on-contours : (block : BlockTree) (contours : List Contour) → 1 ≤ length contours → All (IsContour block) contours
-    → 1 ≤ length (plans_of block)
-on-contours block [] some are = absurd (omega (arith, some))
-on-contours block (contour ∷ contours) some are =
+on-contours : (block : BlockTree) (values : List Value) (contours : List Contour) → 1 ≤ length contours → All (IsContour block) contours
+    → 1 ≤ length (plans_of (put_of values block))
+on-contours block values [] some are = absurd (omega (arith, some))
+on-contours block values (contour ∷ contours) some are =
     let here = All-head (IsContour block) contour contours are in
-    planned block contour.plans.items here.some here.plans
+    planned block values contour.plans.items here.some here.plans
 
--- a bouquet's plans are plans of its block
-pub plans_some : (bouquet : BouquetShape) → IsBouquet bouquet → 1 ≤ length (plans_of (block_tree bouquet.block))
-plans_some bouquet is = on-contours (block_tree bouquet.block) bouquet.contours is.some is.contours
+-- a bouquet's plans are plans of its block, whatever values are put in
+pub plans_some : (bouquet : BouquetShape) (block : BlockTree) → IsBouquet bouquet → IsPutOf (block_tree bouquet.block) block
+    → 1 ≤ length (plans_of block)
+plans_some bouquet block is put =
+    subst (λ put. 1 ≤ length (plans_of put)) (sym put.is) (on-contours (block_tree bouquet.block) put.values bouquet.contours is.some is.contours)
 
-words-some : (relations : List RelationTree) → 1 ≤ length relations → All IsRelation relations
+words-some : (kinds : List Kind) (relations : List RelationTree) → 1 ≤ length relations → All (IsRelation kinds) relations
     → 1 ≤ sum_by (λ relation. length relation.columns) relations
-words-some [] some are = absurd (omega (arith, some))
-words-some (relation ∷ relations) some are =
-    omega (arith, (All-head IsRelation relation relations are).some, sum_by-cons (λ (r : RelationTree). length r.columns) relation relations)
+words-some kinds [] some are = absurd (omega (arith, some))
+words-some kinds (relation ∷ relations) some are =
+    omega (arith, (All-head (IsRelation kinds) relation relations are).some, sum_by-cons (λ (r : RelationTree). length r.columns) relation relations)
 
 pub words_some : (block : BlockTree) → IsBlock block → 1 ≤ width_of block
-words_some block is = words-some block.relations is.some is.relations
+words_some block is = words-some block.parameters block.relations is.some is.relations
 
 -- all plans of a block are its plans
 each-listed : (block : BlockTree) (plans : List Plan) → ((p : PlanTree) → IsIn p (map plan_tree plans) → IsPlan block p)
@@ -74,3 +81,10 @@ each-listed block (p ∷ plans) each =
 
 pub each_listed : (block : BlockTree) (plans : List Plan) → map plan_tree plans ≡ plans_of block → All (λ p. IsPlan block (plan_tree p)) plans
 each_listed block plans same = each-listed block plans (λ p is. of-plans block p (subst (IsIn p) same is))
+
+-- a block with values that fit is a block, and has the plans of the one that they are put into
+pub put-is-block : (block put : BlockTree) → IsBlock block → IsPutOf block put → IsBlock put
+put-is-block block put is put_is = subst IsBlock (sym put_is.is) (put-block put_is.values block is put_is.fit)
+
+pub plan-before : (block put : BlockTree) (p : PlanTree) → IsPutOf block put → IsPlan put p → IsPlan block p
+plan-before block put p put_is plan = (put-plan put_is.values block p).0 (subst (λ b. IsPlan b p) put_is.is plan)

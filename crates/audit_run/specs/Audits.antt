@@ -1,6 +1,7 @@
 -- What an audit tells, and why it is refused.
 use Rattle.std.specs.Prelude.{◌≡◌, ℕ, ◌<◌, ◌≤◌, Bool, IsTrue, List, length, map, sum_by, ⊤}
 use Rattle.sql_values.specs.Limits.{max_plans}
+use Rattle.query_block.specs.Blocks.{BlockTree}
 use Rattle.plan_tree.specs.AllPlans.{plans_of}
 use Rattle.plan_tree.specs.Work.{work_of}
 use Rattle.cost_model.specs.Optimal.{least_of}
@@ -8,7 +9,7 @@ use Rattle.db_catalog.specs.Database.{DatabaseState}
 use Rattle.bouquet_type.specs.Trees.{BouquetTree}
 use Rattle.bouquet_type.specs.Budgets.{most_plans}
 use Rattle.bouquet_type.specs.Runs.{CostPremise}
-use Rattle.audit_run.specs.Measures.{audited_block, measures_of, are_within, worst_of}
+use Rattle.audit_run.specs.Measures.{measures_of, are_within, worst_of}
 use Rattle.audit_run.specs.declared.told.Audit.{Audit}
 use Rattle.audit_run.specs.declared.told.AuditFault.{AuditFault}
 use Rattle.audit_run.specs.declared.told.AuditFault.TheVariants.{PlanLimit, WorkLimit, NoMemory}
@@ -26,13 +27,13 @@ pub record AuditTree : Type 0 where
   pub work : ℕ
 
 -- what all plans of the block work together over a database
-abbrev pub work_of_all : BouquetTree → DatabaseState → ℕ
-work_of_all bouquet database = sum_by (work_of database.tables (audited_block bouquet)) (plans_of (audited_block bouquet))
+abbrev pub work_of_all : BlockTree → DatabaseState → ℕ
+work_of_all block database = sum_by (work_of database.tables block) (plans_of block)
 
--- of a bouquet at a point, over a database
-abbrev pub audit_of : BouquetTree → DatabaseState → (point : List ℕ) → AuditTree
-audit_of bouquet database point =
-    let measures = measures_of bouquet database point in
+-- of a bouquet on a block at a point, over a database
+abbrev pub audit_of : BouquetTree → BlockTree → DatabaseState → (point : List ℕ) → AuditTree
+audit_of bouquet block database point =
+    let measures = measures_of bouquet block database point in
     let worst = worst_of measures in
     record {
       point = point;
@@ -42,13 +43,13 @@ audit_of bouquet database point =
       b = worst.work;
       cheapest = least_of (map (λ m. m.work) measures);
       r = most_plans bouquet.contours;
-      work = work_of_all bouquet database;
+      work = work_of_all block database;
     }
 
 -- where it tells that no work is above its cost, works and costs at its point are as the bound on a run's work asks
-abbrev pub ShowsPremise : BouquetTree → DatabaseState → AuditTree → Type 0
-ShowsPremise bouquet database audit =
-    IsTrue audit.below → CostPremise bouquet.costing audit.point audit.a audit.b (work_of database.tables (audited_block bouquet))
+abbrev pub ShowsPremise : BouquetTree → BlockTree → DatabaseState → AuditTree → Type 0
+ShowsPremise bouquet block database audit =
+    IsTrue audit.below → CostPremise bouquet.costing audit.point audit.a audit.b (work_of database.tables block)
 
 -- as it is told
 abbrev pub told_audit : Audit → AuditTree
@@ -65,8 +66,8 @@ told_audit audit = record {
 
 -- an audit is refused where there are more plans than it may try; or else where all of them work more than this at the most,
 -- and so much is spent; or out of memory
-abbrev pub RefusesAudit : BouquetTree → DatabaseState → (most : ℕ) → AuditFault → Type 0
-RefusesAudit bouquet database most PlanLimit = max_plans < length (plans_of (audited_block bouquet))
-RefusesAudit bouquet database most (WorkLimit spent) =
-    (length (plans_of (audited_block bouquet)) ≤ max_plans) × (most < work_of_all bouquet database) × (spent ≡ most)
-RefusesAudit bouquet database most NoMemory = ⊤
+abbrev pub RefusesAudit : BlockTree → DatabaseState → (most : ℕ) → AuditFault → Type 0
+RefusesAudit block database most PlanLimit = max_plans < length (plans_of block)
+RefusesAudit block database most (WorkLimit spent) =
+    (length (plans_of block) ≤ max_plans) × (most < work_of_all block database) × (spent ≡ most)
+RefusesAudit block database most NoMemory = ⊤

@@ -9,24 +9,20 @@ use Rattle.cost_model.specs.Costs.{cost_of}
 use Rattle.db_catalog.specs.Database.{DatabaseState}
 use Rattle.bouquet_type.specs.Trees.{BouquetTree}
 
--- the block that an audit of a bouquet executes
-abbrev pub audited_block : BouquetTree → BlockTree
-audited_block bouquet = bouquet.costing.block
-
--- what a plan costs at a point, and what it works over a database
+-- what a plan costs at a point, and what it works on a block over a database
 pub record Measure : Type 0 where
   pub cost : ℕ
   pub work : ℕ
 
-abbrev pub measure_of : BouquetTree → DatabaseState → (point : List ℕ) → PlanTree → Measure
-measure_of bouquet database point p = record {
+abbrev pub measure_of : BouquetTree → BlockTree → DatabaseState → (point : List ℕ) → PlanTree → Measure
+measure_of bouquet block database point p = record {
   cost = cost_of bouquet.costing p point;
-  work = work_of database.tables (audited_block bouquet) p;
+  work = work_of database.tables block p;
 }
 
 -- of all plans of that block, in plan order
-abbrev pub measures_of : BouquetTree → DatabaseState → (point : List ℕ) → List Measure
-measures_of bouquet database point = map (measure_of bouquet database point) (plans_of (audited_block bouquet))
+abbrev pub measures_of : BouquetTree → BlockTree → DatabaseState → (point : List ℕ) → List Measure
+measures_of bouquet block database point = map (measure_of bouquet block database point) (plans_of block)
 
 -- whether no work is above its cost
 abbrev pub are_within : List Measure → Bool

@@ -16,7 +16,7 @@ use Rattle.bouquet_type.specs.Trees.{IsBouquet, bouquet_tree}
 use Rattle.bouquet_type.specs.Bounded.{MeetsBound}
 use Rattle.bouquet_type.specs.Runs.{RunEnd, run_end}
 use Rattle.bouquet_type.proofs.Meets.{bouquet-bound}
-use Rattle.bouquet_run.specs.Outcomes.{executed_block, works_over, AnswersRun, RefusesRun, TellsEnd}
+use Rattle.bouquet_run.specs.Outcomes.{works_over, AnswersRun, RefusesRun, TellsEnd}
 
 -- a block means as many rows as were found
 meaning_count : (database : DatabaseState) (block : BlockTree) (words : List (List ℤ)) → AreRowsOf database block words
@@ -27,12 +27,11 @@ meaning_count database block words are =
     length-map found (projected block.projection) ∙ length_permutation (map combine words) found are.values ∙ length-map words combine
 
 -- what is told of a run whose last execution left its rows
-module _ (bouquet : BouquetShape) (database : DatabaseState) (most spent : ℕ) (space space' : Space) (end : RunEnd) (is : IsBouquet bouquet) where
-  pub answers : (result : Result Report RunFault) → TellsEnd end space space' result → AreRowsOf database (executed_block (bouquet_tree bouquet)) space.result.rows
-      → end ≡ run_end (bouquet_tree bouquet) (works_over database (bouquet_tree bouquet)) → spent ≡ end.total → spent ≤ most
-      → AnswersRun (bouquet_tree bouquet) database most spent space'.result.rows result
+module _ (bouquet : BouquetShape) (block : BlockTree) (database : DatabaseState) (most spent : ℕ) (space space' : Space) (end : RunEnd) (is : IsBouquet bouquet) where
+  pub answers : (result : Result Report RunFault) → TellsEnd end space space' result → AreRowsOf database block space.result.rows
+      → end ≡ run_end (bouquet_tree bouquet) (works_over database block) → spent ≡ end.total → spent ≤ most
+      → AnswersRun (bouquet_tree bouquet) block database most spent space'.result.rows result
   answers (Ok report) tells are ends paid within =
-      let block = executed_block (bouquet_tree bouquet) in
       let total = ap (λ (told : RunEnd). told.total) tells.0 in
       let all = total ∙ ap (λ (told : RunEnd). told.total) ends in (
         record {
@@ -40,8 +39,8 @@ module _ (bouquet : BouquetShape) (database : DatabaseState) (most spent : ℕ) 
           end = tells.0 ∙ ends;
           paid = paid ∙ sym total;
           fits = omega (arith, total, paid, within);
-          bound = subst (MeetsBound (bouquet_tree bouquet) (works_over database (bouquet_tree bouquet))) (sym all) (bouquet-bound bouquet is (works_over database (bouquet_tree bouquet)));
+          bound = subst (MeetsBound (bouquet_tree bouquet) (works_over database block)) (sym all) (bouquet-bound bouquet is (works_over database block));
         },
         subst (AreRowsOf database block) (sym tells.2) are,
       )
-  answers (Err fault) tells are ends paid within = (subst (RefusesRun (bouquet_tree bouquet) database most spent) (sym tells.0) tt, tells.1)
+  answers (Err fault) tells are ends paid within = (subst (RefusesRun (bouquet_tree bouquet) block database most spent) (sym tells.0) tt, tells.1)

@@ -15,34 +15,30 @@ use Rattle.bouquet_type.specs.declared.report.Report.{Report}
 use Rattle.bouquet_type.specs.declared.report.RunFault.{RunFault}
 use Rattle.bouquet_type.specs.declared.report.RunFault.TheVariants.{WorkLimit, NoMemory}
 
--- the block that a run of a bouquet executes
-abbrev pub executed_block : BouquetTree → BlockTree
-executed_block bouquet = bouquet.costing.block
+-- what each plan takes that a run may execute on a block, over a database
+abbrev pub works_over : DatabaseState → BlockTree → PlanTree → ℕ
+works_over database block = work_of database.tables block
 
--- what each plan takes that a run of a bouquet may execute, over a database
-abbrev pub works_over : DatabaseState → BouquetTree → PlanTree → ℕ
-works_over database bouquet = work_of database.tables (executed_block bouquet)
-
--- a report tells the run of a bouquet over a database: how many rows the block means, and how the run ends; so much was paid,
--- no more than this at the most, and it is within the bound
-pub record ReportsRun (bouquet : BouquetTree) (database : DatabaseState) (most spent : ℕ) (report : Report) : Type 0 where
-  pub rows : report.rows ≡ length (meaning_of database.tables (executed_block bouquet))
-  pub end : told_end report ≡ run_end bouquet (works_over database bouquet)
+-- a report tells the run of a bouquet on a block over a database: how many rows the block means, and how the run ends; so much
+-- was paid, no more than this at the most, and it is within the bound
+pub record ReportsRun (bouquet : BouquetTree) (block : BlockTree) (database : DatabaseState) (most spent : ℕ) (report : Report) : Type 0 where
+  pub rows : report.rows ≡ length (meaning_of database.tables block)
+  pub end : told_end report ≡ run_end bouquet (works_over database block)
   pub paid : spent ≡ report.work
   pub fits : report.work ≤ most
-  pub bound : MeetsBound bouquet (works_over database bouquet) report.work
+  pub bound : MeetsBound bouquet (works_over database block) report.work
 
 -- a run is refused where the work of all its executions is more than this at the most, and so much was paid; or out of memory
-abbrev pub RefusesRun : BouquetTree → DatabaseState → (most spent : ℕ) → RunFault → Type 0
-RefusesRun bouquet database most spent (WorkLimit told) =
-    (most < total_work bouquet (works_over database bouquet)) × (told ≡ most) × (spent ≡ most)
-RefusesRun bouquet database most spent NoMemory = ⊤
+abbrev pub RefusesRun : BouquetTree → BlockTree → DatabaseState → (most spent : ℕ) → RunFault → Type 0
+RefusesRun bouquet block database most spent (WorkLimit told) =
+    (most < total_work bouquet (works_over database block)) × (told ≡ most) × (spent ≡ most)
+RefusesRun bouquet block database most spent NoMemory = ⊤
 
 -- a run is answered: its rows are those of the block that it executes, and a report tells it; or it is refused, without a row
-abbrev pub AnswersRun : BouquetTree → DatabaseState → (most spent : ℕ) → (results : List (List ℤ)) → Result Report RunFault → Type 0
-AnswersRun bouquet database most spent results (Ok report) =
-    ReportsRun bouquet database most spent report × AreRowsOf database (executed_block bouquet) results
-AnswersRun bouquet database most spent results (Err fault) = RefusesRun bouquet database most spent fault × (results ≡ [])
+abbrev pub AnswersRun : BouquetTree → BlockTree → DatabaseState → (most spent : ℕ) → (results : List (List ℤ)) → Result Report RunFault → Type 0
+AnswersRun bouquet block database most spent results (Ok report) =
+    ReportsRun bouquet block database most spent report × AreRowsOf database block results
+AnswersRun bouquet block database most spent results (Err fault) = RefusesRun bouquet block database most spent fault × (results ≡ [])
 
 -- this end is told of rows that are there, and they stay; or memory ran out, and they are released
 abbrev pub TellsEnd : RunEnd → (before after : Space) → Result Report RunFault → Type 0

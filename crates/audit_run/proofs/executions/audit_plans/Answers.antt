@@ -1,25 +1,22 @@
 use Rattle.std.proofs.Common.{rules, ◌≡◌, ◌∙◌, ◌<◌, ◌^◌, ap, arith}
-use Rattle.query_block.specs.Blocks.{block_tree, width_of}
+use Rattle.query_block.specs.Blocks.{block_tree}
 use Rattle.plan_tree.specs.Plans.{plan_tree}
 use Rattle.bouquet_type.specs.Trees.{bouquet_tree}
 use Rattle.audit_run.specs.Measures.{measure_of}
 use Rattle.audit_run.specs.Executed.{measure}
-use Rattle.audit_run.proofs.Some.{words_some, plans_some}
+use Rattle.audit_run.proofs.Some.{words_some, plans_some, put-is-block}
 use Rattle.audit_run.proofs.Between.{begins, next-figures, told}
 use Rattle.audit_run.proofs.executions.audit_plans.Goals as goal
 
 pub new-space-requires : goal.new-space-requires
-new-space-requires c =
-    let same : width_of (block_tree c.block.result.now) ≡ width_of (block_tree c.args.b.now.block) =
-    ap (λ b. width_of (block_tree b)) c.block.ensures.block in
-    record {
-      some_words = omega (arith, c.width.ensures.width, same, words_some (block_tree c.args.b.now.block) c.block.ensures.bouquet.costing.block);
-      few_words = search rules;
-    }
+new-space-requires c = record {
+  some_words = omega (arith, c.width.ensures.width, words_some (block_tree c.args.block.now) (put-is-block _ _ c.requires.block.bouquet_is.costing.block c.requires.block.put));
+  few_words = search rules;
+}
 
 pub loop-plan-init : goal.loop-plan-init
 loop-plan-init c = record {
-  so_far = begins (bouquet_tree c.args.b.now) c.args.db.now c.args.point.now c.args.plans.now c.new-figures.result c.new-meter.result.account.spent
+  so_far = begins (bouquet_tree c.args.b.now) (block_tree c.args.block.now) c.args.db.now c.args.point.now c.args.plans.now c.new-figures.result c.new-meter.result.account.spent
       c.new-figures.ensures (ap (λ meter. meter.account.spent) c.new-meter.ensures);
   unchanged = search rules;
   within = search rules;
@@ -29,13 +26,14 @@ loop-plan-init c = record {
 pub loop-plan-preserved : goal.loop-plan-preserved
 loop-plan-preserved c =
     let b = bouquet_tree c.args.b.now in
+    let block = block_tree c.args.block.now in
     let plan = c.plan-item.result in
     let spent = c.loop-plan.meter.account.spent in
     let m = c.in-Ok.measured in
-    let is : measure m ≡ measure_of b c.args.db.now c.args.point.now (plan_tree plan) =
-    c.in-Ok.ensures.measures.measures ∙ ap (λ d. measure_of b d c.args.point.now (plan_tree plan)) c.loop-plan.invariant.unchanged in
+    let is : measure m ≡ measure_of b block c.args.db.now c.args.point.now (plan_tree plan) =
+    c.in-Ok.ensures.measures.measures ∙ ap (λ d. measure_of b block d c.args.point.now (plan_tree plan)) c.loop-plan.invariant.unchanged in
     let next =
-    next-figures b c.args.db.now c.args.point.now c.args.plans.now c.loop-plan.plan-index plan m c.loop-plan.figures c.with-figures.result spent
+    next-figures b block c.args.db.now c.args.point.now c.args.plans.now c.loop-plan.plan-index plan m c.loop-plan.figures c.with-figures.result spent
     c.loop-plan-test.true c.plan-item.is is c.in-Ok.ensures.measures.work c.with-figures.ensures c.loop-plan.invariant.so_far in
     record {
       so_far = rw c.in-Ok.ensures.measures.paid next;
@@ -48,5 +46,5 @@ pub returns-clause-audit : goal.returns-clause-audit
 returns-clause-audit c =
     let spent = c.spent.result in
     let few : spent < 2 ^ 64 = search rules in
-    told (bouquet_tree c.args.b.now) c.args.db.now c.args.point.now c.args.plans.now c.loop-plan.figures spent c.most.result
-    (plans_some c.args.b.now c.block.ensures.bouquet) c.requires.plans few c.most.ensures.most (search rules)
+    told (bouquet_tree c.args.b.now) (block_tree c.args.block.now) c.args.db.now c.args.point.now c.args.plans.now c.loop-plan.figures spent c.most.result
+    (plans_some c.args.b.now (block_tree c.args.block.now) c.requires.block.bouquet_is c.requires.block.put) c.requires.plans few c.most.ensures.most (search rules)

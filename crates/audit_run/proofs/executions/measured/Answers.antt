@@ -1,13 +1,14 @@
-use Rattle.std.proofs.Common.{rules}
-use Rattle.bouquet_type.specs.Trees.{bouquet_tree}
+use Rattle.std.proofs.Common.{rules, ap, subst, sym}
+use Rattle.cost_model.specs.Costing.{CostingShape}
+use Rattle.plan_tree.specs.Enumerated.{IsSubPlan}
+use Rattle.query_block.specs.Blocks.{block_tree}
 use Rattle.plan_tree.specs.Plans.{plan_tree}
-use Rattle.audit_run.specs.Measures.{audited_block}
-use Rattle.audit_run.proofs.Some.{work_some}
+use Rattle.audit_run.proofs.Some.{plan-before, work_some}
 use Rattle.audit_run.proofs.executions.measured.Goals as goal
 
 pub returns-in-Ok : goal.returns-in-Ok
 returns-in-Ok c =
-    let some = work_some c.args.meter.now.database.tables (audited_block (bouquet_tree c.args.b.now)) (plan_tree c.args.plan.now) in
+    let some = work_some c.args.meter.now.database.tables (block_tree c.args.block.now) (plan_tree c.args.plan.now) in
     record {
       measures = record {
         measures = search rules;
@@ -18,3 +19,9 @@ returns-in-Ok c =
         context = search rules;
       };
     }
+
+pub cost-cost-requires-clause-plan : goal.cost-cost-requires-clause-plan
+cost-cost-requires-clause-plan c =
+    let same = ap (λ (costing : CostingShape). block_tree costing.block) c.costing.ensures in
+    subst (λ block. IsSubPlan block (plan_tree c.args.plan.now)) (sym same)
+    (plan-before (block_tree c.args.b.now.block) (block_tree c.args.block.now) (plan_tree c.args.plan.now) c.requires.block.put c.requires.plan).nodes
