@@ -13,3 +13,4 @@ pub mod PointLevels
 pub mod PointTexts
 pub mod RowsPrinted
 pub mod Sizes
+pub mod Misfits

@@ -3,13 +3,17 @@ use Rattle.std.specs.Prelude.{ℕ, ◌+◌, List, [], ◌∷◌, Option, Some, N
 use Rattle.sql_values.specs.Limits.{max_plans}
 use Rattle.sql_values.specs.declared.limit.LimitName.TheVariants as limit
 use Rattle.sql_parse.specs.declared.tree.AuditDef.{AuditDef}
+use Rattle.sql_values.specs.declared.value.Value.{Value}
 use Rattle.ess_grid.specs.Points.{GridShape}
+use Rattle.query_block.specs.Blocks.{BlockTree, put_of}
+use Rattle.query_block.specs.Values.{value_fault}
 use Rattle.plan_tree.specs.AllPlans.{plans_of}
 use Rattle.bouquet_type.specs.Trees.{BouquetTree}
 use Rattle.audit_run.specs.Audits.{audit_of, work_of_all}
 use Rattle.session.specs.Printed.{audit_line}
 use Rattle.session.specs.declared.refusal.Refusal.{Refusal}
 use Rattle.session.specs.declared.refusal.Refusal.TheVariants as refusal
+use Rattle.session.specs.Bouquets.{unless_misfit}
 use Rattle.session.specs.Outcome.{Outcome, Prints, Refuses}
 use Rattle.session.specs.Present.{at_present}
 use Rattle.session.specs.World.{World}
@@ -25,16 +29,23 @@ point_refusal grid levels =
     if nat_eq (length levels) grid.axes then level_refusal grid.levels levels
     else Some (refusal.PastLimit limit.Coordinates (length levels))
 
--- what is told of a bouquet at a point, unless its levels are refused; a block has to have few enough plans, and their work
+-- what is told of a bouquet on a block at a point, unless its levels are refused; a block has to have few enough plans, and their work
 -- together may be no more than this. No book takes it in
-abbrev pub audit_answer : (max_work : ℕ) → World → BouquetTree → (levels : List ℕ) → Option Refusal → Outcome
-audit_answer max_work world bouquet levels (Some why) = Refuses why
-audit_answer max_work world bouquet levels None =
-    if nat_lt max_plans (length (plans_of bouquet.costing.block)) then Refuses (refusal.PastLimit limit.Plans (max_plans + 1))
-    else if nat_lt max_work (work_of_all bouquet world.database) then Refuses (refusal.PastWork max_work false)
-    else Prints (audit_line (audit_of bouquet world.database levels)) 0 world
+abbrev pub audit_answer : (max_work : ℕ) → World → BouquetTree → BlockTree → (levels : List ℕ) → Option Refusal → Outcome
+audit_answer max_work world bouquet block levels (Some why) = Refuses why
+audit_answer max_work world bouquet block levels None =
+    if nat_lt max_plans (length (plans_of block)) then Refuses (refusal.PastLimit limit.Plans (max_plans + 1))
+    else if nat_lt max_work (work_of_all block world.database) then Refuses (refusal.PastWork max_work false)
+    else Prints (audit_line (audit_of bouquet block world.database levels)) 0 world
+
+-- of a bouquet whose block has values in place of its parameters
+abbrev pub bouquet_audit : (max_work : ℕ) → World → List Value → (levels : List ℕ) → BouquetTree → Outcome
+bouquet_audit max_work world values levels bouquet =
+    let block = put_of values bouquet.costing.block in
+    unless_misfit (value_fault bouquet.costing.block.parameters values)
+    (audit_answer max_work world bouquet block levels (point_refusal bouquet.costing.grid levels))
 
 -- the audit of the bouquet of this name, whose counts have to be those of the tables
 abbrev pub audit_outcome : (max_work : ℕ) → World → AuditDef → Outcome
 audit_outcome max_work world audit =
-    at_present world audit.name (λ bouquet. audit_answer max_work world bouquet audit.levels (point_refusal bouquet.costing.grid audit.levels))
+    at_present world audit.name (bouquet_audit max_work world [] audit.levels)

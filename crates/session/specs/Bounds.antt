@@ -1,7 +1,9 @@
 -- The answer of a query, and the bound on the work that it prints.
-use Rattle.std.specs.Prelude.{⊤, ℕ, List, None, Option, Result, Vec, IfOk, IfSome, OnOk}
+use Rattle.std.specs.Prelude.{⊤, ℕ, List, [], None, Option, Result, Vec, IfOk, IfSome, OnOk}
 use Rattle.std.specs.declared.alloc.Global.{Global}
 use Rattle.sql_values.specs.Limits.{default_threshold}
+use Rattle.sql_values.specs.declared.value.Value.{Value}
+use Rattle.query_block.specs.Blocks.{put_of}
 use Rattle.sql_parse.specs.Trees.{StatementTree, Select, Run}
 use Rattle.db_catalog.specs.Database.{DatabaseState}
 use Rattle.bouquet_type.specs.Trees.{BouquetTree}
@@ -17,18 +19,18 @@ use Rattle.session.specs.Statements.{statement_outcome}
 use Rattle.session.specs.World.{World, bouquet_in}
 use Rattle.session.specs.declared.stop.Stop.{Stop}
 
--- its counts are those of the tables, and the work of its run over them meets the bound, which holds of sound bouquets; it is
+-- its counts are those of the tables, and the work of its run over them with these values meets the bound, which holds of sound bouquets; it is
 -- sound where it is compiled, though it were opened from a file
-pub record RunsWithinBound (database : DatabaseState) (bouquet : BouquetTree) : Type 0 where
+pub record RunsWithinBound (database : DatabaseState) (values : List Value) (bouquet : BouquetTree) : Type 0 where
   pub counts : HasCountsOf database.tables bouquet
-  pub bound : let work = works_over database bouquet in MeetsBound bouquet work (total_work bouquet work)
+  pub bound : let work = works_over database (put_of values bouquet.costing.block) in MeetsBound bouquet work (total_work bouquet work)
   pub sound : IsCompiled bouquet → IsSound bouquet
 
 -- so it is for the bouquet by which a query is answered; that of a SELECT is sound
 abbrev pub IsAnsweredWithin : World → StatementTree → Type 0
 IsAnsweredWithin world (Select query) =
-    IfOk (bouquet_due world.database query None default_threshold) (λ bouquet. IsSound bouquet × RunsWithinBound world.database bouquet)
-IsAnsweredWithin world (Run name) = IfSome (bouquet_in name world.bouquets) (RunsWithinBound world.database)
+    IfOk (bouquet_due world.database query None default_threshold) (λ bouquet. IsSound bouquet × RunsWithinBound world.database [] bouquet)
+IsAnsweredWithin world (Run name) = IfSome (bouquet_in name world.bouquets) (RunsWithinBound world.database [])
 IsAnsweredWithin world other = ⊤
 
 -- what a query's statement returned is due to it, an answer is within its bound, and no more was paid than may be

@@ -3,7 +3,10 @@ use Rattle.std.specs.Prelude.{◌≡◌, ℕ, ◌^◌, ◌≤◌, nat_le, nat_lt
 use Rattle.std.specs.Option.{option_or}
 use Rattle.sql_values.specs.Limits.{min_levels, max_levels, max_points, max_script_bytes}
 use Rattle.sql_values.specs.declared.limit.LimitName.TheVariants as limit
-use Rattle.query_block.specs.Blocks.{BlockTree, axes_of}
+use Rattle.sql_values.specs.declared.value.Value.{Value}
+use Rattle.query_block.specs.Blocks.{BlockTree, axes_of, put_of}
+use Rattle.query_block.specs.Values.{value_fault}
+use Rattle.query_block.specs.declared.values.ValueFault.{ValueFault}
 use Rattle.sql_parse.specs.Trees.{QueryTree}
 use Rattle.sql_parse.specs.WellFormed.{IsWellFormedQuery}
 use Rattle.sql_parse.specs.Counts.{of_condition, predicates_in}
@@ -86,10 +89,20 @@ abbrev pub kept_as : (label : List ℕ) → World → (name text : List ℕ) →
 kept_as label world name text bouquet =
     Prints (size_line label bouquet) 0 (with_bouquet world (record { name = name; query = text; bouquet = bouquet }))
 
--- the answer of a bouquet: the rows of its block and how its run ends, for the work of the whole run; where that is more than
--- may be spent it is refused, when so much is spent
-abbrev pub bouquet_answer : (max_work : ℕ) → World → BouquetTree → Outcome
-bouquet_answer max_work world bouquet =
-    let end = run_end bouquet (works_over world.database bouquet) in
-    if nat_le end.total max_work then Prints (answer_text world.database bouquet.costing.block end) end.total world
+-- what is due to a statement that puts values in, unless they don't fit the parameters
+abbrev pub unless_misfit : Option ValueFault → Outcome → Outcome
+unless_misfit (Some fault) due = Refuses (refusal.NotFitting fault)
+unless_misfit None due = due
+
+-- the answer on a block, by a run of a bouquet: the block's rows and how the run ends, for the work of the whole run; where that
+-- is more than may be spent it is refused, when so much is spent
+abbrev pub block_answer : (max_work : ℕ) → World → BouquetTree → BlockTree → Outcome
+block_answer max_work world bouquet block =
+    let end = run_end bouquet (works_over world.database block) in
+    if nat_le end.total max_work then Prints (answer_text world.database block end) end.total world
     else Refuses (refusal.PastWork max_work true)
+
+-- the answer of a bouquet: that on its block with values in place of its parameters
+abbrev pub bouquet_answer : (max_work : ℕ) → World → List Value → BouquetTree → Outcome
+bouquet_answer max_work world values bouquet =
+    unless_misfit (value_fault bouquet.costing.block.parameters values) (block_answer max_work world bouquet (put_of values bouquet.costing.block))

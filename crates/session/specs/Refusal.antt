@@ -11,6 +11,8 @@ use Rattle.csv_load.specs.declared.fault.LoadFault.{LoadFault}
 use Rattle.csv_load.specs.declared.fault.LoadFault.TheVariants as load
 use Rattle.sql_bind.specs.declared.fault.BindFault.{BindFault}
 use Rattle.sql_bind.specs.declared.fault.BindFault.TheVariants as bind
+use Rattle.query_block.specs.declared.values.ValueFault.{ValueFault}
+use Rattle.query_block.specs.declared.values.ValueFault.TheVariants as values
 use Rattle.cost_model.specs.declared.stale.Stale.{Stale}
 use Rattle.cost_model.specs.Staleness.{count_word}
 use Rattle.bouquet_file.specs.declared.fault.OpenFault.{OpenFault}
@@ -98,6 +100,11 @@ abbrev pub stale_line : Stale → List ℕ
 stale_line stale =
     error_line (codes "E15 stale" ++ (spaced stale.relation ++ (codes " " ++ (count_word stale.count ++ (spaced stale.kept ++ spaced stale.present)))))
 
+-- values that don't fit the parameters: how many there are and how many there have to be, or the place of the first
+abbrev pub not_fitting_line : ValueFault → List ℕ
+not_fitting_line (values.Count given wanted) = error_line (codes "E17 count" ++ (spaced given ++ spaced wanted))
+not_fitting_line (values.Kind place) = error_line (codes "E17 " ++ (codes "kind" ++ spaced place))
+
 -- a file that is no bouquet of the query: where it isn't; out of memory refuses nothing
 abbrev pub not_opened_line : OpenFault → List ℕ
 not_opened_line (opening.Stale stale) = stale_line stale
@@ -114,6 +121,7 @@ line_of (refusal.NotBound fault) = not_bound_line fault
 line_of (refusal.NameTaken name) = duplicate_line name
 line_of (refusal.NoBouquet name) = no_bouquet_line name
 line_of (refusal.IsStale stale) = stale_line stale
+line_of (refusal.NotFitting fault) = not_fitting_line fault
 line_of (refusal.AbsentFile name) = error_line (codes "E09 absent " ++ name)
 line_of (refusal.NotLoaded fault) = not_loaded_line fault
 line_of (refusal.NotOpened fault) = not_opened_line fault

@@ -58,8 +58,9 @@ impl Session {
             result (world_of self.now) }
     {
         let bouquet = self.present(&audit.name)?;
+        bouquet.block().fits_values(&[])?;
         let point = point_of(bouquet.grid(), audit.levels.as_slice())?;
-        let told = audit_run::audit(alloc, &self.database, bouquet, &point, max_work)?;
+        let told = audit_run::audit(alloc, &self.database, bouquet, &[], &point, max_work)?;
         Ok(audit_line(alloc, &told)?)
     }
 }

@@ -3,15 +3,15 @@
 ghost use Rattle.std.specs.Prelude.{◌≡◌, ◌+◌, ◌≤◌, IfOk, OnOk, length};
 ghost use Rattle.work_ledger.specs.Account.{max_account};
 ghost use Rattle.sql_values.specs.Limits.{max_threshold};
-ghost use Rattle.query_block.specs.Blocks.{block_tree, width_of};
+ghost use Rattle.query_block.specs.Blocks.{block_tree, IsPutOf, width_of};
 ghost use Rattle.query_block.specs.Meaning.{meaning_of};
 ghost use Rattle.sql_parse.specs.Trees.{query_tree};
 ghost use Rattle.db_catalog.specs.Fits.{Fits};
 ghost use Rattle.exec_pipe.specs.Executions.{AreRowsOf};
-ghost use Rattle.bouquet_type.specs.Trees.{bouquet_tree};
+ghost use Rattle.bouquet_type.specs.Trees.{bouquet_tree, IsBouquet};
 ghost use Rattle.bouquet_type.specs.Sound.{IsSound};
 ghost use Rattle.bouquet_type.specs.Reports.{told_end};
-ghost use Rattle.session.specs.Bouquets.{AreGridLevels, GivesBouquet, IsScriptQuery, bouquet_answer, bouquet_due};
+ghost use Rattle.session.specs.Bouquets.{AreGridLevels, GivesBouquet, IsScriptQuery, block_answer, bouquet_answer, bouquet_due};
 ghost use Rattle.session.specs.Bounds.{RunsWithinBound};
 ghost use Rattle.session.specs.Counted.{HasCountsOf};
 ghost use Rattle.session.specs.Printed.{answer_text, header_of};
@@ -32,7 +32,7 @@ use result_text::print_rows;
 use row_stack::{RowStack, Space};
 use sql_bind::bind;
 use sql_parse::Query;
-use sql_values::Text;
+use sql_values::{Text, Value};
 use std::alloc::{AllocError, Global};
 use table_stats::stats_of;
 
@@ -85,29 +85,31 @@ fn print_answer(
     Ok(text)
 }
 
-/// What a bouquet's block prints, by a run of the bouquet that may spend `max_work` units. What it paid is entered in the book,
-/// whatever the answer.
-pub(crate) fn answer(
+// What a block prints, which is the bouquet's with some values put in, by a run of the bouquet that may spend `max_work` units.
+// What it paid is entered in the book, whatever the answer.
+fn block_answer(
     alloc: Global,
     max_work: u64,
     database: &Database,
     bouquet: &Bouquet,
+    block: &Block,
     book: &mut Book,
 ) -> Result<Vec<u8>, Stop>
-    requires fits { Fits database.now (block_tree bouquet.now.block) }
-    requires counts { HasCountsOf database.now.tables (bouquet_tree bouquet.now) }
+    requires bouquet { IsBouquet bouquet.now }
+    requires put { IsPutOf (block_tree bouquet.now.block) (block_tree block.now) }
+    requires fits { Fits database.now (block_tree block.now) }
     requires room { book.old + max_work ≤ max_account }
-    ensures due { (world : World) → world.database ≡ database.now →
-        ReturnsDue (bouquet_answer max_work world (bouquet_tree bouquet.now))
+    ensures due { (world : World) → world.database ≡ database.now → ReturnsDue
+        (block_answer max_work world (bouquet_tree bouquet.now) (block_tree block.now))
         result world book.old book.new }
-    ensures bound { OnOk result (RunsWithinBound database.now (bouquet_tree bouquet.now)) }
     ensures pays { PaysAtMost max_work book.old book.new }
 {
-    let block = bouquet.block();
     let names = header_of(alloc, database, block)?;
     let mut meter = Metered::new(database);
     let mut space = Space::new(alloc, block.width());
-    match run(alloc, bouquet, &mut meter, &mut space, book, max_work) {
+    match run(
+        alloc, bouquet, block, &mut meter, &mut space, book, max_work,
+    ) {
         Ok(report) => Ok(print_answer(alloc, database, block, &names, &space.result, &report)?),
         Err(RunFault::WorkLimit { spent }) => Err(Stop::Refused(Refusal::PastWork {
             spent,
@@ -115,4 +117,28 @@ pub(crate) fn answer(
         })),
         Err(RunFault::NoMemory) => Err(Stop::NoMemory),
     }
+}
+
+/// What a bouquet's block prints with these values in place of its parameters. It is refused where they don't fit.
+pub(crate) fn answer(
+    alloc: Global,
+    max_work: u64,
+    database: &Database,
+    bouquet: &Bouquet,
+    values: &[Value],
+    book: &mut Book,
+) -> Result<Vec<u8>, Stop>
+    requires fits { Fits database.now (block_tree bouquet.now.block) }
+    requires counts { HasCountsOf database.now.tables (bouquet_tree bouquet.now) }
+    requires room { book.old + max_work ≤ max_account }
+    ensures due { (world : World) → world.database ≡ database.now →
+        ReturnsDue (bouquet_answer max_work world values.now (bouquet_tree bouquet.now))
+        result world book.old book.new }
+    ensures bound { OnOk result
+        (RunsWithinBound database.now values.now (bouquet_tree bouquet.now)) }
+    ensures pays { PaysAtMost max_work book.old book.new }
+{
+    bouquet.block().fits_values(values)?;
+    let block = bouquet.block().put(alloc, values)?;
+    block_answer(alloc, max_work, database, bouquet, &block, book)
 }

@@ -1,12 +1,13 @@
 // Why a script or a statement is refused: each refusal is a value, and becomes its line here alone.
 ghost use Rattle.std.specs.Prelude.{◌≡◌, ◌++◌, IfOk, OnOk};
-ghost use Rattle.session.specs.Refusal.{line_of, error_line, limit_line, no_table_line, no_column_line, duplicate_line, not_made_line, not_bound_line, field_line, fields_line, not_loaded_line, no_token_line, spaced, token_fault_word, stale_line, not_opened_line};
+ghost use Rattle.session.specs.Refusal.{line_of, error_line, limit_line, no_table_line, no_column_line, duplicate_line, not_made_line, not_bound_line, field_line, fields_line, not_loaded_line, no_token_line, spaced, token_fault_word, stale_line, not_fitting_line, not_opened_line};
 
 use bouquet_file::{OpenFault, path_text};
 use cost_model::Stale;
 use csv_load::LoadFault;
 use db_catalog::DbFault;
 use itoa::Buffer;
+use query_block::ValueFault;
 use sql_bind::BindFault;
 use sql_lex::{LexFault, LexKind};
 use sql_parse::Name;
@@ -34,6 +35,8 @@ pub enum Refusal {
     NoBouquet(Name),
     /// A count of a table isn't what it was when the bouquet was compiled.
     IsStale(Stale),
+    /// The values don't fit the parameters of the bouquet's query.
+    NotFitting(ValueFault),
     /// The folder has no file of this name.
     AbsentFile(Text),
     /// The file gives no rows to its table.
@@ -227,6 +230,22 @@ fn stale_line(alloc: Global, stale: &Stale) -> Result<Vec<u8>, AllocError>
     Ok(line)
 }
 
+// The line of values that don't fit.
+fn not_fitting_line(alloc: Global, fault: ValueFault) -> Result<Vec<u8>, AllocError>
+    ensures { IfOk result (λ line. line.items ≡ not_fitting_line fault) }
+{
+    match fault {
+        ValueFault::Count { given, wanted } => {
+            let mut line = Vec::from_slice(alloc, b"error E17 count")?;
+            push_number(&mut line, u128::from(given))?;
+            push_number(&mut line, u128::from(wanted))?;
+            line.push(b'\n')?;
+            Ok(line)
+        }
+        ValueFault::Kind { place } => number_line(alloc, "E17 ", "kind", u128::from(place)),
+    }
+}
+
 // The line of a file that is no bouquet. Out of memory refuses nothing.
 fn not_opened_line(alloc: Global, fault: OpenFault) -> Result<Vec<u8>, AllocError>
     ensures { IfOk result (λ line. line.items ≡ not_opened_line fault) }
@@ -251,6 +270,7 @@ pub fn refusal_line(alloc: Global, refusal: &Refusal) -> Result<Vec<u8>, AllocEr
         Refusal::NameTaken(name) => duplicate_line(alloc, name.bytes()),
         Refusal::NoBouquet(name) => error_line(alloc, "E13 bouquet ", name.bytes()),
         Refusal::IsStale(stale) => stale_line(alloc, stale),
+        Refusal::NotFitting(fault) => not_fitting_line(alloc, *fault),
         Refusal::AbsentFile(name) => error_line(alloc, "E09 absent ", name.bytes()),
         Refusal::NotLoaded(fault) => not_loaded_line(alloc, fault),
         Refusal::NotOpened(fault) => not_opened_line(alloc, *fault),

@@ -25,6 +25,6 @@ impl Session {
         ensures { Answers max_work (world_of self.now) (Run name.now) result book.old book.new }
     {
         let bouquet = self.present(name)?;
-        answer(alloc, max_work, &self.database, bouquet, book)
+        answer(alloc, max_work, &self.database, bouquet, &[], book)
     }
 }

@@ -30,6 +30,6 @@ impl Session {
     {
         let threshold = DEFAULT_THRESHOLD as u32;
         let bouquet = bouquet_of(alloc, &self.database, query, None, threshold)?;
-        answer(alloc, max_work, &self.database, &bouquet, book)
+        answer(alloc, max_work, &self.database, &bouquet, &[], book)
     }
 }

@@ -6,6 +6,7 @@ use cost_model::Stale;
 use csv_load::LoadFault;
 use db_catalog::DbFault;
 use ess_grid::GridFault;
+use query_block::ValueFault;
 use sql_bind::BindFault;
 use sql_values::{LimitName, MAX_PLANS};
 use std::alloc::AllocError;
@@ -151,6 +152,18 @@ impl From<AuditFault> for Stop {
             }),
             AuditFault::NoMemory => Stop::NoMemory,
         }
+    }
+}
+
+impl From<ValueFault> for Stop {
+    ghost use Rattle.std.specs.Prelude.{◌≡◌};
+    ghost use Rattle.session.specs.declared.refusal.Refusal.TheVariants as refusal;
+    ghost use Rattle.session.specs.declared.stop.Stop.TheVariants.{Refused};
+
+    ghost from_gives = { λ fault stop. stop ≡ Refused (refusal.NotFitting fault) };
+
+    fn from(fault: ValueFault) -> Stop {
+        Stop::Refused(Refusal::NotFitting(fault))
     }
 }
 

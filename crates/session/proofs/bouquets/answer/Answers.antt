@@ -1,26 +1,53 @@
--- The space is wide enough, every bouquet meets the bound, and a compiled one is sound.
-use Rattle.std.proofs.Common.{◌≡◌, ap, arith, rules}
-use Rattle.query_block.specs.Blocks.{block_tree, width_of}
+-- The values fit, every bouquet meets the bound, and a compiled one is sound.
+use Rattle.std.proofs.Common.{◌≡◌, ◌∙◌, Option, None, ap, subst, sym}
+use Rattle.std.specs.Prelude.{Result, Ok, Err, OnOk}
+use Rattle.query_block.specs.Shape.{BlockShape}
+use Rattle.query_block.specs.Blocks.{BlockTree, block_tree, put_of}
+use Rattle.query_block.specs.Values.{value_fault}
+use Rattle.query_block.specs.declared.values.ValueFault.{ValueFault}
 use Rattle.bouquet_type.specs.Trees.{bouquet_tree}
 use Rattle.bouquet_type.proofs.Meets.{bouquet-bound}
 use Rattle.contours.proofs.Soundness.{compiled-sound}
 use Rattle.bouquet_run.specs.Outcomes.{works_over}
-use Rattle.audit_run.proofs.Some.{words_some}
+use Rattle.db_catalog.specs.Fits.{Fits}
+use Rattle.db_catalog.proofs.PutBlocks.{put-fits-tables}
+use Rattle.session.specs.Bounds.{RunsWithinBound}
+use Rattle.session.specs.Bouquets.{block_answer, bouquet_answer, unless_misfit}
+use Rattle.session.specs.Outcome.{Outcome}
+use Rattle.session.specs.Returns.{ReturnsDue}
+use Rattle.session.proofs.Misfits.{fitting}
 use Rattle.session.proofs.bouquets.answer.Goals as goal
 
-pub new-space-requires : goal.new-space-requires
-new-space-requires c =
-    let same : width_of (block_tree c.block-block.result.now) ≡ width_of (block_tree c.args.bouquet.now.block) = ap (λ b. width_of (block_tree b)) c.block-block.ensures.block in
-    record {
-      some_words = omega (arith, c.width.ensures.width, same, words_some (block_tree c.args.bouquet.now.block) c.block-block.ensures.bouquet.costing.block);
-      few_words = search rules;
-    }
+-- what holds whatever is answered holds of an answer
+whatever : {A E : Type 0} (result : Result A E) (P : Type 0) → P → OnOk result P
+whatever (Ok a) P holds = holds
+whatever (Err e) P holds = tt
 
-pub returns-in-Ok-clause-bound : goal.returns-in-Ok-clause-bound
-returns-in-Ok-clause-bound c =
-    let bouquet = c.args.bouquet.now in
-    record {
+pub block_answer-requires-clause-fits : goal.block_answer-requires-clause-fits
+block_answer-requires-clause-fits c =
+    let put : BlockShape → BlockTree = λ shape. put_of c.args.values.now (block_tree shape) in
+    subst (Fits c.args.database.now) (sym (c.in_ok-block.ensures ∙ ap put c.block-2.ensures.block))
+    (put-fits-tables c.args.database.now c.args.values.now (block_tree c.args.bouquet.now.block) c.requires.fits)
+
+pub returns-clause-due : goal.returns-clause-due
+returns-clause-due c = λ world is.
+    let values = c.args.values.now in
+    let bouquet = bouquet_tree c.args.bouquet.now in
+    let put : BlockShape → BlockTree = λ shape. put_of values (block_tree shape) in
+    let answer : BlockTree → Outcome = block_answer c.args.max_work world bouquet in
+    let due : Option ValueFault → Outcome = λ found. unless_misfit found (answer (put_of values bouquet.costing.block)) in
+    let fit : value_fault bouquet.costing.block.parameters values ≡ None =
+    fitting values c.args.bouquet.now.block c.block.result.now c.block.ensures.block c.in_ok-fits_values.field-0 c.in_ok-fits_values.ensures in
+    let same : answer (block_tree c.in_ok-block.block) ≡ bouquet_answer c.args.max_work world values bouquet =
+    ap answer (c.in_ok-block.ensures ∙ ap put c.block-2.ensures.block) ∙ sym (ap due fit) in
+    subst (λ (due : Outcome). ReturnsDue due c.block_answer.result world c.args.book.now c.block_answer.new.book) same (c.block_answer.ensures.due world is)
+
+pub returns-clause-bound : goal.returns-clause-bound
+returns-clause-bound c =
+    let bouquet = bouquet_tree c.args.bouquet.now in
+    let block = put_of c.args.values.now bouquet.costing.block in
+    whatever c.block_answer.result (RunsWithinBound c.args.database.now c.args.values.now bouquet) (record {
       counts = c.requires.counts;
-      bound = bouquet-bound bouquet c.block-block.ensures.bouquet (works_over c.args.database.now (bouquet_tree bouquet));
-      sound = compiled-sound (bouquet_tree bouquet) c.block-block.ensures.bouquet.costing;
-    }
+      bound = bouquet-bound c.args.bouquet.now c.block.ensures.bouquet (works_over c.args.database.now block);
+      sound = compiled-sound bouquet c.block.ensures.bouquet.costing;
+    })

@@ -6,7 +6,6 @@ use Rattle.std.proofs.lemmas.List.Quantifiers.{position-Some}
 use Rattle.sql_values.specs.Stored.{StoredTable}
 use Rattle.db_catalog.specs.Database.{table_number}
 use Rattle.sql_parse.specs.declared.tree.LoadDef.{LoadDef}
-use Rattle.sql_parse.specs.Trees.{Load}
 use Rattle.session.specs.Given.{at_file}
 use Rattle.session.specs.Load.{load_bytes, load_outcome}
 use Rattle.session.specs.Outcome.{Outcome, at_number}

@@ -1,5 +1,5 @@
 -- The query has no bouquet, or its bouquet answers.
-use Rattle.std.proofs.Common.{◌≡◌, None, refl}
+use Rattle.std.proofs.Common.{◌≡◌, [], None, refl}
 use Rattle.std.specs.Prelude.{Result, Ok, Err, OnOk}
 use Rattle.std.proofs.lemmas.Result.{err_from_is_err_and}
 use Rattle.sql_parse.specs.Trees.{Select, query_tree}
@@ -23,7 +23,7 @@ returns-in_err-bouquet c =
     let world : World = world_of (record { database = c.self.inside.database; bouquets = c.self.inside.bouquets }) in
     let stop = err_from_is_err_and c.from_residual.result c.from_residual.ensures.1 in
     rw (← c.self.view_is, stop.1, stop.2) (answers_unpaid c.args.max_work world (Select (query_tree c.args.query.now)) _ c.args.book.now
-    (λ file. stops (bouquet_due world.database (query_tree c.args.query.now) None default_threshold) (bouquet_answer c.args.max_work world) _ c.in_err-bouquet.ensures.due))
+    (λ file. stops (bouquet_due world.database (query_tree c.args.query.now) None default_threshold) (bouquet_answer c.args.max_work world []) _ c.in_err-bouquet.ensures.due))
 
 pub returns : goal.returns
 returns c =
@@ -32,6 +32,6 @@ returns c =
     let is : bouquet_due world.database (query_tree c.args.query.now) None default_threshold ≡ Ok tree = c.in_ok-bouquet.ensures.due in
     rw (← c.self.view_is) (record {
       due = λ file. rw is (c.answer.ensures.due world refl);
-      bounded = rw is (both c.answer.result (IsSound tree) (RunsWithinBound world.database tree) c.in_ok-bouquet.ensures.sound c.answer.ensures.bound);
+      bounded = rw is (both c.answer.result (IsSound tree) (RunsWithinBound world.database [] tree) c.in_ok-bouquet.ensures.sound c.answer.ensures.bound);
       pays = c.answer.ensures.pays;
     })
