@@ -1,5 +1,7 @@
 // Compiled bouquets: of each contour its cost, its budget and its plans.
-ghost use Rattle.std.specs.Prelude.{◌≤◌, ◌<◌};
+ghost use Rattle.std.specs.Prelude.{◌≤◌, ◌<◌, IfOk};
+ghost use Rattle.query_block.specs.Blocks.{block_tree};
+ghost use Rattle.db_catalog.specs.Fits.{Fits};
 
 use crate::fixture::block_of;
 use crate::wrong::Wrong;
@@ -21,13 +23,15 @@ fn levels_of(written: &str) -> Result<Option<u64>, Wrong> {
 }
 
 // The bouquet of a block over the tables.
-fn compiled(
+pub(crate) fn compiled(
     alloc: Global,
     db: &Database,
     block: Block,
     levels: Option<u64>,
     threshold: u32,
-) -> Result<Bouquet, Wrong> {
+) -> Result<Bouquet, Wrong>
+    ensures { IfOk result (λ bouquet. Fits db.now (block_tree bouquet.block)) }
+{
     if !db.fits(&block) || block.axes() > 6 || threshold > 1000 {
         return Err("a block over the tables, and a threshold".into());
     }
