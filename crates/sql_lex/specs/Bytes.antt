@@ -21,7 +21,7 @@ is_word_byte b = is_ascii_alphanumeric b || (b == 95)
 
 -- the signs
 abbrev pub is_sign : ℕ → Bool
-is_sign b = list_any (λ sign. b == sign) (codes "(),.;*+-")
+is_sign b = list_any (λ sign. b == sign) (codes "(),.;*+-?")
 
 -- the comparisons of one byte: = < >
 abbrev pub starts_comparison : ℕ → Bool

@@ -16,7 +16,10 @@ pub(crate) fn is_white(byte: u8) -> bool
 pub(crate) fn is_sign(byte: u8) -> bool
     ensures { result ≡ is_sign byte }
 {
-    matches!(byte, b'(' | b')' | b',' | b'.' | b';' | b'*' | b'+' | b'-')
+    matches!(
+        byte,
+        b'(' | b')' | b',' | b'.' | b';' | b'*' | b'+' | b'-' | b'?'
+    )
 }
 
 pub(crate) fn starts_comparison(byte: u8) -> bool

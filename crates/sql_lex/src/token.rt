@@ -9,7 +9,7 @@ pub enum TokenKind {
     Number,
     /// A text literal in single quotes, each quote inside doubled.
     Text,
-    /// One of `( ) , . ; * + -`.
+    /// One of `( ) , . ; * + - ?`.
     Sign,
     /// One of `= <> < <= > >=`.
     Comparison,
