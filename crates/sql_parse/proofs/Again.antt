@@ -1,16 +1,15 @@
 -- What is written by the grammar is read again, whatever follows it.
-use Rattle.std.proofs.Common.{◌≡◌, ℕ, zero, suc, ◌≤◌, ◌⊎◌, inl, inr, true, false, List, [], ◌∷◌, ◌++◌, length, Option, Some, None, ℤ, refl, sym, ap, ◌∙◌, append_assoc, length-append, codes, bytes_eq, arith}
+use Rattle.std.proofs.Common.{◌≡◌, ℕ, zero, suc, ◌≤◌, inl, inr, true, false, List, [], ◌∷◌, ◌++◌, length, Option, Some, None, refl, sym, ap, ◌∙◌, append_assoc, length-append, codes, bytes_eq, arith}
 use Rattle.std.proofs.lemmas.Slice.Eq.{bytes_eq-Decides}
-use Rattle.sql_lex.specs.declared.token.TokenKind.{TokenKind}
-use Rattle.sql_lex.specs.declared.token.TokenKind.TheVariants as kinds
 use Rattle.sql_parse.specs.declared.mark.Mark.{Mark}
 use Rattle.sql_parse.specs.declared.mark.Mark.TheVariants as m
 use Rattle.sql_parse.specs.declared.tree.Term.{Term}
 use Rattle.sql_parse.specs.declared.tree.Term.TheVariants as term
+use Rattle.sql_values.specs.declared.value.Value.{Value}
 use Rattle.sql_values.specs.declared.value.Value.TheVariants as value
 use Rattle.sql_parse.specs.Lexemes.{Lexeme, Word, mark, is_reserved}
-use Rattle.sql_parse.specs.Grammar.{Rule, IsName, Separated, InParentheses, IsColumnName, IsColRef, IsInteger, IsTerm}
-use Rattle.sql_parse.specs.Reading.{Reader, after_mark, name_at, number_at, text_token_at, more_at, list_with_first, list_at, in_parentheses_at, colref_at, unsigned_at, integer_at, token_kind_at, operand_at}
+use Rattle.sql_parse.specs.Grammar.{Rule, IsName, Separated, InParentheses, IsColumnName, IsColRef, IsLiteral, IsTerm}
+use Rattle.sql_parse.specs.Reading.{Reader, ◌>>=◌, after_mark, name_at, number_at, text_token_at, parameter_at, more_at, list_with_first, list_at, in_parentheses_at, colref_at, unsigned_at, integer_at, literal_at, operand_at}
 use Rattle.sql_parse.proofs.Lists.{more_at-end}
 
 -- each form is read again where Follows holds of what follows it
@@ -48,46 +47,42 @@ column_name-again (Some alias) column tokens rest form follows = rw (form.0, for
 pub colref-again : IsReadAgain IsColRef colref_at NoDot
 colref-again tokens column rest form follows = column_name-again column.alias column.column tokens rest form follows
 
-integer_at-again : IsReadAgain IsInteger integer_at (λ rest. Unit {0})
-unfolding integer_at unsigned_at number_at after_mark
-integer_at-again tokens n rest form follows = elim form.1 [
+-- a literal is read again, whatever follows it
+pub literal-again : IsReadAgain IsLiteral literal_at (λ rest. Unit {0})
+unfolding literal_at integer_at unsigned_at number_at text_token_at after_mark
+literal-again tokens (value.Int n) rest form follows = elim form.1 [
   | inl bare ↦ rw (bare.0, bare.1) refl
   | inr (inl plus) ↦ rw (plus.0, plus.1) refl
   | inr (inr minus) ↦ rw (minus.0, minus.1) refl
 ]
+literal-again tokens (value.Text text) rest form follows = rw form refl
+literal-again tokens value.Null rest form follows = absurd form
 
-kind_at-column : (alias : Option (List ℕ)) (column : List ℕ) (tokens rest : List Lexeme) → IsColumnName alias tokens column
-    → token_kind_at (tokens ++ rest) ≡ Some kinds.Word
-kind_at-column None column tokens rest form = rw form.0 refl
-kind_at-column (Some alias) column tokens rest form = rw form.0 refl
+operand-column : (alias : Option (List ℕ)) (column : List ℕ) (tokens rest : List Lexeme) → IsColumnName alias tokens column
+    → operand_at (tokens ++ rest) ≡ (colref_at (tokens ++ rest) >>= λ found. Some (term.Column found.0, found.1))
+unfolding operand_at parameter_at
+operand-column None column tokens rest form = rw form.0 refl
+operand-column (Some alias) column tokens rest form = rw form.0 refl
 
-operand_of_kind-number : (kind : Option TokenKind) (tokens rest : List Lexeme) (n : ℤ) → token_kind_at tokens ≡ kind → (kind ≡ Some kinds.Word → ⊥) → (kind ≡ Some kinds.Text → ⊥)
-    → integer_at tokens ≡ Some (n, rest) → operand_at tokens ≡ Some (term.Literal (value.Int n), rest)
-unfolding operand_at
-operand_of_kind-number None tokens rest n is no_word no_text found = rw (is, found) refl
-operand_of_kind-number (Some kinds.Word) tokens rest n is no_word no_text found = absurd (no_word refl)
-operand_of_kind-number (Some kinds.Number) tokens rest n is no_word no_text found = rw (is, found) refl
-operand_of_kind-number (Some kinds.Text) tokens rest n is no_word no_text found = absurd (no_text refl)
-operand_of_kind-number (Some kinds.Sign) tokens rest n is no_word no_text found = rw (is, found) refl
-operand_of_kind-number (Some kinds.Comparison) tokens rest n is no_word no_text found = rw (is, found) refl
-
-integer-kind : (tokens rest : List Lexeme) (n : ℤ) → IsInteger tokens n → (token_kind_at (tokens ++ rest) ≡ Some kinds.Number) ⊎ (token_kind_at (tokens ++ rest) ≡ Some kinds.Sign)
-integer-kind tokens rest n form = elim form.1 [
-  | inl bare ↦ inl (rw bare.0 refl)
-  | inr (inl plus) ↦ inr (rw plus.0 refl)
-  | inr (inr minus) ↦ inr (rw minus.0 refl)
+operand-literal : (tokens : List Lexeme) (literal : Value) (rest : List Lexeme) → IsLiteral tokens literal
+    → operand_at (tokens ++ rest) ≡ (literal_at (tokens ++ rest) >>= λ found. Some (term.Literal found.0, found.1))
+unfolding operand_at parameter_at
+operand-literal tokens (value.Int n) rest form = elim form.1 [
+  | inl bare ↦ rw bare.0 refl
+  | inr (inl plus) ↦ rw plus.0 refl
+  | inr (inr minus) ↦ rw minus.0 refl
 ]
+operand-literal tokens (value.Text text) rest form = rw form refl
+operand-literal tokens value.Null rest form = absurd form
 
 pub operand-again : IsReadAgain IsTerm operand_at NoDot
-unfolding operand_at text_token_at
+unfolding operand_at parameter_at
 operand-again tokens (term.Column column) rest form follows =
-    rw (kind_at-column column.alias column.column tokens rest form, colref-again tokens column rest form follows) refl
-operand-again tokens (term.Literal (value.Int n)) rest form follows = elim (integer-kind tokens rest n form) [
-  | inl number ↦ operand_of_kind-number _ (tokens ++ rest) rest n number (λ is. cc) (λ is. cc) (integer_at-again tokens n rest form tt)
-  | inr sign ↦ operand_of_kind-number _ (tokens ++ rest) rest n sign (λ is. cc) (λ is. cc) (integer_at-again tokens n rest form tt)
-]
-operand-again tokens (term.Literal (value.Text text)) rest form follows = rw form refl
-operand-again tokens (term.Literal value.Null) rest form follows = absurd form
+    operand-column column.alias column.column tokens rest form
+    ∙ ap (λ found. found >>= λ found. Some (term.Column found.0, found.1)) (colref-again tokens column rest form follows)
+operand-again tokens (term.Literal literal) rest form follows =
+    operand-literal tokens literal rest form ∙ ap (λ found. found >>= λ found. Some (term.Literal found.0, found.1)) (literal-again tokens literal rest form tt)
+operand-again tokens (term.Parameter number) rest form follows = rw form refl
 
 -- neither a parenthesis nor NOT stands first
 abbrev pub BeginsOperand : List Lexeme → Type 0
@@ -108,6 +103,7 @@ operand-begins tokens (term.Literal (value.Int n)) rest form = elim form.1 [
 ]
 operand-begins tokens (term.Literal (value.Text text)) rest form = rw form (refl, refl)
 operand-begins tokens (term.Literal value.Null) rest form = absurd form
+operand-begins tokens (term.Parameter number) rest form = rw form (refl, refl)
 
 -- each separator is a token
 separators-counted : {A : Type 0} (separator : Mark) (IsPart : Rule A) (tokens : List Lexeme) (x : A) (xs : List A) → Separated separator IsPart tokens (x ∷ xs)

@@ -1,65 +1,94 @@
--- A statement has at most as many operands, and at most as many predicates, as it has tokens.
-use Rattle.std.proofs.Common.{◌≡◌, ℕ, ◌+◌, ◌≤◌, true, false, cond, List, [], ◌∷◌, length, map, arith}
-use Rattle.std.proofs.lemmas.List.{length-map}
-use Rattle.std.specs.List.{All, AllByRecursion}
-use Rattle.std.proofs.lemmas.List.Elements.{All-from_recursion}
-use Rattle.sql_lex.specs.declared.token.Token.{Token}
-use Rattle.sql_parse.specs.declared.statement.Statement.{Statement}
-use Rattle.sql_parse.specs.Lexemes.{lexeme, lexemes}
-use Rattle.sql_parse.specs.Trees.{StatementTree, statement_tree}
-use Rattle.sql_parse.specs.Counts.{condition_of, predicates_of, IsWithinTokens}
-use Rattle.sql_parse.specs.Script.{is_semicolon, in_front, split, not_empty, pieces, AreStatementsOf, AreStatements}
+-- A statement has at most as many operands, and so at most as many predicates and parameters, as it has tokens.
+use Rattle.std.proofs.Common.{◌≡◌, ◌∙◌, ◌+◌, ◌≤◌, List, [], ◌∷◌, ◌++◌, length, Option, Some, None, refl, ap, length-append, arith}
+use Rattle.std.specs.List.{filter_map, cons_option}
+use Rattle.std.proofs.lemmas.List.Elements.{filter_map-append}
+use Rattle.sql_parse.specs.Lexemes.{Lexeme}
+use Rattle.sql_parse.specs.Trees.{ConditionTree, ConditionTrees, Compare, Between, OneOf, IsNull, Not, And, Or, NoMore, More, StatementTree}
+use Rattle.sql_parse.specs.Parameters.{parameter_of, parameters_in, parameters_in_all, parameters_of_condition}
+use Rattle.sql_parse.specs.Counts.{predicates_in, predicates_in_all, operands_in, operands_in_all, of_condition, condition_of, operands_of, IsWithinTokens, HasUpTo}
 use Rattle.sql_parse.specs.Statements.{IsStatement}
-use Rattle.sql_parse.proofs.CountedQueries.{condition-few}
-use Rattle.sql_parse.proofs.Statements.{statement-counted}
+use Rattle.sql_parse.proofs.Numbers.{numbers_in}
+use Rattle.sql_parse.proofs.Operands.{terms_in, terms_in_all, terms_of_condition}
+use Rattle.sql_parse.proofs.Statements.{terms_of, statement-held}
 
--- no piece is longer than the script
-abbrev AreWithin : ℕ → List (List Token) → Type 0
-AreWithin most all = AllByRecursion (λ piece. length piece ≤ most) all
+mutual
+  predicates-few : (tree : ConditionTree) → predicates_in tree ≤ length (terms_in tree)
+  predicates-few (Compare op left right) = omega arith
+  predicates-few (Between negated of low high) = omega arith
+  predicates-few (OneOf negated of terms) = omega arith
+  predicates-few (IsNull negated column) = omega arith
+  predicates-few (Not inner) = predicates-few inner
+  predicates-few (And parts) = predicates-few_all parts
+  predicates-few (Or parts) = predicates-few_all parts
 
-more-room : (most : ℕ) (all : List (List Token)) → AreWithin most all → AreWithin (most + 1) all
-more-room most [] within = tt
-more-room most (piece ∷ all) within = (omega (arith, within.0), more-room most all within.1)
+  predicates-few_all : (parts : ConditionTrees) → predicates_in_all parts ≤ length (terms_in_all parts)
+  predicates-few_all NoMore = omega arith
+  predicates-few_all (More part parts) = omega (arith, predicates-few part, predicates-few_all parts, length-append (terms_in part) (terms_in_all parts))
 
-in_front-within : (most : ℕ) (token : Token) (all : List (List Token)) → AreWithin most all → AreWithin (most + 1) (in_front token all)
-in_front-within most token [] within = (omega arith, tt)
-in_front-within most token (piece ∷ all) within = (omega (arith, within.0), more-room most all within.1)
+mutual
+  operands-terms : (tree : ConditionTree) → operands_in tree ≡ length (terms_in tree)
+  operands-terms (Compare op left right) = refl
+  operands-terms (Between negated of low high) = refl
+  operands-terms (OneOf negated of terms) = omega arith
+  operands-terms (IsNull negated column) = refl
+  operands-terms (Not inner) = operands-terms inner
+  operands-terms (And parts) = operands-terms_all parts
+  operands-terms (Or parts) = operands-terms_all parts
 
-split-within : (script : List ℕ) (tokens : List Token) → AreWithin (length tokens) (split script tokens)
-split-within script [] = (omega arith, tt)
-split-within script (token ∷ tokens) =
-    let rest = split-within script tokens in
-    let grown : length (token ∷ tokens) ≡ length tokens + 1 = omega arith in
-    rw grown (elim (is_semicolon (lexeme script token)) as (λ b. AreWithin (length tokens + 1) (cond b ([] ∷ split script tokens) (in_front token (split script tokens)))) [
-      | true ↦ (omega arith, more-room (length tokens) (split script tokens) rest)
-      | false ↦ in_front-within (length tokens) token (split script tokens) rest
-    ])
+  operands-terms_all : (parts : ConditionTrees) → operands_in_all parts ≡ length (terms_in_all parts)
+  operands-terms_all NoMore = refl
+  operands-terms_all (More part parts) = omega (arith, operands-terms part, operands-terms_all parts, length-append (terms_in part) (terms_in_all parts))
 
-not_empty-within : (most : ℕ) (all : List (List Token)) → AreWithin most all → AreWithin most (not_empty all)
-not_empty-within most [] within = tt
-not_empty-within most ([] ∷ all) within = not_empty-within most all within.1
-not_empty-within most ((token ∷ piece) ∷ all) within = (within.0, not_empty-within most all within.1)
+mutual
+  parameters-terms : (tree : ConditionTree) → filter_map parameter_of (terms_in tree) ≡ parameters_in tree
+  parameters-terms (Compare op left right) = refl
+  parameters-terms (Between negated of low high) = refl
+  parameters-terms (OneOf negated of terms) = refl
+  parameters-terms (IsNull negated column) = refl
+  parameters-terms (Not inner) = parameters-terms inner
+  parameters-terms (And parts) = parameters-terms_all parts
+  parameters-terms (Or parts) = parameters-terms_all parts
 
--- what holds of each statement that counts no more than the script
-abbrev AreFew : ℕ → (StatementTree → ℕ) → List Statement → Type 0
-AreFew most count statements = AllByRecursion (λ statement. count (statement_tree statement) ≤ most) statements
+  parameters-terms_all : (parts : ConditionTrees) → filter_map parameter_of (terms_in_all parts) ≡ parameters_in_all parts
+  parameters-terms_all NoMore = refl
+  parameters-terms_all (More part parts) =
+      filter_map-append parameter_of (terms_in part) (terms_in_all parts)
+      ∙ (ap (λ numbers. numbers ++ filter_map parameter_of (terms_in_all parts)) (parameters-terms part)
+      ∙ ap (λ numbers. parameters_in part ++ numbers) (parameters-terms_all parts))
 
-statements-counted : (count : StatementTree → ℕ) → IsWithinTokens count IsStatement → (script : List ℕ) (most : ℕ) (all : List (List Token)) (statements : List Statement)
-    → AreWithin most all → AreStatementsOf script all (map statement_tree statements) → AreFew most count statements
-statements-counted count counted script most all [] within form = tt
-statements-counted count counted script most [] (statement ∷ statements) within form = absurd form
-statements-counted count counted script most (piece ∷ all) (statement ∷ statements) within form = (
-  omega (arith, within.0, counted (lexemes script piece) (statement_tree statement) form.0, length-map piece (lexeme script)),
-  statements-counted count counted script most all statements within.1 form.1,
-)
+condition-predicates : (condition : Option ConditionTree) → of_condition predicates_in condition ≤ length (terms_of_condition condition)
+condition-predicates None = omega arith
+condition-predicates (Some tree) = predicates-few tree
 
-all_counted : (count : StatementTree → ℕ) → IsWithinTokens count IsStatement → (script : List ℕ) (tokens : List Token) (statements : List Statement)
-    → AreStatements script tokens (map statement_tree statements) → All (λ statement. count (statement_tree statement) ≤ length tokens) statements
-all_counted count counted script tokens statements form =
-    All-from_recursion _ statements (statements-counted count counted script (length tokens) (pieces script tokens) statements
-    (not_empty-within (length tokens) (split script tokens) (split-within script tokens)) form)
+condition-operands : (condition : Option ConditionTree) → of_condition operands_in condition ≡ length (terms_of_condition condition)
+condition-operands None = refl
+condition-operands (Some tree) = operands-terms tree
 
-pub predicates-counted : (script : List ℕ) (tokens : List Token) (statements : List Statement) → AreStatements script tokens (map statement_tree statements)
-    → All (λ statement. predicates_of (statement_tree statement) ≤ length tokens) statements
-predicates-counted =
-    all_counted predicates_of (λ tokens statement form. omega (arith, condition-few (condition_of statement), statement-counted tokens statement form))
+condition-parameters : (condition : Option ConditionTree) → filter_map parameter_of (terms_of_condition condition) ≡ parameters_of_condition condition
+condition-parameters None = refl
+condition-parameters (Some tree) = parameters-terms tree
+
+pub statement-counted : IsWithinTokens operands_of IsStatement
+statement-counted tokens statement form =
+    omega (arith, condition-operands (condition_of statement), (statement-held tokens statement form).few)
+
+-- the parameters of a statement are those of its tokens
+pub statement-parameters : (tokens : List Lexeme) (statement : StatementTree) → IsStatement tokens statement
+    → numbers_in tokens ≡ parameters_of_condition (condition_of statement)
+statement-parameters tokens statement form = (statement-held tokens statement form).numbers ∙ condition-parameters (condition_of statement)
+
+cons_option-length : {A : Type 0} (o : Option A) (xs : List A) → length (cons_option o xs) ≤ 1 + length xs
+cons_option-length None xs = omega arith
+cons_option-length (Some x) xs = omega arith
+
+filter_map-length : {A B : Type 0} (f : A → Option B) (xs : List A) → length (filter_map f xs) ≤ length xs
+filter_map-length f [] = omega arith
+filter_map-length f (x ∷ xs) = omega (arith, cons_option-length (f x) (filter_map f xs), filter_map-length f xs)
+
+pub statement-few : (tokens : List Lexeme) (statement : StatementTree) → IsStatement tokens statement → HasUpTo (length tokens) statement
+statement-few tokens statement form =
+    let held = statement-held tokens statement form in
+    record {
+      predicates = omega (arith, condition-predicates (condition_of statement), held.few);
+      parameters = omega (arith, filter_map-length parameter_of (terms_of statement), held.few, ap length (condition-parameters (condition_of statement)));
+    }

@@ -8,7 +8,8 @@ pub mod ReadConditions
 pub mod ReadQueries
 pub mod Pieces
 pub mod Scripts
-pub mod CountedQueries
+pub mod Numbers
+pub mod Operands
 pub mod Counted
 pub mod Written
 pub mod PrintedForms

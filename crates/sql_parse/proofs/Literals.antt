@@ -20,6 +20,7 @@ operand-free tokens (term.Column column) form = tt
 operand-free tokens (term.Literal (value.Int n)) form = tt
 operand-free tokens (term.Literal (value.Text text)) form = tt
 operand-free tokens (term.Literal value.Null) form = absurd form
+operand-free tokens (term.Parameter number) form = tt
 
 operands-free : (tokens : List Lexeme) (terms : List Term) → Separated m.Comma IsTerm tokens terms → AreNotNull terms
 operands-free tokens [] form = absurd form

@@ -8,8 +8,8 @@ use Rattle.sql_parse.specs.declared.mark.Mark.TheVariants as m
 use Rattle.sql_parse.specs.declared.tree.Term.TheVariants as term
 use Rattle.sql_parse.specs.Lexemes.{Lexeme, Word, mark}
 use Rattle.sql_parse.specs.Trees.{Compare, Between, OneOf, IsNull, Not, And, Or}
-use Rattle.sql_parse.specs.Grammar.{Rule, written_if, Separated, InParentheses, IsColumnName, IsColRef, IsInteger, IsTerm, IsPredicate, IsItem, IsSelection}
-use Rattle.sql_parse.specs.Canonical.{Part, Fixed, Name, Operator, part_lexeme, listed, in_parentheses, kept_if, column_name_parts, column_parts, integer_parts, operand_parts, condition_parts, item_parts, selection_parts}
+use Rattle.sql_parse.specs.Grammar.{Rule, written_if, Separated, InParentheses, IsColumnName, IsColRef, IsInteger, IsLiteral, IsTerm, IsPredicate, IsItem, IsSelection}
+use Rattle.sql_parse.specs.Canonical.{Part, Fixed, Name, Operator, part_lexeme, listed, in_parentheses, kept_if, column_name_parts, column_parts, integer_parts, value_parts, operand_parts, condition_parts, item_parts, selection_parts}
 
 abbrev pub tokens_of : List Part → List Lexeme
 tokens_of parts = map part_lexeme parts
@@ -58,11 +58,15 @@ pub integer-printed : (n : ℤ) → IsInteger (tokens_of (integer_parts n)) n
 integer-printed (pos n) = let not_below : int_lt (pos n) (pos 0) ≡ false = search rules in (n, inl (rw not_below refl, refl))
 integer-printed (negsuc n) = (suc n, inr (inr (refl, refl)))
 
+pub literal-printed : IsPrintedBy IsLiteral value_parts
+literal-printed tokens (value.Int n) form = integer-printed n
+literal-printed tokens (value.Text text) form = refl
+literal-printed tokens value.Null form = absurd form
+
 pub operand-printed : IsPrintedBy IsTerm operand_parts
 operand-printed tokens (term.Column column) form = colref-printed tokens column form
-operand-printed tokens (term.Literal (value.Int n)) form = integer-printed n
-operand-printed tokens (term.Literal (value.Text text)) form = refl
-operand-printed tokens (term.Literal value.Null) form = absurd form
+operand-printed tokens (term.Literal literal) form = literal-printed tokens literal form
+operand-printed tokens (term.Parameter number) form = refl
 
 pub predicate-printed : IsPrintedBy IsPredicate condition_parts
 predicate-printed tokens (Compare op left right) form = (

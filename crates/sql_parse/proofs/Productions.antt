@@ -11,8 +11,8 @@ pub use Rattle.sql_parse.proofs.PrintedQueries.{select-printed}
 pub use Rattle.sql_parse.proofs.Sound.{word-sound, EachSound, mark-sound}
 pub use Rattle.sql_parse.proofs.SoundForms.{IsWritable, listed-writable, sound-front, select-writable}
 pub use Rattle.sql_parse.proofs.WrittenParts.{Writable, writable-append}
-pub use Rattle.sql_parse.proofs.CountedQueries.{select-counted}
+pub use Rattle.sql_parse.proofs.Operands.{Holds, no_terms, hold-none, hold-after, select-held}
 pub use Rattle.sql_parse.proofs.CanonicalUtf8.{query-utf8}
-pub use Rattle.sql_parse.proofs.WellFormedQueries.{query-well_formed}
+pub use Rattle.sql_parse.proofs.WellFormedQueries.{AreNumbered, query-well_formed}
 unfoldable pub use Rattle.sql_parse.specs.Statements.{statement_at, create_at}
 pub use Rattle.std.specs.Str.{IsUtf8}

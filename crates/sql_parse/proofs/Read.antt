@@ -6,11 +6,10 @@ use Rattle.sql_lex.specs.declared.token.TokenKind.{TokenKind}
 use Rattle.sql_lex.specs.declared.token.TokenKind.TheVariants as kinds
 use Rattle.sql_parse.specs.declared.mark.Mark.{Mark}
 use Rattle.sql_parse.specs.declared.mark.Mark.TheVariants as m
-use Rattle.sql_parse.specs.declared.tree.Term.TheVariants as term
-use Rattle.sql_parse.specs.Lexemes.{Lexeme, Word, Number, Text, Sign, mark, is_reserved}
+use Rattle.sql_parse.specs.Lexemes.{Lexeme, Word, Number, Text, Sign, Parameter, mark, is_reserved}
 use Rattle.sql_parse.specs.Trees.{StatementTree}
-use Rattle.sql_parse.specs.Grammar.{Rule, IsName, Separated, InParentheses, IsColRef, IsInteger, IsTerm}
-use Rattle.sql_parse.specs.Reading.{Reader, ◌>>=◌, choose, same, after_mark, after_word, name_at, number_at, text_token_at, more_at, list_with_first, list_at, in_parentheses_at, colref_at, unsigned_at, integer_at, token_kind_at, operand_of_kind, operand_at}
+use Rattle.sql_parse.specs.Grammar.{Rule, IsName, Separated, InParentheses, IsColRef, IsInteger, IsLiteral, IsTerm}
+use Rattle.sql_parse.specs.Reading.{Reader, ◌>>=◌, choose, same, after_mark, after_word, name_at, number_at, text_token_at, more_at, list_with_first, list_at, in_parentheses_at, colref_at, unsigned_at, integer_at, parameter_at, token_kind_at, literal_of_kind, literal_at, operand_of_kind, operand_at}
 use Rattle.sql_parse.specs.Statements.{IsStatement}
 
 -- where there is a value, this holds of it
@@ -165,20 +164,34 @@ integer-reads = record {
       (mark m.Minus ∷ number.0, minus ∙ ap (λ all. mark m.Minus ∷ all) number.1, (n.0, inr (inr (ap (λ all. mark m.Minus ∷ all) number.2, refl))))));
 }
 
-operand_of_kind-integer : (tokens : List Lexeme) → IfFound (IsRead IsTerm tokens) (integer_at tokens >>= λ n. Some (term.Literal (value.Int n.0), n.1))
-operand_of_kind-integer tokens = then_read integer-reads tokens _ _ (λ n number. number)
+literal_of-integer : (tokens : List Lexeme) → IfFound (IsRead IsLiteral tokens) (integer_at tokens >>= λ n. Some (value.Int n.0, n.1))
+literal_of-integer tokens = then_read integer-reads tokens _ _ (λ n number. number)
+
+literal_each : (kind : Option TokenKind) (tokens : List Lexeme) → IfFound (IsRead IsLiteral tokens) (literal_of_kind kind tokens)
+literal_each (Some kinds.Text) tokens = then_read text-reads tokens _ _ (λ text form. form)
+literal_each other tokens = literal_of-integer tokens
+
+pub literal-reads : Reads IsLiteral literal_at
+unfolding literal_at
+literal-reads = record { each = λ tokens. literal_each (token_kind_at tokens) tokens }
+
+parameter_each : (tokens : List Lexeme) → IfFound (IsRead (λ tokens number. tokens ≡ Parameter number ∷ []) tokens) (parameter_at tokens)
+unfolding parameter_at
+parameter_each [] = tt
+parameter_each (Parameter number ∷ rest) = (Parameter number ∷ [], refl, refl)
+parameter_each (other ∷ rest) = tt
 
 operand_each : (kind : Option TokenKind) (tokens : List Lexeme) → IfFound (IsRead IsTerm tokens) (operand_of_kind kind tokens)
-operand_each None tokens = operand_of_kind-integer tokens
 operand_each (Some kinds.Word) tokens = then_read colref-reads tokens _ _ (λ column form. form)
-operand_each (Some kinds.Number) tokens = operand_of_kind-integer tokens
-operand_each (Some kinds.Text) tokens = then_read text-reads tokens _ _ (λ text form. form)
-operand_each (Some kinds.Sign) tokens = operand_of_kind-integer tokens
-operand_each (Some kinds.Comparison) tokens = operand_of_kind-integer tokens
+operand_each other tokens = then_read literal-reads tokens _ _ (λ literal form. form)
 
 pub operand-reads : Reads IsTerm operand_at
 unfolding operand_at
-operand-reads = record { each = λ tokens. operand_each (token_kind_at tokens) tokens }
+operand-reads = record {
+  each = λ tokens.
+      either_found (IsRead (λ tokens number. tokens ≡ Parameter number ∷ []) tokens) _ (parameter_at tokens) _ _ (parameter_each tokens)
+      (operand_each (token_kind_at tokens) tokens) (λ parameter form. form);
+}
 
 -- the further parts of a list
 more-reads : {A : Type 0} {IsPart : Rule A} {part : Reader A} → Reads IsPart part → (separator : Mark) (most : ℕ) (tokens front later : List Lexeme) (x : A)

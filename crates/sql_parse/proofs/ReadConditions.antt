@@ -37,6 +37,7 @@ null_test-reads (term.Column column) tokens operand later rest is form first =
       (operand, refl, form),
     ))
 null_test-reads (term.Literal literal) tokens operand later rest is form first = tt
+null_test-reads (term.Parameter number) tokens operand later rest is form first = tt
 
 between-reads : (negated : Bool) (of : Term) (tokens operand later rest : List Lexeme) → tokens ≡ operand ++ later → IsTerm operand of
     → later ≡ written_if negated (m.Not ∷ []) ++ mark m.Between ∷ rest → IfFound (IsRead IsPredicate tokens) (between_of negated of rest)

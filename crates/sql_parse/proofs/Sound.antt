@@ -1,5 +1,5 @@
 -- The tokens of a script can be spelled as canonical text spells them, and each part that is printed of them, too.
-use Rattle.std.proofs.Common.{◌≡◌, ◌∙◌, ℕ, ◌+◌, ◌-◌, ◌*◌, ◌<◌, ◌≤◌, ◌^◌, true, false, nat_le, List, [], ◌∷◌, fold, length, bytes_eq, decimal, slice_index, refl, sym, ap, subst, arith}
+use Rattle.std.proofs.Common.{◌≡◌, ◌∙◌, ℕ, ◌+◌, ◌-◌, ◌*◌, ◌<◌, ◌≤◌, ◌^◌, true, false, nat_le, List, [], ◌∷◌, cond, codes, fold, map, length, bytes_eq, decimal, slice_index, refl, sym, ap, subst, arith}
 use Rattle.std.specs.List.{All, AllPass, list_all}
 use Rattle.std.specs.Str.{IsUtf8, all_ascii_digits}
 use Rattle.std.specs.Char.{to_ascii_uppercase, is_ascii_digit}
@@ -23,16 +23,19 @@ use Rattle.sql_lex.specs.declared.token.TokenKind.TheVariants as kinds
 use Rattle.sql_values.specs.declared.op.Op.TheVariants as ops
 use Rattle.sql_parse.specs.declared.mark.Mark.{Mark}
 use Rattle.sql_parse.specs.declared.mark.Mark.TheVariants as m
-use Rattle.sql_parse.specs.Lexemes.{Lexeme, Word, Number, Text, Sign, Comparison, lexeme_of, lexemes, mark}
+use Rattle.sql_parse.specs.Lexemes.{Lexeme, Word, Number, Text, Sign, Comparison, Parameter, lexeme_of, lexeme, is_question_mark, numbered, lexemes, mark}
 use Rattle.sql_parse.specs.Canonical.{spelled, lexeme_kind}
+use Rattle.sql_parse.specs.Parameters.{AreNumberedFrom}
+use Rattle.sql_parse.proofs.Numbers.{numbers_in}
 
 -- the token can be spelled, and is read again from that
 abbrev pub IsSound : Lexeme → Type 0
 IsSound (Word word) = HasForm kinds.Word word × (length word ≤ max_word_bytes) × (word_value_of word ≡ word)
 IsSound (Number n) = n ≤ max_number
 IsSound (Text text) = IsUtf8 text
-IsSound (Sign bytes) = HasForm kinds.Sign bytes
+IsSound (Sign bytes) = HasForm kinds.Sign bytes × (is_question_mark (Sign bytes) ≡ false)
 IsSound (Comparison op) = Unit {0}
+IsSound (Parameter number) = Unit {0}
 
 abbrev pub EachSound : List Lexeme → Type 0
 EachSound [] = Unit {0}
@@ -97,23 +100,33 @@ between_quotes-quoted v = grind (arith, common_steps)
 quoted-text : (v : List ℕ) → text_value_of (quoted v) ≡ v
 quoted-text v = ap (halved false) (between_quotes-quoted v) ∙ halved-doubled v
 
--- what a token stands for is sound
-lexeme-sound : (kind : TokenKind) (bytes : List ℕ) → HasForm kind bytes → KeepsTokenLimit kind bytes → IsSound (lexeme_of kind bytes)
-lexeme-sound kinds.Word bytes form limit = (
+-- what a token that is no `?` stands for is sound
+lexeme-sound : (kind : TokenKind) (bytes : List ℕ) → HasForm kind bytes → KeepsTokenLimit kind bytes → is_question_mark (lexeme_of kind bytes) ≡ false
+    → IsSound (lexeme_of kind bytes)
+lexeme-sound kinds.Word bytes form limit other = (
   (upper-starts bytes form.0, upper-passes bytes form.1),
   subst (λ n. n ≤ max_word_bytes) (sym (length-map bytes to_ascii_uppercase)) limit,
   upper_twice bytes,
 )
-lexeme-sound kinds.Number bytes form limit = limit
-lexeme-sound kinds.Text bytes form limit = limit
-lexeme-sound kinds.Sign bytes form limit = form
-lexeme-sound kinds.Comparison bytes form limit = tt
+lexeme-sound kinds.Number bytes form limit other = limit
+lexeme-sound kinds.Text bytes form limit other = limit
+lexeme-sound kinds.Sign bytes form limit other = (form, other)
+lexeme-sound kinds.Comparison bytes form limit other = tt
+
+numbered-sound : (script : List ℕ) (first : ℕ) (tokens : List Token) → All (IsToken script) tokens → EachSound (numbered first (map (lexeme script) tokens))
+numbered-sound script first [] all = tt
+numbered-sound script first (token ∷ tokens) all =
+    let this = lexeme script token in
+    let later = map (lexeme script) tokens in
+    let one = All-head (IsToken script) token tokens all in
+    let others = All-tail (IsToken script) token tokens all in
+    elim (is_question_mark this) as (λ b. is_question_mark this ≡ b → EachSound (cond b (Parameter first ∷ numbered (first + 1) later) (this ∷ numbered first later))) [
+      | true ↦ λ is. (tt, numbered-sound script (first + 1) tokens others)
+      | false ↦ λ other. (lexeme-sound token.kind _ one.whole.form one.limit other, numbered-sound script first tokens others)
+    ] refl
 
 pub tokens-sound : (script : List ℕ) (tokens : List Token) → All (IsToken script) tokens → EachSound (lexemes script tokens)
-tokens-sound script [] all = tt
-tokens-sound script (token ∷ tokens) all =
-    let one = All-head (IsToken script) token tokens all in
-    (lexeme-sound token.kind _ one.whole.form one.limit, tokens-sound script tokens (All-tail (IsToken script) token tokens all))
+tokens-sound script tokens all = numbered-sound script 0 tokens all
 
 -- a sound token as it is spelled
 
@@ -121,7 +134,8 @@ pub sound-form : (token : Lexeme) → IsSound token → HasForm (lexeme_kind tok
 sound-form (Word word) sound = sound.0
 sound-form (Number n) sound = (decimal-length n sound, decimal-digits n sound)
 sound-form (Text text) sound = (text, refl)
-sound-form (Sign bytes) sound = sound
+sound-form (Sign bytes) sound = sound.0
+sound-form (Parameter number) sound = (63, refl, refl)
 sound-form (Comparison ops.Eq) sound = refl
 sound-form (Comparison ops.Ne) sound = refl
 sound-form (Comparison ops.Lt) sound = refl
@@ -135,8 +149,15 @@ sound-limit (Number n) sound = subst (λ k. k ≤ max_number) (sym (decimal-valu
 sound-limit (Text text) sound = subst IsUtf8 (sym (quoted-text text)) sound
 sound-limit (Sign bytes) sound = tt
 sound-limit (Comparison op) sound = tt
+sound-limit (Parameter number) sound = tt
 
-pub sound-again : (token : Lexeme) → IsSound token → lexeme_of (lexeme_kind token) (spelled token) ≡ token
+-- a token without its number
+abbrev pub plain : Lexeme → Lexeme
+plain (Parameter number) = Sign (codes "?")
+plain other = other
+
+pub sound-again : (token : Lexeme) → IsSound token → lexeme_of (lexeme_kind token) (spelled token) ≡ plain token
+sound-again (Parameter number) sound = refl
 sound-again (Word word) sound = ap Word sound.2
 sound-again (Number n) sound = ap Number (decimal-value n sound)
 sound-again (Text text) sound = ap Text (quoted-text text)
@@ -147,6 +168,15 @@ sound-again (Comparison ops.Lt) sound = refl
 sound-again (Comparison ops.Le) sound = refl
 sound-again (Comparison ops.Gt) sound = refl
 sound-again (Comparison ops.Ge) sound = refl
+
+-- tokens whose parameters have the numbers from the first on get these again
+pub numbered-again : (first : ℕ) (tokens : List Lexeme) → EachSound tokens → AreNumberedFrom first (numbers_in tokens) → numbered first (map plain tokens) ≡ tokens
+numbered-again first [] sound known = refl
+numbered-again first (Parameter number ∷ tokens) sound known =
+    rw known.0 (ap (λ more. Parameter first ∷ more) (numbered-again (first + 1) tokens sound.1 known.1))
+numbered-again first (Sign bytes ∷ tokens) sound known =
+    rw sound.0.1 (ap (λ more. Sign bytes ∷ more) (numbered-again first tokens sound.1 known))
+numbered-again first (other ∷ tokens) sound known = ap (λ more. other ∷ more) (numbered-again first tokens sound.1 known)
 
 -- keywords and signs are sound
 
@@ -159,11 +189,11 @@ word-sound word starts all limit upper = (
 )
 
 pub mark-sound : (keyword : Mark) → IsSound (mark keyword)
-mark-sound m.OpenParen = (40, refl, refl)
-mark-sound m.CloseParen = (41, refl, refl)
-mark-sound m.Star = (42, refl, refl)
-mark-sound m.Plus = (43, refl, refl)
-mark-sound m.Comma = (44, refl, refl)
-mark-sound m.Minus = (45, refl, refl)
-mark-sound m.Dot = (46, refl, refl)
+mark-sound m.OpenParen = ((40, refl, refl), refl)
+mark-sound m.CloseParen = ((41, refl, refl), refl)
+mark-sound m.Star = ((42, refl, refl), refl)
+mark-sound m.Plus = ((43, refl, refl), refl)
+mark-sound m.Comma = ((44, refl, refl), refl)
+mark-sound m.Minus = ((45, refl, refl), refl)
+mark-sound m.Dot = ((46, refl, refl), refl)
 mark-sound other = word-sound _ refl refl refl refl

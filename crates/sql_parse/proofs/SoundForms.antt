@@ -7,8 +7,8 @@ use Rattle.sql_parse.specs.declared.tree.Term.TheVariants as term
 use Rattle.sql_parse.specs.Limits.{nesting_limit}
 use Rattle.sql_parse.specs.Lexemes.{Lexeme, Word, mark}
 use Rattle.sql_parse.specs.Trees.{ConditionTree, Compare, Between, OneOf, IsNull, Not, And, Or, operands}
-use Rattle.sql_parse.specs.Grammar.{Rule, written_if, Separated, InParentheses, IsColumnName, IsColRef, IsInteger, IsTerm, IsPredicate, IsFactor, IsConjunction, IsDisjunction, IsGroup, IsItem, IsSelection, IsWhere, IsSelect}
-use Rattle.sql_parse.specs.Canonical.{Part, Fixed, Name, Operator, listed, in_parentheses, kept_if, column_name_parts, column_parts, integer_parts, operand_parts, is_or, is_chain, is_no_predicate, grouped_if, condition_parts, and_parts, or_parts, item_parts, selection_parts, where_parts, query_parts}
+use Rattle.sql_parse.specs.Grammar.{Rule, written_if, Separated, InParentheses, IsColumnName, IsColRef, IsInteger, IsLiteral, IsTerm, IsPredicate, IsFactor, IsConjunction, IsDisjunction, IsGroup, IsItem, IsSelection, IsWhere, IsSelect}
+use Rattle.sql_parse.specs.Canonical.{Part, Fixed, Name, Operator, listed, in_parentheses, kept_if, column_name_parts, column_parts, integer_parts, value_parts, operand_parts, is_or, is_chain, is_no_predicate, grouped_if, condition_parts, and_parts, or_parts, item_parts, selection_parts, where_parts, query_parts}
 use Rattle.sql_parse.proofs.Sound.{IsSound, EachSound, mark-sound}
 use Rattle.sql_parse.proofs.WrittenParts.{Writable, writable-append}
 
@@ -64,11 +64,15 @@ integer-writable tokens n sound form = elim form.1 [
   | inr (inr minus) ↦ let all = subst EachSound minus.0 sound in subst (λ k. Writable (integer_parts k)) (sym minus.1) (negated-number form.0 all.1.0)
 ]
 
+pub literal-writable : IsWritable IsLiteral value_parts
+literal-writable tokens (value.Int n) sound form = integer-writable tokens n sound form
+literal-writable tokens (value.Text text) sound form = let all = subst EachSound form sound in (all.0, tt, tt)
+literal-writable tokens value.Null sound form = absurd form
+
 operand-writable : IsWritable IsTerm operand_parts
 operand-writable tokens (term.Column column) sound form = colref-writable tokens column sound form
-operand-writable tokens (term.Literal (value.Int n)) sound form = integer-writable tokens n sound form
-operand-writable tokens (term.Literal (value.Text text)) sound form = let all = subst EachSound form sound in (all.0, tt, tt)
-operand-writable tokens (term.Literal value.Null) sound form = absurd form
+operand-writable tokens (term.Literal literal) sound form = literal-writable tokens literal sound form
+operand-writable tokens (term.Parameter number) sound form = (tt, tt, tt)
 
 negated-writable : (negated : Bool) (parts : List Part) → Writable parts → Writable (kept_if negated (m.Not ∷ []) ++ parts)
 negated-writable false parts writable = writable

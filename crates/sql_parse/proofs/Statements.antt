@@ -4,11 +4,13 @@ pub mod Audit
 pub mod Compile
 pub mod CreateIndex
 pub mod CreateTable
+pub mod Explain
 pub mod Load
-pub mod Named
 pub mod OpenFile
+pub mod Run
 pub mod SaveFile
-use Rattle.std.proofs.Common.{ℕ, codes, ◌≡◌, ◌≤◌, cond, eqb, List, [], ◌∷◌, ◌++◌, length, Option, Some, None, refl, sym, ap, subst, ◌∙◌, arith}
+pub mod Using
+use Rattle.std.proofs.Common.{ℕ, codes, ◌≡◌, cond, eqb, List, [], ◌∷◌, ◌++◌, length, Option, Some, None, refl, sym, ap, subst, ◌∙◌}
 use Rattle.std.proofs.Math.Dec.{eqb-suc-zero}
 use Rattle.std.proofs.lemmas.List.{append-nil}
 use Rattle.sql_parse.specs.declared.mark.Mark.{Mark}
@@ -16,30 +18,31 @@ use Rattle.sql_parse.specs.declared.mark.Mark.TheVariants as m
 use Rattle.sql_parse.specs.Lexemes.{Word, Lexeme, mark}
 use Rattle.sql_parse.specs.Trees as tree
 use Rattle.sql_parse.specs.Trees.{QueryTree, StatementTree}
-use Rattle.sql_parse.specs.Counts.{operands_of, IsWithinTokens}
+use Rattle.sql_parse.specs.declared.tree.Term.{Term}
+use Rattle.sql_parse.specs.Counts.{condition_of}
 use Rattle.sql_parse.specs.WellFormed.{IsWellFormed}
-use Rattle.sql_parse.specs.Reading.{after_word, Reader, ◌>>=◌, after_mark, name_at, select_at}
+use Rattle.sql_parse.specs.Reading.{after_word, Reader, ◌>>=◌, after_mark, select_at}
 use Rattle.sql_parse.specs.Statements.{IsStatement, create_at, productions, among, statement_at, statement_of, statement_parts}
 use Rattle.sql_parse.specs.Statements.CreateTable.{create_table_at}
 use Rattle.sql_parse.specs.Statements.CreateIndex.{create_index_at}
-use Rattle.sql_parse.specs.Statements.Named.{named_at}
 use Rattle.sql_parse.proofs.Read.{either_word, then_word, IfFound, found_weaker, IsRead, IsAfter, Reads, then_read, then_after, either_after}
 use Rattle.sql_parse.proofs.ReadQueries.{select-reads}
 use Rattle.sql_parse.proofs.AgainQueries.{select-again}
 use Rattle.sql_parse.proofs.PrintedForms.{IsPrintedBy}
 use Rattle.sql_parse.proofs.PrintedQueries.{select-printed}
-use Rattle.sql_parse.proofs.Sound.{word-sound, EachSound}
+use Rattle.sql_parse.proofs.Sound.{EachSound}
 use Rattle.sql_parse.proofs.SoundForms.{IsWritable, select-writable}
-use Rattle.sql_parse.proofs.CountedQueries.{select-counted}
-use Rattle.sql_parse.proofs.WellFormedQueries.{query-well_formed}
-use Rattle.sql_parse.proofs.Statements.Audit.{audit-reads, audit-again, audit-printed, audit-writable}
-use Rattle.sql_parse.proofs.Statements.Compile.{compile-reads, compile-again, compile-printed, compile-writable, compile-counted, compile-well_formed}
-use Rattle.sql_parse.proofs.Statements.CreateIndex.{create_index-reads, create_index-again, create_index-printed, create_index-writable}
-use Rattle.sql_parse.proofs.Statements.CreateTable.{create_table-reads, create_table-again, create_table-printed, create_table-writable, create_table-some}
-use Rattle.sql_parse.proofs.Statements.Load.{load-reads, load-again, load-printed, load-writable, load-utf8}
-use Rattle.sql_parse.proofs.Statements.Named.{named-reads, named-printed, named-writable}
-use Rattle.sql_parse.proofs.Statements.OpenFile.{open_file-reads, open_file-again, open_file-printed, open_file-writable, open_file-counted, open_file-well_formed}
-use Rattle.sql_parse.proofs.Statements.SaveFile.{save_file-reads, save_file-again, save_file-printed, save_file-writable, save_file-utf8}
+use Rattle.sql_parse.proofs.Operands.{Holds, terms_of_condition, select-held}
+use Rattle.sql_parse.proofs.WellFormedQueries.{AreNumbered, query-well_formed}
+use Rattle.sql_parse.proofs.Statements.Audit.{audit-reads, audit-again, audit-printed, audit-writable, audit-held}
+use Rattle.sql_parse.proofs.Statements.Compile.{compile-reads, compile-again, compile-printed, compile-writable, compile-held, compile-well_formed}
+use Rattle.sql_parse.proofs.Statements.CreateIndex.{create_index-reads, create_index-again, create_index-printed, create_index-writable, create_index-held}
+use Rattle.sql_parse.proofs.Statements.CreateTable.{create_table-reads, create_table-again, create_table-printed, create_table-writable, create_table-held, create_table-some}
+use Rattle.sql_parse.proofs.Statements.Explain.{explain-reads, explain-again, explain-printed, explain-writable, explain-held}
+use Rattle.sql_parse.proofs.Statements.Load.{load-reads, load-again, load-printed, load-writable, load-held, load-utf8}
+use Rattle.sql_parse.proofs.Statements.OpenFile.{open_file-reads, open_file-again, open_file-printed, open_file-writable, open_file-held, open_file-well_formed}
+use Rattle.sql_parse.proofs.Statements.Run.{run-reads, run-again, run-printed, run-writable, run-held}
+use Rattle.sql_parse.proofs.Statements.SaveFile.{save_file-reads, save_file-again, save_file-printed, save_file-writable, save_file-held, save_file-utf8}
 
 -- what is read is written by the grammar
 
@@ -69,8 +72,8 @@ each-read =
     create-reads
     & load-reads
     & compile-reads
-    & named-reads (codes "RUN") tree.Run (λ tokens name form. form)
-    & named-reads (codes "EXPLAIN") tree.Explain (λ tokens name form. form)
+    & run-reads
+    & explain-reads
     & save_file-reads
     & open_file-reads
     & audit-reads
@@ -114,14 +117,13 @@ unfolding statement_at after_mark after_word
 select-first tokens query found rest first = rw first (ap (λ read. read >>= λ query. Some (tree.Select query.0, query.1)) (ap select_at (sym first) ∙ found))
 
 statement-again : (tokens : List Lexeme) (statement : StatementTree) → IsStatement tokens statement → statement_at tokens ≡ Some (statement, [])
-unfolding statement_at named_at name_at after_mark after_word
 statement-again tokens (tree.CreateTable table) form = create_table-again tokens table form
 statement-again tokens (tree.CreateIndex index) form = create_index-again tokens index form
 statement-again tokens (tree.Load load) form = load-again tokens load form
 statement-again tokens (tree.Select query) form = select-first tokens query (select-again tokens query form) _ form.3
 statement-again tokens (tree.Compile name levels threshold query) form = compile-again name levels threshold query tokens form
-statement-again tokens (tree.Run name) form = rw (form.0, form.1) refl
-statement-again tokens (tree.Explain name) form = rw (form.0, form.1) refl
+statement-again tokens (tree.Run run) form = run-again tokens run form
+statement-again tokens (tree.Explain name) form = explain-again tokens name form
 statement-again tokens (tree.SaveFile save) form = save_file-again tokens save form
 statement-again tokens (tree.OpenFile name file query) form = open_file-again name file query tokens form
 statement-again tokens (tree.Audit audit) form = audit-again tokens audit form
@@ -142,8 +144,8 @@ statement-printed tokens (tree.CreateIndex index) form = create_index-printed to
 statement-printed tokens (tree.Load load) form = load-printed tokens load form
 statement-printed tokens (tree.Select query) form = select-printed tokens query form
 statement-printed tokens (tree.Compile name levels threshold query) form = compile-printed name levels threshold tokens query form
-statement-printed tokens (tree.Run name) form = named-printed (codes "RUN") tokens name form
-statement-printed tokens (tree.Explain name) form = named-printed (codes "EXPLAIN") tokens name form
+statement-printed tokens (tree.Run run) form = run-printed tokens run form
+statement-printed tokens (tree.Explain name) form = explain-printed tokens name form
 statement-printed tokens (tree.SaveFile save) form = save_file-printed tokens save form
 statement-printed tokens (tree.OpenFile name file query) form = open_file-printed name file tokens query form
 statement-printed tokens (tree.Audit audit) form = audit-printed tokens audit form
@@ -154,25 +156,35 @@ statement-writable tokens (tree.CreateIndex index) sound form = create_index-wri
 statement-writable tokens (tree.Load load) sound form = load-writable tokens load sound form
 statement-writable tokens (tree.Select query) sound form = select-writable tokens query sound form
 statement-writable tokens (tree.Compile name levels threshold query) sound form = compile-writable name levels threshold tokens query sound form
-statement-writable tokens (tree.Run name) sound form = named-writable (codes "RUN") (word-sound (codes "RUN") refl refl refl refl) tokens name sound form
-statement-writable tokens (tree.Explain name) sound form = named-writable (codes "EXPLAIN") (word-sound (codes "EXPLAIN") refl refl refl refl) tokens name sound form
+statement-writable tokens (tree.Run run) sound form = run-writable tokens run sound form
+statement-writable tokens (tree.Explain name) sound form = explain-writable tokens name sound form
 statement-writable tokens (tree.SaveFile save) sound form = save_file-writable tokens save sound form
 statement-writable tokens (tree.OpenFile name file query) sound form = open_file-writable name file tokens query sound form
 statement-writable tokens (tree.Audit audit) sound form = audit-writable tokens audit sound form
 
--- a statement has at most as many operands, and at most as many predicates, as it has tokens
-pub statement-counted : IsWithinTokens operands_of IsStatement
-statement-counted tokens (tree.Select query) form = select-counted tokens query form
-statement-counted tokens (tree.Compile name levels threshold query) form = compile-counted name levels threshold tokens query form
-statement-counted tokens (tree.OpenFile name file query) form = open_file-counted name file tokens query form
-statement-counted tokens other form = omega arith
+-- the operands of a statement
+abbrev pub terms_of : StatementTree → List Term
+terms_of statement = terms_of_condition (condition_of statement)
+
+pub statement-held : Holds IsStatement terms_of
+statement-held tokens (tree.CreateTable table) form = create_table-held tokens table form
+statement-held tokens (tree.CreateIndex index) form = create_index-held tokens index form
+statement-held tokens (tree.Load load) form = load-held tokens load form
+statement-held tokens (tree.Select query) form = select-held tokens query form
+statement-held tokens (tree.Compile name levels threshold query) form = compile-held name levels threshold tokens query form
+statement-held tokens (tree.Run run) form = run-held tokens run form
+statement-held tokens (tree.Explain name) form = explain-held tokens name form
+statement-held tokens (tree.SaveFile save) form = save_file-held tokens save form
+statement-held tokens (tree.OpenFile name file query) form = open_file-held name file tokens query form
+statement-held tokens (tree.Audit audit) form = audit-held tokens audit form
 
 -- a statement has the parts that the layers above rely on
-pub statement-well_formed : (tokens : List Lexeme) (statement : StatementTree) → EachSound tokens → IsStatement tokens statement → IsWellFormed statement
-statement-well_formed tokens (tree.CreateTable table) sound form = create_table-some tokens table form
-statement-well_formed tokens (tree.Load load) sound form = load-utf8 tokens load sound form
-statement-well_formed tokens (tree.Select query) sound form = query-well_formed tokens query form
-statement-well_formed tokens (tree.Compile name levels threshold query) sound form = compile-well_formed name levels threshold tokens query sound form
-statement-well_formed tokens (tree.SaveFile save) sound form = save_file-utf8 tokens save sound form
-statement-well_formed tokens (tree.OpenFile name file query) sound form = open_file-well_formed name file tokens query sound form
-statement-well_formed tokens other sound form = tt
+pub statement-well_formed : (tokens : List Lexeme) (statement : StatementTree) → EachSound tokens → AreNumbered (condition_of statement) → IsStatement tokens statement
+    → IsWellFormed statement
+statement-well_formed tokens (tree.CreateTable table) sound numbered form = create_table-some tokens table form
+statement-well_formed tokens (tree.Load load) sound numbered form = load-utf8 tokens load sound form
+statement-well_formed tokens (tree.Select query) sound numbered form = query-well_formed tokens query numbered form
+statement-well_formed tokens (tree.Compile name levels threshold query) sound numbered form = compile-well_formed name levels threshold tokens query sound numbered form
+statement-well_formed tokens (tree.SaveFile save) sound numbered form = save_file-utf8 tokens save sound form
+statement-well_formed tokens (tree.OpenFile name file query) sound numbered form = open_file-well_formed name file tokens query sound numbered form
+statement-well_formed tokens other sound numbered form = tt

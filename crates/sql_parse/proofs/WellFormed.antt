@@ -1,48 +1,42 @@
--- Each statement that is read has the parts that the layers above rely on.
-use Rattle.std.proofs.Common.{ℕ, true, false, cond, List, [], ◌∷◌, map}
-use Rattle.std.specs.List.{All, AllByRecursion}
-use Rattle.std.proofs.lemmas.List.Elements.{All-from_recursion}
+-- What the layers above rely on in the statements of a script.
+use Rattle.std.proofs.Common.{ℕ, ◌<◌, ◌^◌, List, length, map, subst, arith}
+use Rattle.std.specs.List.{All}
 use Rattle.sql_lex.specs.Tokens.{IsToken}
 use Rattle.sql_lex.specs.declared.token.Token.{Token}
 use Rattle.sql_parse.specs.declared.statement.Statement.{Statement}
-use Rattle.sql_parse.specs.Lexemes.{lexeme, lexemes}
-use Rattle.sql_parse.specs.Trees.{statement_tree}
-use Rattle.sql_parse.specs.Script.{is_semicolon, in_front, split, not_empty, pieces, AreStatementsOf, AreStatements}
-use Rattle.sql_parse.specs.WellFormed.{IsWellFormed}
-use Rattle.sql_parse.proofs.Sound.{EachSound, tokens-sound}
+use Rattle.sql_parse.specs.Lexemes.{lexemes}
+use Rattle.sql_parse.specs.Trees.{StatementTree, statement_tree}
+use Rattle.sql_parse.specs.Script.{AreStatements}
+use Rattle.sql_parse.specs.Parameters.{AreNumberedFrom}
+use Rattle.sql_parse.specs.Counts.{HasUpTo, HaveUpTo}
+use Rattle.sql_parse.specs.WellFormed.{IsWellFormed, AreWellFormed}
+use Rattle.sql_parse.specs.Statements.{IsStatement}
+use Rattle.sql_parse.proofs.Numbers.{numbered_length, lexemes-numbered}
+use Rattle.sql_parse.proofs.Pieces.{IsPieceOf, each-statement}
+use Rattle.sql_parse.proofs.Sound.{tokens-sound}
+use Rattle.sql_parse.proofs.Counted.{statement-few, statement-parameters}
 use Rattle.sql_parse.proofs.Statements.{statement-well_formed}
 
--- the tokens of each piece are sound
-abbrev AreSound : List ℕ → List (List Token) → Type 0
-AreSound script all = AllByRecursion (λ piece. EachSound (lexemes script piece)) all
+piece-counted : (script : List ℕ) (most : ℕ) (piece : List Token) (statement : StatementTree) → IsPieceOf script most piece → IsStatement (lexemes script piece) statement
+    → HasUpTo most statement
+piece-counted script most piece statement of form =
+    let few = statement-few (lexemes script piece) statement form in
+    let same = numbered_length script 0 piece in
+    record { predicates = omega (arith, few.predicates, same, of.0); parameters = omega (arith, few.parameters, same, of.0) }
 
-in_front-sound : (script : List ℕ) (token : Token) (all : List (List Token)) → EachSound (lexemes script (token ∷ [])) → AreSound script all → AreSound script (in_front token all)
-in_front-sound script token [] one sound = (one, tt)
-in_front-sound script token (piece ∷ all) one sound = ((one.0, sound.0), sound.1)
+pub each-counted : (script : List ℕ) (tokens : List Token) (statements : List Statement) → All (IsToken script) tokens
+    → AreStatements script tokens (map statement_tree statements) → HaveUpTo (length tokens) statements
+each-counted script tokens statements each form =
+    each-statement (HasUpTo (length tokens)) script tokens statements (piece-counted script (length tokens)) each form
 
-split-sound : (script : List ℕ) (tokens : List Token) → EachSound (lexemes script tokens) → AreSound script (split script tokens)
-split-sound script [] sound = (tt, tt)
-split-sound script (token ∷ tokens) sound =
-    let rest = split-sound script tokens sound.1 in
-    elim (is_semicolon (lexeme script token)) as (λ b. AreSound script (cond b ([] ∷ split script tokens) (in_front token (split script tokens)))) [
-      | true ↦ (tt, rest)
-      | false ↦ in_front-sound script token (split script tokens) (sound.0, tt) rest
-    ]
+piece-well_formed : (script : List ℕ) (most : ℕ) → most < 2 ^ 32 → (piece : List Token) (statement : StatementTree) → IsPieceOf script most piece
+    → IsStatement (lexemes script piece) statement → IsWellFormed statement
+piece-well_formed script most few piece statement of form =
+    let numbered = subst (AreNumberedFrom 0) (statement-parameters (lexemes script piece) statement form) (lexemes-numbered script piece) in
+    let counted = piece-counted script most piece statement of form in
+    statement-well_formed (lexemes script piece) statement (tokens-sound script piece of.1) (numbered, omega (arith, few, counted.parameters)) form
 
-not_empty-sound : (script : List ℕ) (all : List (List Token)) → AreSound script all → AreSound script (not_empty all)
-not_empty-sound script [] sound = tt
-not_empty-sound script ([] ∷ all) sound = not_empty-sound script all sound.1
-not_empty-sound script ((token ∷ piece) ∷ all) sound = (sound.0, not_empty-sound script all sound.1)
-
-statements-well_formed : (script : List ℕ) (all : List (List Token)) (statements : List Statement) → AreSound script all → AreStatementsOf script all (map statement_tree statements)
-    → AllByRecursion (λ statement. IsWellFormed (statement_tree statement)) statements
-statements-well_formed script all [] sound form = tt
-statements-well_formed script [] (statement ∷ statements) sound form = absurd form
-statements-well_formed script (piece ∷ all) (statement ∷ statements) sound form =
-    (statement-well_formed (lexemes script piece) (statement_tree statement) sound.0 form.0, statements-well_formed script all statements sound.1 form.1)
-
-pub each-well_formed : (script : List ℕ) (tokens : List Token) (statements : List Statement) → All (IsToken script) tokens
-    → AreStatements script tokens (map statement_tree statements) → All (λ statement. IsWellFormed (statement_tree statement)) statements
-each-well_formed script tokens statements each form =
-    let sound = not_empty-sound script (split script tokens) (split-sound script tokens (tokens-sound script tokens each)) in
-    All-from_recursion _ statements (statements-well_formed script (pieces script tokens) statements sound form)
+pub each-well_formed : (script : List ℕ) (tokens : List Token) (statements : List Statement) → length tokens < 2 ^ 32 → All (IsToken script) tokens
+    → AreStatements script tokens (map statement_tree statements) → AreWellFormed statements
+each-well_formed script tokens statements few each form =
+    each-statement IsWellFormed script tokens statements (piece-well_formed script (length tokens) few) each form

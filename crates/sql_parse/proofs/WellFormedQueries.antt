@@ -1,11 +1,12 @@
 -- Each query that is read has the parts that the layers above rely on.
-use Rattle.std.proofs.Common.{◌<◌, List, [], ◌∷◌, length, Option, Some, None, IfSome, arith}
+use Rattle.std.proofs.Common.{◌<◌, ◌^◌, List, [], ◌∷◌, length, Option, Some, None, IfSome, arith}
 use Rattle.sql_parse.specs.declared.mark.Mark.{Mark}
 use Rattle.sql_parse.specs.declared.mark.Mark.TheVariants as m
 use Rattle.sql_parse.specs.declared.tree.ColRef.{ColRef}
 use Rattle.sql_parse.specs.Lexemes.{Lexeme}
-use Rattle.sql_parse.specs.Trees.{QueryTree}
+use Rattle.sql_parse.specs.Trees.{ConditionTree, QueryTree}
 use Rattle.sql_parse.specs.Grammar.{Rule, Separated, IsSelection, IsSelect}
+use Rattle.sql_parse.specs.Parameters.{parameters_of_condition, AreNumberedFrom}
 use Rattle.sql_parse.specs.WellFormed.{IsWellFormedQuery}
 use Rattle.sql_parse.proofs.Literals.{where-free}
 
@@ -17,6 +18,15 @@ selection-some : (tokens : List Lexeme) (columns : Option (List ColRef)) → IsS
 selection-some tokens None form = tt
 selection-some tokens (Some columns) form = separated-some m.Comma _ tokens columns form
 
-pub query-well_formed : (tokens : List Lexeme) (query : QueryTree) → IsSelect tokens query → IsWellFormedQuery query
-query-well_formed tokens query form =
-    (separated-some m.Comma _ form.1 query.from form.5, selection-some form.0 query.columns form.4, where-free form.2 query.condition form.6)
+-- the parameters are numbered from 0, in 32 bits
+abbrev pub AreNumbered : Option ConditionTree → Type 0
+AreNumbered condition = AreNumberedFrom 0 (parameters_of_condition condition) × (length (parameters_of_condition condition) < 2 ^ 32)
+
+pub query-well_formed : (tokens : List Lexeme) (query : QueryTree) → AreNumbered query.condition → IsSelect tokens query → IsWellFormedQuery query
+query-well_formed tokens query numbered form = record {
+  tables = separated-some m.Comma _ form.1 query.from form.5;
+  columns = selection-some form.0 query.columns form.4;
+  condition = where-free form.2 query.condition form.6;
+  numbered = numbered.0;
+  few_parameters = numbered.1;
+}

@@ -17,10 +17,12 @@ use Rattle.sql_lex.specs.declared.token.TokenKind.{TokenKind}
 use Rattle.sql_values.specs.declared.op.Op.{Op}
 use Rattle.sql_values.specs.declared.op.Op.TheVariants as ops
 use Rattle.sql_parse.specs.declared.mark.Mark.TheVariants as m
-use Rattle.sql_parse.specs.Lexemes.{lexeme_of, lexemes}
-use Rattle.sql_parse.specs.Canonical.{Part, Fixed, Keyword, Name, Number, Text, Operator, part_lexeme, spelled, lexeme_kind, joins_next, with_spaces, parts_text}
+use Rattle.sql_parse.specs.Lexemes.{lexeme_of, lexeme, numbered, lexemes}
+use Rattle.sql_parse.specs.Parameters.{AreNumberedFrom}
+use Rattle.sql_parse.specs.Canonical.{Part, Fixed, Keyword, Name, Number, Text, Operator, Parameter, part_lexeme, spelled, lexeme_kind, joins_next, with_spaces, parts_text}
 use Rattle.sql_parse.proofs.PrintedForms.{tokens_of}
-use Rattle.sql_parse.proofs.Sound.{IsSound, sound-form, sound-limit, sound-again, decimal-digits, decimal-length}
+use Rattle.sql_parse.proofs.Sound.{IsSound, EachSound, sound-form, sound-limit, plain, sound-again, numbered-again, decimal-digits, decimal-length}
+use Rattle.sql_parse.proofs.Numbers.{numbers_in}
 
 abbrev BeginsNumber : List Part → Type 0
 BeginsNumber (Number n ∷ parts) = Unit {0}
@@ -130,6 +132,7 @@ stops (Name upper) parts follows sound = word-stops parts
 stops (Number n) parts follows sound = quiet-stops is_ascii_digit refl refl refl refl refl _ (next-quiet parts)
 stops (Text text) parts follows sound = quiet-stops (λ b. nat_eq b 39) refl refl refl refl refl _ (next-quiet parts)
 stops (Operator op) parts follows sound = comparison-stops op parts
+stops (Parameter number) parts follows sound = refl
 
 space-white : (joined : Bool) → AllPass is_white (cond joined [] (codes " "))
 space-white true = All-nil (λ b. is_white b ≡ true)
@@ -151,7 +154,7 @@ form_length kind (b ∷ bs) form = omega arith
 
 -- what written tokens stand for
 lexemes-written : (s : List ℕ) (from : ℕ) (tokens : List Written) → from ≤ length s → drop from s ≡ written_text tokens → MayBeWritten tokens
-    → lexemes s (written_tokens from tokens) ≡ map (λ token. lexeme_of token.kind token.bytes) tokens
+    → map (lexeme s) (written_tokens from tokens) ≡ map (λ token. lexeme_of token.kind token.bytes) tokens
 lexemes-written s from [] in_script same may = refl
 lexemes-written s from (this ∷ tokens) in_script same (space, form, keeps, stops, others) =
     let rest = written_text tokens in
@@ -167,14 +170,20 @@ lexemes-written s from (this ∷ tokens) in_script same (space, form, keeps, sto
     let here : drop start s ≡ this.bytes ++ drop end s = at_start ∙ ap (λ l. this.bytes ++ l) (sym at_end) in
     rw (between_is_front s this.bytes start end in_order inside here) (ap (λ more. lexeme_of this.kind this.bytes ∷ more) (lexemes-written s end tokens inside at_end others))
 
-spaced-lexemes : (joined : Bool) (parts : List Part) → Writable parts → map (λ token. lexeme_of token.kind token.bytes) (with_spaces joined parts) ≡ tokens_of parts
+spaced-lexemes : (joined : Bool) (parts : List Part) → Writable parts → map (λ token. lexeme_of token.kind token.bytes) (with_spaces joined parts) ≡ map plain (tokens_of parts)
 spaced-lexemes joined [] sound = refl
 spaced-lexemes joined (part ∷ parts) sound =
-    rw (sound-again (part_lexeme part) sound.0) (ap (λ more. part_lexeme part ∷ more) (spaced-lexemes (joins_next part) parts sound.2))
+    rw (sound-again (part_lexeme part) sound.0) (ap (λ more. plain (part_lexeme part) ∷ more) (spaced-lexemes (joins_next part) parts sound.2))
 
 pub text-tokens : (parts : List Part) → Writable parts → Tokens (parts_text parts) (written_tokens 0 (with_spaces true parts))
 text-tokens parts sound = written_once (with_spaces true parts) (may_be_written true parts sound)
 
-pub text-lexemes : (parts : List Part) → Writable parts → lexemes (parts_text parts) (written_tokens 0 (with_spaces true parts)) ≡ tokens_of parts
-text-lexemes parts sound =
-    lexemes-written (parts_text parts) 0 (with_spaces true parts) (omega arith) refl (may_be_written true parts sound) ∙ spaced-lexemes true parts sound
+parts-sound : (parts : List Part) → Writable parts → EachSound (tokens_of parts)
+parts-sound [] sound = tt
+parts-sound (part ∷ parts) sound = (sound.0, parts-sound parts sound.2)
+
+pub text-lexemes : (parts : List Part) → Writable parts → AreNumberedFrom 0 (numbers_in (tokens_of parts))
+    → lexemes (parts_text parts) (written_tokens 0 (with_spaces true parts)) ≡ tokens_of parts
+text-lexemes parts sound known =
+    ap (numbered 0) (lexemes-written (parts_text parts) 0 (with_spaces true parts) (omega arith) refl (may_be_written true parts sound) ∙ spaced-lexemes true parts sound)
+    ∙ numbered-again 0 (tokens_of parts) (parts-sound parts sound) known

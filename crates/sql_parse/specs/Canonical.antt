@@ -27,6 +27,7 @@ pub data Part : Type 0 where
   Number : (value : ℕ) → Part
   Text : (value : List ℕ) → Part
   Operator : Op → Part
+  Parameter : (number : ℕ) → Part
 
 -- the token that a part is
 abbrev pub part_lexeme : Part → Lexeme
@@ -36,14 +37,16 @@ part_lexeme (Name upper) = lexeme.Word upper
 part_lexeme (Number n) = lexeme.Number n
 part_lexeme (Text text) = lexeme.Text text
 part_lexeme (Operator op) = lexeme.Comparison op
+part_lexeme (Parameter number) = lexeme.Parameter number
 
--- how a token is spelled: in upper case, with no leading zero, and with quotes doubled
+-- how a token is spelled: in upper case, with no leading zero, and with quotes doubled; each parameter is `?`
 abbrev pub spelled : Lexeme → List ℕ
 spelled (lexeme.Word upper) = upper
 spelled (lexeme.Number n) = decimal n
 spelled (lexeme.Text text) = quoted text
 spelled (lexeme.Sign bytes) = bytes
 spelled (lexeme.Comparison op) = comparison_text op
+spelled (lexeme.Parameter number) = codes "?"
 
 abbrev pub lexeme_kind : Lexeme → TokenKind
 lexeme_kind (lexeme.Word upper) = kinds.Word
@@ -51,6 +54,7 @@ lexeme_kind (lexeme.Number n) = kinds.Number
 lexeme_kind (lexeme.Text text) = kinds.Text
 lexeme_kind (lexeme.Sign bytes) = kinds.Sign
 lexeme_kind (lexeme.Comparison op) = kinds.Comparison
+lexeme_kind (lexeme.Parameter number) = kinds.Sign
 
 -- no space stands before a closing parenthesis, a comma and a point
 abbrev pub joins_previous : Part → Bool
@@ -110,6 +114,7 @@ value_parts value.Null = Fixed m.Null ∷ []
 abbrev pub operand_parts : Term → List Part
 operand_parts (term.Column column) = column_parts column
 operand_parts (term.Literal literal) = value_parts literal
+operand_parts (term.Parameter number) = Parameter number ∷ []
 
 -- whether a condition is put in parentheses as an operand of AND, of OR, and of NOT
 abbrev pub is_or : ConditionTree → Bool

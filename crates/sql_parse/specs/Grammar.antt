@@ -1,6 +1,7 @@
 -- The grammar: which tokens are written for which statement, production by production.
 use Rattle.std.specs.Prelude.{ℕ, zero, suc, ◌≡◌, ◌⊎◌, Bool, true, false, List, [], ◌∷◌, ◌++◌, map, Option, Some, None, ℤ, pos, neg_ℤ}
 use Rattle.std.specs.Bool.{IsFalse}
+use Rattle.sql_values.specs.declared.value.Value.{Value}
 use Rattle.sql_values.specs.declared.value.Value.TheVariants as value
 use Rattle.sql_parse.specs.declared.mark.Mark.{Mark}
 use Rattle.sql_parse.specs.declared.mark.Mark.TheVariants as m
@@ -9,7 +10,7 @@ use Rattle.sql_parse.specs.declared.tree.Term.TheVariants as term
 use Rattle.sql_parse.specs.declared.tree.ColRef.{ColRef}
 use Rattle.sql_parse.specs.declared.tree.Item.{Item}
 use Rattle.sql_parse.specs.Limits.{nesting_limit}
-use Rattle.sql_parse.specs.Lexemes.{Lexeme, Word, Number, Text, Comparison, mark, is_reserved}
+use Rattle.sql_parse.specs.Lexemes.{Lexeme, Word, Number, Text, Comparison, Parameter, mark, is_reserved}
 use Rattle.sql_parse.specs.Trees.{ConditionTree, Compare, Between, OneOf, IsNull, Not, And, Or, operands, QueryTree}
 
 -- a rule: whether these tokens are written for this value
@@ -57,12 +58,17 @@ IsInteger tokens value =
     ⊎ ((tokens ≡ mark m.Minus ∷ Number n ∷ []) × (value ≡ neg_ℤ (pos n)))
     )
 
--- operand = colref | [ "+" | "-" ] number | text
+-- literal = [ "+" | "-" ] number | text
+abbrev pub IsLiteral : Rule Value
+IsLiteral tokens (value.Int n) = IsInteger tokens n
+IsLiteral tokens (value.Text text) = tokens ≡ Text text ∷ []
+IsLiteral tokens value.Null = ⊥
+
+-- operand = colref | literal | "?"
 abbrev pub IsTerm : Rule Term
 IsTerm tokens (term.Column column) = IsColRef tokens column
-IsTerm tokens (term.Literal (value.Int n)) = IsInteger tokens n
-IsTerm tokens (term.Literal (value.Text text)) = tokens ≡ Text text ∷ []
-IsTerm tokens (term.Literal value.Null) = ⊥
+IsTerm tokens (term.Literal literal) = IsLiteral tokens literal
+IsTerm tokens (term.Parameter number) = tokens ≡ Parameter number ∷ []
 
 -- operand comparison operand, operand [ NOT ] BETWEEN operand AND operand,
 -- operand [ NOT ] IN "(" operand { "," operand } ")", colref IS [ NOT ] NULL

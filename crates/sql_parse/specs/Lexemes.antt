@@ -1,5 +1,5 @@
 -- Tokens with their values, as the grammar sees them.
-use Rattle.std.specs.Prelude.{ℕ, Bool, List, [], ◌∷◌, map, codes, slice_range, bytes_eq, if◌then◌else◌}
+use Rattle.std.specs.Prelude.{ℕ, ◌+◌, Bool, false, List, [], ◌∷◌, map, codes, slice_range, bytes_eq, if◌then◌else◌}
 use Rattle.std.specs.List.{list_any}
 use Rattle.sql_lex.specs.Values.{word_value_of, number_value_of, text_value_of}
 use Rattle.sql_lex.specs.declared.token.Token.{Token}
@@ -17,6 +17,8 @@ pub data Lexeme : Type 0 where
   Text : (value : List ℕ) → Lexeme
   Sign : (bytes : List ℕ) → Lexeme
   Comparison : (op : Op) → Lexeme
+  -- a `?`, by its number among those of the statement, from 0
+  Parameter : (number : ℕ) → Lexeme
 
 -- the operator that is spelled so
 abbrev pub comparison_of : List ℕ → Op
@@ -35,12 +37,24 @@ lexeme_of kinds.Text bytes = Text (text_value_of bytes)
 lexeme_of kinds.Sign bytes = Sign bytes
 lexeme_of kinds.Comparison bytes = Comparison (comparison_of bytes)
 
--- what a token of the script stands for
+-- what a token of the script stands for by itself; a `?` is a sign like others
 abbrev pub lexeme : List ℕ → Token → Lexeme
 lexeme script token = lexeme_of token.kind (slice_range script token.start token.end)
 
+-- whether it is the sign `?`
+abbrev pub is_question_mark : Lexeme → Bool
+is_question_mark (Sign bytes) = bytes_eq bytes (codes "?")
+is_question_mark other = false
+
+-- the signs `?` as parameters, with numbers from the first on
+abbrev pub numbered : (first : ℕ) → List Lexeme → List Lexeme
+numbered first [] = []
+numbered first (token ∷ tokens) =
+    if is_question_mark token then Parameter first ∷ numbered (first + 1) tokens else token ∷ numbered first tokens
+
+-- what the tokens of a statement stand for
 abbrev pub lexemes : List ℕ → List Token → List Lexeme
-lexemes script tokens = map (lexeme script) tokens
+lexemes script tokens = numbered 0 (map (lexeme script) tokens)
 
 -- the signs of the grammar, and the reserved words that stand within a statement
 abbrev pub mark : Mark → Lexeme
@@ -60,6 +74,7 @@ mark marks.Or = Word (codes "OR")
 mark marks.Select = Word (codes "SELECT")
 mark marks.Table = Word (codes "TABLE")
 mark marks.To = Word (codes "TO")
+mark marks.Using = Word (codes "USING")
 mark marks.Varchar = Word (codes "VARCHAR")
 mark marks.Where = Word (codes "WHERE")
 mark marks.OpenParen = Sign (codes "(")

@@ -2,6 +2,7 @@ pub mod Limits
 pub mod Lexemes
 pub mod Trees
 pub mod Grammar
+pub mod Parameters
 pub mod Script
 pub mod Counts
 pub mod WellFormed

@@ -1,10 +1,11 @@
 -- What each private function of the reader returns: the value at the front of the tokens and the tokens after it, or
 -- none. No public clause cites this file; the proofs tie it to the grammar in both directions.
-use Rattle.std.specs.Prelude.{ℕ, zero, suc, ◌≡◌, Bool, true, false, List, [], ◌∷◌, ◌++◌, length, map, Vec, Option, Some, None, option_and_then, Result, Ok, Err, ℤ, pos, neg_ℤ, bytes_eq, if◌then◌else◌}
+use Rattle.std.specs.Prelude.{ℕ, zero, suc, ◌+◌, ◌≡◌, Bool, true, false, List, [], ◌∷◌, ◌++◌, length, map, Vec, Option, Some, None, option_and_then, Result, Ok, Err, ℤ, pos, neg_ℤ, bytes_eq, if◌then◌else◌}
 use Rattle.std.specs.declared.alloc.Global.{Global}
 use Rattle.sql_lex.specs.declared.token.TokenKind.{TokenKind}
 use Rattle.sql_lex.specs.declared.token.TokenKind.TheVariants as kinds
 use Rattle.sql_values.specs.declared.op.Op.{Op}
+use Rattle.sql_values.specs.declared.value.Value.{Value}
 use Rattle.sql_values.specs.declared.value.Value.TheVariants as value
 use Rattle.sql_parse.specs.declared.fault.ReadFault.{ReadFault}
 use Rattle.sql_parse.specs.declared.fault.ReadFault.TheVariants as faults
@@ -19,7 +20,7 @@ use Rattle.sql_parse.specs.declared.statement.Statement.{Statement}
 use Rattle.sql_parse.specs.declared.condition.Connective.{Connective}
 use Rattle.sql_parse.specs.declared.condition.Connective.TheVariants as connectives
 use Rattle.sql_parse.specs.Limits.{nesting_limit}
-use Rattle.sql_parse.specs.Lexemes.{Lexeme, Word, Number, Text, Sign, Comparison, mark, is_reserved}
+use Rattle.sql_parse.specs.Lexemes.{Lexeme, Word, Number, Text, Sign, Comparison, Parameter, is_question_mark, mark, is_reserved}
 use Rattle.sql_parse.specs.Trees.{condition_tree, statement_tree, ConditionTree, Compare, Between, OneOf, IsNull, Not, And, Or, operands, QueryTree, StatementTree}
 
 -- What a function returned, seen by view, is what reading gives, unless memory ran out.
@@ -57,6 +58,14 @@ abbrev pub choose : {A B : Type 0} → Option A → B → (A → B) → B
 choose None otherwise then_it = otherwise
 choose (Some x) otherwise then_it = then_it x
 
+-- a token of a statement, with its number if it is a `?`
+abbrev pub with_number : (number : ℕ) → Lexeme → Lexeme
+with_number number token = if is_question_mark token then Parameter number else token
+
+-- the number of the next `?` after it
+abbrev pub next_number : (number : ℕ) → Lexeme → ℕ
+next_number number token = if is_question_mark token then number + 1 else number
+
 -- whether both are the same word or the same sign
 abbrev pub same : Lexeme → Lexeme → Bool
 same (Word a) (Word b) = bytes_eq a b
@@ -93,6 +102,10 @@ text_token_at other = None
 unfoldable pub comparison_at : Reader Op
 comparison_at (Comparison op ∷ rest) = Some (op, rest)
 comparison_at other = None
+
+unfoldable pub parameter_at : Reader ℕ
+parameter_at (Parameter number ∷ rest) = Some (number, rest)
+parameter_at other = None
 
 -- the further parts of a list, at most `most`
 unfoldable pub more_at : {A : Type 0} → Reader A → Mark → (most : ℕ) → Reader (List A)
@@ -149,20 +162,31 @@ token_kind_at (Number n ∷ rest) = Some kinds.Number
 token_kind_at (Text text ∷ rest) = Some kinds.Text
 token_kind_at (Sign bytes ∷ rest) = Some kinds.Sign
 token_kind_at (Comparison op ∷ rest) = Some kinds.Comparison
+token_kind_at (Parameter number ∷ rest) = Some kinds.Sign
+
+abbrev pub literal_of_kind : Option TokenKind → Reader Value
+literal_of_kind (Some kinds.Text) tokens = do
+  text ← text_token_at tokens
+  Some (value.Text text.0, text.1)
+literal_of_kind other tokens = do
+  n ← integer_at tokens
+  Some (value.Int n.0, n.1)
+
+unfoldable pub literal_at : Reader Value
+literal_at tokens = literal_of_kind (token_kind_at tokens) tokens
 
 abbrev pub operand_of_kind : Option TokenKind → Reader Term
 operand_of_kind (Some kinds.Word) tokens = do
   column ← colref_at tokens
   Some (term.Column column.0, column.1)
-operand_of_kind (Some kinds.Text) tokens = do
-  text ← text_token_at tokens
-  Some (term.Literal (value.Text text.0), text.1)
 operand_of_kind other tokens = do
-  n ← integer_at tokens
-  Some (term.Literal (value.Int n.0), n.1)
+  literal ← literal_at tokens
+  Some (term.Literal literal.0, literal.1)
 
 unfoldable pub operand_at : Reader Term
-operand_at tokens = operand_of_kind (token_kind_at tokens) tokens
+operand_at tokens =
+    choose (parameter_at tokens) (operand_of_kind (token_kind_at tokens) tokens)
+    (λ parameter. Some (term.Parameter parameter.0, parameter.1))
 
 -- whether NOT stands here, and what follows it
 unfoldable pub negation_at : List Lexeme → Bool × List Lexeme
@@ -173,6 +197,7 @@ null_test_of (term.Column column) tokens = do
   rest ← after_mark m.Null (negation_at tokens).1
   Some (IsNull (negation_at tokens).0 column, rest)
 null_test_of (term.Literal literal) tokens = None
+null_test_of (term.Parameter number) tokens = None
 
 unfoldable pub between_of : (negated : Bool) → Term → Reader ConditionTree
 between_of negated of tokens = do

@@ -4,10 +4,12 @@ pub mod Audit
 pub mod Compile
 pub mod CreateIndex
 pub mod CreateTable
+pub mod Explain
 pub mod Load
-pub mod Named
 pub mod OpenFile
+pub mod Run
 pub mod SaveFile
+pub mod Using
 use Rattle.std.specs.Prelude.{codes, ℕ, List, [], ◌∷◌, length, Option, Some, None, if◌then◌else◌, ◌==◌}
 use Rattle.sql_parse.specs.declared.mark.Mark.{Mark}
 use Rattle.sql_parse.specs.declared.mark.Mark.TheVariants as m
@@ -21,9 +23,10 @@ use Rattle.sql_parse.specs.Statements.Audit.{IsAudit, audit_at, audit_parts}
 use Rattle.sql_parse.specs.Statements.Compile.{IsCompile, compile_at, compile_parts}
 use Rattle.sql_parse.specs.Statements.CreateIndex.{IsCreateIndex, create_index_at, create_index_parts}
 use Rattle.sql_parse.specs.Statements.CreateTable.{IsCreateTable, create_table_at, create_table_parts}
+use Rattle.sql_parse.specs.Statements.Explain.{IsExplain, explain_at, explain_parts}
 use Rattle.sql_parse.specs.Statements.Load.{IsLoad, load_at, load_parts}
-use Rattle.sql_parse.specs.Statements.Named.{IsNamed, named_at, named_parts}
 use Rattle.sql_parse.specs.Statements.OpenFile.{IsOpenFile, open_file_at, open_file_parts}
+use Rattle.sql_parse.specs.Statements.Run.{IsRunStatement, run_at, run_parts}
 use Rattle.sql_parse.specs.Statements.SaveFile.{IsSaveFile, save_file_at, save_file_parts}
 
 -- a statement, by its form
@@ -33,8 +36,8 @@ IsStatement tokens (tree.CreateIndex index) = IsCreateIndex tokens index
 IsStatement tokens (tree.Load load) = IsLoad tokens load
 IsStatement tokens (tree.Select query) = IsSelect tokens query
 IsStatement tokens (tree.Compile name levels threshold query) = IsCompile name levels threshold tokens query
-IsStatement tokens (tree.Run name) = IsNamed (codes "RUN") tokens name
-IsStatement tokens (tree.Explain name) = IsNamed (codes "EXPLAIN") tokens name
+IsStatement tokens (tree.Run run) = IsRunStatement tokens run
+IsStatement tokens (tree.Explain name) = IsExplain tokens name
 IsStatement tokens (tree.SaveFile save) = IsSaveFile tokens save
 IsStatement tokens (tree.OpenFile name file query) = IsOpenFile name file tokens query
 IsStatement tokens (tree.Audit audit) = IsAudit tokens audit
@@ -53,8 +56,8 @@ productions =
     (codes "CREATE", create_at)
     ∷ (codes "LOAD", load_at)
     ∷ (codes "COMPILE", compile_at)
-    ∷ (codes "RUN", named_at tree.Run)
-    ∷ (codes "EXPLAIN", named_at tree.Explain)
+    ∷ (codes "RUN", run_at)
+    ∷ (codes "EXPLAIN", explain_at)
     ∷ (codes "SAVE", save_file_at)
     ∷ (codes "OPEN", open_file_at)
     ∷ (codes "AUDIT", audit_at)
@@ -83,8 +86,8 @@ statement_parts (tree.CreateIndex index) = create_index_parts index
 statement_parts (tree.Load load) = load_parts load
 statement_parts (tree.Select query) = query_parts query
 statement_parts (tree.Compile name levels threshold query) = compile_parts name levels threshold query
-statement_parts (tree.Run name) = named_parts (codes "RUN") name
-statement_parts (tree.Explain name) = named_parts (codes "EXPLAIN") name
+statement_parts (tree.Run run) = run_parts run
+statement_parts (tree.Explain name) = explain_parts name
 statement_parts (tree.SaveFile save) = save_file_parts save
 statement_parts (tree.OpenFile name file query) = open_file_parts name file query
 statement_parts (tree.Audit audit) = audit_parts audit

@@ -8,6 +8,7 @@ use Rattle.sql_parse.specs.declared.tree.TableDef.{TableDef}
 use Rattle.sql_parse.specs.declared.tree.IndexDef.{IndexDef}
 use Rattle.sql_parse.specs.declared.tree.LoadDef.{LoadDef}
 use Rattle.sql_parse.specs.declared.tree.FileDef.{FileDef}
+use Rattle.sql_parse.specs.declared.tree.RunDef.{RunDef}
 use Rattle.sql_parse.specs.declared.tree.AuditDef.{AuditDef}
 use Rattle.sql_parse.specs.declared.tree.Cond.{Cond}
 use Rattle.sql_parse.specs.declared.tree.Cond.TheOpen.{Cond-F}
@@ -51,7 +52,7 @@ pub data StatementTree : Type 0 where
   Load : LoadDef → StatementTree
   Select : QueryTree → StatementTree
   Compile : (name : List ℕ) (levels threshold : Option ℕ) → QueryTree → StatementTree
-  Run : (name : List ℕ) → StatementTree
+  Run : RunDef → StatementTree
   Explain : (name : List ℕ) → StatementTree
   SaveFile : FileDef → StatementTree
   OpenFile : (name file : List ℕ) → QueryTree → StatementTree
@@ -83,7 +84,7 @@ statement_tree (code.Load load) = Load load
 statement_tree (code.Select query) = Select (query_tree query)
 statement_tree (code.Compile compile) =
     Compile compile.name compile.levels compile.threshold (query_tree compile.query)
-statement_tree (code.Run name) = Run name
+statement_tree (code.Run run) = Run run
 statement_tree (code.Explain name) = Explain name
 statement_tree (code.SaveFile file) = SaveFile file
 statement_tree (code.OpenFile opened) = OpenFile opened.name opened.file (query_tree opened.query)

@@ -1,5 +1,5 @@
 -- What the layers above rely on in each statement that is read.
-use Rattle.std.specs.Prelude.{◌<◌, List, [], ◌∷◌, length, IfSome}
+use Rattle.std.specs.Prelude.{◌<◌, ◌^◌, List, [], ◌∷◌, length, IfSome}
 use Rattle.std.specs.List.{All}
 use Rattle.std.specs.Str.{IsUtf8}
 use Rattle.sql_values.specs.declared.value.Value.TheVariants as value
@@ -8,6 +8,7 @@ use Rattle.sql_parse.specs.declared.tree.Term.TheVariants as term
 use Rattle.sql_parse.specs.declared.statement.Statement.{Statement}
 use Rattle.sql_parse.specs.Trees.{ConditionTree, ConditionTrees, Compare, Between, OneOf, IsNull, Not, And, Or, NoMore, More, QueryTree, StatementTree, CreateTable, Load, Select, Compile, SaveFile, OpenFile, statement_tree}
 use Rattle.sql_parse.specs.Canonical.{canonical_query}
+use Rattle.sql_parse.specs.Parameters.{parameters_of_condition, AreNumberedFrom}
 
 -- an operand isn't NULL as a literal
 abbrev pub IsNotNull : Term → Type 0
@@ -15,6 +16,7 @@ IsNotNull (term.Column _) = Unit {0}
 IsNotNull (term.Literal value.Null) = ⊥
 IsNotNull (term.Literal (value.Int _)) = Unit {0}
 IsNotNull (term.Literal (value.Text _)) = Unit {0}
+IsNotNull (term.Parameter _) = Unit {0}
 
 abbrev pub AreNotNull : List Term → Type 0
 AreNotNull [] = Unit {0}
@@ -40,11 +42,14 @@ abbrev mutual
   AreWellFormedConditions NoMore = Unit {0}
   AreWellFormedConditions (More part parts) = IsWellFormedCondition part × AreWellFormedConditions parts
 
--- a query has a table and, where it names columns, a column; its condition is well-formed
-abbrev pub IsWellFormedQuery : QueryTree → Type 0
-IsWellFormedQuery query =
-    (0 < length query.from) × IfSome query.columns (λ columns. 0 < length columns)
-    × IfSome query.condition IsWellFormedCondition
+-- a query has a table and, where it names columns, a column; its condition is well-formed, and its parameters are
+-- numbered from 0 in written order, in 32 bits
+pub record IsWellFormedQuery (query : QueryTree) : Type 0 where
+  pub tables : 0 < length query.from
+  pub columns : IfSome query.columns (λ columns. 0 < length columns)
+  pub condition : IfSome query.condition IsWellFormedCondition
+  pub numbered : AreNumberedFrom 0 (parameters_of_condition query.condition)
+  pub few_parameters : length (parameters_of_condition query.condition) < 2 ^ 32
 
 -- a new table has a column; the name of a file is UTF-8, and so is the canonical text of a query
 -- that is compiled or that a file is opened for

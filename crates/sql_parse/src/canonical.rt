@@ -4,7 +4,7 @@ ghost use Rattle.std.specs.Prelude.{◌≡◌, ◌∷◌, [], ℕ, List, flat_ma
 ghost use Rattle.sql_lex.specs.Once.{AtMostOne};
 ghost use Rattle.sql_parse.specs.Script.{SpellsStatement, IsSpelled};
 ghost use Rattle.sql_parse.specs.Trees.{StatementTree, statement_tree, query_tree, condition_tree};
-ghost use Rattle.sql_parse.specs.Canonical.{Fixed, listed, in_parentheses, kept_if, column_parts, operand_parts, item_parts, selection_parts, where_parts, query_parts, canonical_query};
+ghost use Rattle.sql_parse.specs.Canonical.{Fixed, listed, in_parentheses, kept_if, column_parts, value_parts, operand_parts, item_parts, selection_parts, where_parts, query_parts, canonical_query};
 ghost use Rattle.sql_parse.specs.Statements.{canonical};
 ghost use Rattle.sql_parse.specs.Printing.{PutsParts};
 ghost use Rattle.sql_parse.specs.declared.mark.Mark.TheVariants as m;
@@ -116,15 +116,26 @@ impl Printed for ColRef {
     }
 }
 
+impl Printed for Value {
+    ghost parts = { value_parts };
+
+    fn print_to(&self, writer: &mut Writer) -> Result<(), AllocError> {
+        match self {
+            Value::Int(number) => writer.integer(*number),
+            Value::Text(text) => writer.text(text),
+            Value::Null => writer.mark(Mark::Null),
+        }
+    }
+}
+
 impl Printed for Term {
     ghost parts = { operand_parts };
 
     fn print_to(&self, writer: &mut Writer) -> Result<(), AllocError> {
         match self {
             Term::Column(column) => column.print_to(writer),
-            Term::Literal(Value::Int(number)) => writer.integer(*number),
-            Term::Literal(Value::Text(text)) => writer.text(text),
-            Term::Literal(Value::Null) => writer.mark(Mark::Null),
+            Term::Literal(literal) => literal.print_to(writer),
+            Term::Parameter(number) => writer.parameter(*number),
         }
     }
 }

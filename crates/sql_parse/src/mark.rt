@@ -1,10 +1,10 @@
 // The marks of the grammar: its signs, and the reserved words that stand within a statement. And the words that can't be
 // names.
 
-ghost use Rattle.std.specs.Prelude.{◌≡◌, map, bytes_eq};
+ghost use Rattle.std.specs.Prelude.{◌≡◌, map, codes, bytes_eq};
 ghost use Rattle.std.specs.List.{list_any};
 ghost use Rattle.sql_lex.specs.Values.{word_value_of};
-ghost use Rattle.sql_parse.specs.Lexemes.{Word, lexeme_of, mark, is_reserved};
+ghost use Rattle.sql_parse.specs.Lexemes.{Word, lexeme_of, is_question_mark, mark, is_reserved};
 ghost use Rattle.sql_parse.specs.Canonical.{Fixed, spelled, joins_previous, joins_next};
 ghost use Rattle.sql_parse.specs.Reading.{same, mark_spelled};
 
@@ -29,6 +29,7 @@ pub enum Mark {
     Select,
     Table,
     To,
+    Using,
     Varchar,
     Where,
     OpenParen,
@@ -62,6 +63,7 @@ impl Mark {
             Mark::Select => (TokenKind::Word, b"SELECT"),
             Mark::Table => (TokenKind::Word, b"TABLE"),
             Mark::To => (TokenKind::Word, b"TO"),
+            Mark::Using => (TokenKind::Word, b"USING"),
             Mark::Varchar => (TokenKind::Word, b"VARCHAR"),
             Mark::Where => (TokenKind::Word, b"WHERE"),
             Mark::OpenParen => (TokenKind::Sign, b"("),
@@ -107,6 +109,16 @@ impl Mark {
     {
         let (own_kind, spelling) = self.spelling();
         is_same(kind, bytes, own_kind, spelling)
+    }
+}
+
+// Whether a token of this kind and these bytes is the sign `?`.
+pub(crate) fn is_question_mark(kind: TokenKind, bytes: &[u8]) -> bool
+    ensures { result ≡ is_question_mark (lexeme_of kind bytes.now) }
+{
+    match kind {
+        TokenKind::Sign => bytes == b"?".as_slice(),
+        _ => false,
     }
 }
 

@@ -1,56 +1,79 @@
 // The tokens that are still to be read, and the tokens that the grammar ends in.
 
-ghost use Rattle.std.specs.Prelude.{◌≡◌, ◌<◌, ◌^◌, [], ◌∷◌, length, IfOk, IfSome, MatchOption};
+ghost use Rattle.std.specs.Prelude.{◌≡◌, ◌+◌, ◌<◌, ◌≤◌, ◌^◌, [], ◌∷◌, length, IfOk, IfSome, MatchOption};
 ghost use Rattle.std.specs.List.{All};
 ghost use Rattle.sql_lex.specs.Forms.{HasForm, KeepsTokenLimit};
 ghost use Rattle.sql_lex.specs.Tokens.{IsToken};
 ghost use Rattle.sql_parse.specs.Lexemes.{lexeme_of, lexemes};
-ghost use Rattle.sql_parse.specs.Reading.{GivesValue, after_mark, after_word, name_at, number_at, text_token_at, comparison_at, token_kind_at};
+ghost use Rattle.sql_parse.specs.Reading.{GivesValue, with_number, next_number, after_mark, after_word, name_at, number_at, text_token_at, comparison_at, parameter_at, token_kind_at};
 
 use crate::fault::ReadFault;
-use crate::mark::{Mark, is_keyword, is_reserved};
+use crate::mark::{Mark, is_keyword, is_question_mark, is_reserved};
 use crate::tree::Name;
 use sql_lex::{Token, TokenKind, comparison_value, number_value, text_value, word_value};
 use sql_values::{Op, Text};
 use std::alloc::Global;
 use std::marker::Model;
 
-// The tokens of a script that are still to be read. Each of them is one, so its value is read without a test.
+// The tokens of a statement that are still to be read. Each of them is one, so its value is read without a test.
 #[derive(Drop)]
 pub(crate) struct Piece<'s> {
     script: &'s [u8],
     tokens: &'s [Token],
+    // How many of the statement's `?` lie before them.
+    before: u32,
 }
 
 impl<'s> Model for Piece<'s> {
-    ghost use Rattle.std.specs.Prelude.{List};
+    ghost use Rattle.std.specs.Prelude.{List, map, length, ◌+◌, ◌<◌, ◌^◌};
     ghost use Rattle.std.specs.List.{All};
     ghost use Rattle.sql_lex.specs.Tokens.{IsToken};
-    ghost use Rattle.sql_parse.specs.Lexemes.{Lexeme, lexemes};
+    ghost use Rattle.sql_parse.specs.Lexemes.{Lexeme, lexeme, numbered};
 
     ghost Value = { List Lexeme };
 
-    ghost view = { λ p. lexemes p.script.now p.tokens.now };
+    ghost view = { λ p. numbered p.before (map (lexeme p.script.now) p.tokens.now) };
 
-    ghost invariant = { λ p. All (IsToken p.script.now) p.tokens.now };
+    ghost invariant = { λ p.
+        All (IsToken p.script.now) p.tokens.now × (p.before + length p.tokens.now < 2 ^ 32) };
 }
 
-// The first token, and what follows it.
+// The first token, its number if it is a `?`, and what follows it.
 #[derive(Drop)]
 struct Lead<'s> {
     kind: TokenKind,
     bytes: &'s [u8],
+    number: u32,
     rest: Piece<'s>,
+}
+
+// The number of the next `?` after a token, whose own number is `number` if it is one.
+fn next_number(number: u32, kind: TokenKind, bytes: &[u8]) -> u32
+    requires { number + 1 < 2 ^ 32 }
+    ensures number { result ≡ next_number number (lexeme_of kind bytes.now) }
+    ensures within { result ≤ number + 1 }
+{
+    if is_question_mark(kind, bytes) {
+        number + 1
+    } else {
+        number
+    }
 }
 
 impl<'s> Piece<'s> {
     pub(crate) fn new(script: &'s [u8], tokens: &'s [Token]) -> Self
-        requires { All (IsToken script.now) tokens.now }
+        requires each { All (IsToken script.now) tokens.now }
+        requires few { length tokens.now < 2 ^ 32 }
         ensures { result ≡ lexemes script.now tokens.now }
     {
-        Piece { script, tokens }
+        Piece {
+            script,
+            tokens,
+            before: 0,
+        }
     }
 
+    #[tactic(auto, using(crate::proofs::Numbers::numbered_length))]
     pub(crate) fn len(&self) -> usize
         ensures { result ≡ length self.now }
     {
@@ -59,20 +82,24 @@ impl<'s> Piece<'s> {
 
     fn lead(&self) -> Option<Lead<'s>>
         ensures first { MatchOption result (self.now ≡ [])
-            (λ lead. self.now ≡ lexeme_of lead.kind lead.bytes.now ∷ lead.rest) }
+            (λ lead. self.now ≡ with_number lead.number (lexeme_of lead.kind lead.bytes.now) ∷ lead.rest) }
         ensures form { IfSome result (λ lead. HasForm lead.kind lead.bytes.now) }
         ensures limit { IfSome result (λ lead. KeepsTokenLimit lead.kind lead.bytes.now) }
     {
         let [first, rest @ ..] = self.tokens else {
             return None;
         };
+        let bytes = &self.script[first.start..first.end];
+        let rest = Piece {
+            script: self.script,
+            tokens: rest,
+            before: next_number(self.before, first.kind, bytes),
+        };
         Some(Lead {
             kind: first.kind,
-            bytes: &self.script[first.start..first.end],
-            rest: Piece {
-                script: self.script,
-                tokens: rest,
-            },
+            bytes,
+            number: self.before,
+            rest,
         })
     }
 
@@ -171,6 +198,19 @@ impl<'s> Piece<'s> {
         match lead.kind {
             TokenKind::Comparison => Some((comparison_value(lead.bytes), lead.rest)),
             _ => None,
+        }
+    }
+
+    // The number of a parameter, where one stands first.
+    #[tactic(auto, unfolding(crate::specs::Reading::parameter_at))]
+    pub(crate) fn parameter(&self) -> Option<(u32, Piece<'s>)>
+        ensures { result ≡ parameter_at self.now }
+    {
+        let lead = self.lead()?;
+        if is_question_mark(lead.kind, lead.bytes) {
+            Some((lead.number, lead.rest))
+        } else {
+            None
         }
     }
 }

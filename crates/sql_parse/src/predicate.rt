@@ -2,7 +2,7 @@
 
 ghost use Rattle.std.specs.Prelude.{◌≡◌, ◌<◌, ◌^◌, IfOk};
 ghost use Rattle.sql_parse.specs.Trees.{condition_tree};
-ghost use Rattle.sql_parse.specs.Reading.{GivesValue, GivesCondition, unsigned_at, integer_at, operand_at, negation_at, null_test_of, between_of, range_or_list_of, predicate_at};
+ghost use Rattle.sql_parse.specs.Reading.{GivesValue, GivesCondition, unsigned_at, integer_at, literal_at, operand_at, negation_at, null_test_of, between_of, range_or_list_of, predicate_at};
 
 use crate::fault::ReadFault;
 use crate::mark::Mark;
@@ -38,23 +38,40 @@ fn integer<'s>(piece: Piece<'s>) -> Result<(i64, Piece<'s>), ReadFault>
     Ok((number as i64, rest))
 }
 
+impl Parse for Value {
+    ghost reads = { literal_at };
+
+    #[tactic(auto, unfolding(crate::specs::Reading::literal_at))]
+    fn parse<'s>(alloc: Global, piece: Piece<'s>) -> Result<(Value, Piece<'s>), ReadFault> {
+        match piece.kind() {
+            Some(TokenKind::Text) => {
+                let (text, rest) = piece.text(alloc)?;
+                Ok((Value::Text(text), rest))
+            }
+            _ => {
+                let (number, rest) = integer(piece)?;
+                Ok((Value::Int(number), rest))
+            }
+        }
+    }
+}
+
 impl Parse for Term {
     ghost reads = { operand_at };
 
     #[tactic(auto, unfolding(crate::specs::Reading::operand_at))]
     fn parse<'s>(alloc: Global, piece: Piece<'s>) -> Result<(Term, Piece<'s>), ReadFault> {
+        if let Some((number, rest)) = piece.parameter() {
+            return Ok((Term::Parameter(number), rest));
+        }
         match piece.kind() {
             Some(TokenKind::Word) => {
                 let (column, rest) = ColRef::parse(alloc, piece)?;
                 Ok((Term::Column(column), rest))
             }
-            Some(TokenKind::Text) => {
-                let (text, rest) = piece.text(alloc)?;
-                Ok((Term::Literal(Value::Text(text)), rest))
-            }
             _ => {
-                let (number, rest) = integer(piece)?;
-                Ok((Term::Literal(Value::Int(number)), rest))
+                let (literal, rest) = Value::parse(alloc, piece)?;
+                Ok((Term::Literal(literal), rest))
             }
         }
     }

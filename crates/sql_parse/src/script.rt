@@ -1,6 +1,6 @@
 // The statements of a script.
 
-ghost use Rattle.std.specs.Prelude.{◌≡◌, ℕ, ◌≤◌, ◌+◌, List, ◌∷◌, length, take, drop, IfOk, IfErr};
+ghost use Rattle.std.specs.Prelude.{◌≡◌, ℕ, ◌≤◌, ◌<◌, ◌+◌, ◌^◌, List, ◌∷◌, length, take, drop, IfOk, IfErr};
 ghost use Rattle.std.specs.List.{All};
 ghost use Rattle.sql_lex.specs.Once.{AtLeastOne, AtMostOne};
 ghost use Rattle.sql_lex.specs.Tokens.{IsToken, Tokens};
@@ -10,7 +10,7 @@ ghost use Rattle.sql_parse.specs.Trees.{StatementTree, statement_tree, statement
 ghost use Rattle.sql_parse.specs.Statements.{IsStatement, statement_of};
 ghost use Rattle.sql_parse.specs.Script.{is_semicolon, split, split_after, AreStatements, IsParsing, IsCause};
 ghost use Rattle.sql_parse.specs.WellFormed.{AreWellFormed};
-ghost use Rattle.sql_parse.specs.Counts.{operands_of, IsWithinTokens, HavePredicatesUpTo};
+ghost use Rattle.sql_parse.specs.Counts.{operands_of, IsWithinTokens, HaveUpTo};
 ghost use Rattle.sql_parse.specs.Reading.{Gives, with_statement};
 
 use crate::fault::{ReadFault, SyntaxFault};
@@ -41,9 +41,10 @@ pub fn one_parsing_is_due()
 /// The statements of a script, in order: one for each piece between semicolons that isn't empty.
 ///
 /// Keywords and names are in any case; names come out in upper case (SQL-92, 5.2). Parentheses around conditions nest
-/// at most 32 deep. `Syntax` names the start of the first piece that is no statement. A script all of whose pieces are
-/// statements is refused only where memory runs out. It takes time in proportion to the tokens, and its depth on the
-/// stack is bounded by the nesting of parentheses.
+/// at most 32 deep. The `?` of a statement are numbered from 0 in written order. `Syntax` names the start of the first
+/// piece that is no statement. A script all of whose pieces are statements is refused only where memory runs out. 2^32
+/// tokens or more count as that, since a parameter's number has 32 bits. It takes time in proportion to the tokens, and
+/// its depth on the stack is bounded by the nesting of parentheses.
 pub fn read_script(
     alloc: Global,
     text: &[u8],
@@ -53,14 +54,18 @@ pub fn read_script(
     ensures found { IfOk result (λ read.
         AreStatements text.now tokens.now (statement_trees read.items)) }
     ensures well_formed { IfOk result (λ read. AreWellFormed read.items) }
-    ensures predicates { IfOk result (λ read. HavePredicatesUpTo (length tokens.now) read.items) }
+    ensures counted { IfOk result (λ read. HaveUpTo (length tokens.now) read.items) }
     ensures refused { IfErr result (IsCause text.now tokens.now) }
 {
+    if tokens.len() > u32::MAX as usize {
+        return Err(SyntaxFault::NoMemory);
+    }
     read(alloc, text, tokens)
 }
 
 fn read(alloc: Global, text: &[u8], tokens: &[Token]) -> Result<Vec<Statement>, SyntaxFault>
-    requires { All (IsToken text.now) tokens.now }
+    requires each { All (IsToken text.now) tokens.now }
+    requires few { length tokens.now < 2 ^ 32 }
     ensures found { IfOk result (λ read.
         AreStatements text.now tokens.now (statement_trees read.items)) }
     ensures refused { IfErr result (IsCause text.now tokens.now) }
@@ -91,7 +96,8 @@ fn add_statement(
     text: &[u8],
     piece: &[Token],
 ) -> Result<(), ReadFault>
-    requires { All (IsToken text.now) piece.now }
+    requires each { All (IsToken text.now) piece.now }
+    requires few { length piece.now < 2 ^ 32 }
     ensures { Gives (λ _. statement_trees statements.new.items) result
         (with_statement (statement_trees statements.old.items)
         (statement_of (lexemes text.now piece.now))) }

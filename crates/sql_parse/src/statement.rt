@@ -11,10 +11,12 @@ mod audit;
 mod compile;
 mod create_index;
 mod create_table;
+mod explain;
 mod load;
-mod named;
 mod open_file;
+mod run;
 mod save_file;
+mod using;
 
 use crate::canonical::print_select;
 use crate::fault::ReadFault;
@@ -22,16 +24,17 @@ use crate::mark::Mark;
 use crate::piece::Piece;
 use crate::query::select;
 use crate::tree::{
-    AuditDef, CompileDef, FileDef, IndexDef, LoadDef, Name, OpenDef, Query, TableDef,
+    AuditDef, CompileDef, FileDef, IndexDef, LoadDef, Name, OpenDef, Query, RunDef, TableDef,
 };
 use crate::writer::Writer;
 use audit::{audit, print_audit};
 use compile::{compile, print_compile};
 use create_index::{create_index, print_create_index};
 use create_table::{create_table, print_create_table};
+use explain::{explain, print_explain};
 use load::{load, print_load};
-use named::print_named;
 use open_file::{open_file, print_open_file};
+use run::{print_run, run};
 use save_file::{print_save_file, save_file};
 use std::alloc::{AllocError, Global};
 
@@ -43,8 +46,7 @@ pub enum Statement {
     Load(LoadDef),
     Select(Query),
     Compile(CompileDef),
-    /// RUN of a bouquet.
-    Run(Name),
+    Run(RunDef),
     /// EXPLAIN of a bouquet.
     Explain(Name),
     SaveFile(FileDef),
@@ -65,7 +67,7 @@ fn create<'s>(alloc: Global, piece: Piece<'s>) -> Result<(Statement, Piece<'s>),
 }
 
 // A statement at the front of the tokens.
-#[tactic(auto, unfolding(crate::specs::Statements::statement_at, crate::specs::Statements::Named::named_at))]
+#[tactic(auto, unfolding(crate::specs::Statements::statement_at))]
 fn first_statement<'s>(alloc: Global, piece: Piece<'s>) -> Result<(Statement, Piece<'s>), ReadFault>
     ensures { GivesStatement result (statement_at piece.entry) }
 {
@@ -79,12 +81,10 @@ fn first_statement<'s>(alloc: Global, piece: Piece<'s>) -> Result<(Statement, Pi
         return compile(alloc, after);
     }
     if let Some(after) = piece.after_word(b"RUN") {
-        let (name, rest) = after.name(alloc)?;
-        return Ok((Statement::Run(name), rest));
+        return run(alloc, after);
     }
     if let Some(after) = piece.after_word(b"EXPLAIN") {
-        let (name, rest) = after.name(alloc)?;
-        return Ok((Statement::Explain(name), rest));
+        return explain(alloc, after);
     }
     if let Some(after) = piece.after_word(b"SAVE") {
         return save_file(alloc, after);
@@ -129,8 +129,8 @@ pub(crate) fn print_statement(writer: &mut Writer, statement: &Statement) -> Res
         Statement::Load(load) => print_load(writer, load),
         Statement::Select(query) => print_select(writer, query),
         Statement::Compile(compile) => print_compile(writer, compile),
-        Statement::Run(name) => print_named(writer, b"RUN", name),
-        Statement::Explain(name) => print_named(writer, b"EXPLAIN", name),
+        Statement::Run(run) => print_run(writer, run),
+        Statement::Explain(name) => print_explain(writer, name),
         Statement::SaveFile(save) => print_save_file(writer, save),
         Statement::OpenFile(opened) => print_open_file(writer, opened),
         Statement::Audit(audit) => print_audit(writer, audit),

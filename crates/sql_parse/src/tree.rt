@@ -52,11 +52,21 @@ pub struct OpenDef {
     pub query: Query,
 }
 
-/// AUDIT. Without AT there are no levels.
+/// RUN. Without USING there are no values.
+#[derive(Debug, Drop)]
+pub struct RunDef {
+    pub name: Name,
+    /// The values of the query's parameters, in order; never NULL.
+    pub values: Sequence<Value>,
+}
+
+/// AUDIT. Without AT there are no levels, and without USING no values.
 #[derive(Debug, Drop)]
 pub struct AuditDef {
     pub name: Name,
     pub levels: Sequence<u64>,
+    /// The values of the query's parameters, in order; never NULL.
+    pub values: Sequence<Value>,
 }
 
 /// A query (SQL-92, 7.9).
@@ -90,6 +100,8 @@ pub enum Term {
     Column(ColRef),
     /// A number or a text; never NULL.
     Literal(Value),
+    /// A parameter, by its number in the statement, from 0 in written order.
+    Parameter(u32),
 }
 
 /// A condition (SQL-92, 8.12). In a predicate, true stands for the predicate's own NOT.

@@ -2,7 +2,7 @@
 
 ghost use Rattle.std.specs.Prelude.{◌≡◌, ◌++◌, ◌||◌, [], ◌∷◌, codes, OnOk, if◌then◌else◌};
 ghost use Rattle.sql_lex.specs.Values.{doubled, quoted, comparison_text};
-ghost use Rattle.sql_parse.specs.Canonical.{integer_parts, Fixed, Keyword, Name as NamePart, Number, Text as TextPart, Operator};
+ghost use Rattle.sql_parse.specs.Canonical.{integer_parts, Fixed, Keyword, Name as NamePart, Number, Text as TextPart, Operator, Parameter};
 ghost use Rattle.sql_parse.specs.Printing.{PutsParts, put, nothing};
 
 use crate::mark::Mark;
@@ -99,6 +99,14 @@ impl Writer {
         ensures { OnOk result (self.new ≡ put self.old (Operator op)) }
     {
         self.put(false, spelling(op), false)
+    }
+
+    // A parameter, which is written `?` whatever its number.
+    #[tactic(auto, unfolding(crate::specs::Printing::put))]
+    pub(crate) fn parameter(&mut self, number: u32) -> Result<(), AllocError>
+        ensures { OnOk result (self.new ≡ put self.old (Parameter number)) }
+    {
+        self.put(false, b"?", false)
     }
 
     // A number with a minus sign where it is below 0.

@@ -1,13 +1,14 @@
 -- What is written by the grammar for COMPILE, what is read and what is printed are the same.
-use Rattle.std.proofs.Common.{codes, ◌≡◌, ◌∙◌, ◌≤◌, ℕ, List, [], ◌∷◌, ◌++◌, length, Some, None, refl, ap, subst, arith, Option, length-append}
-use Rattle.sql_parse.proofs.Productions.{IsUtf8, Lexeme, Word, mark, after_word, after_mark, name_at, number_at, statement_at, either_word, IsAfter, Reads, then_read, also, then_after, name-reads, number-reads, select-reads, select-again, tokens_of, tokens-append, IsPrintedBy, select-printed, word-sound, EachSound, mark-sound, IsWritable, sound-front, select-writable, Writable, writable-append, select-counted, query-utf8, query-well_formed}
+use Rattle.std.proofs.Common.{codes, ◌≡◌, ◌∙◌, ℕ, List, [], ◌∷◌, ◌++◌, Some, None, refl, ap, subst, Option}
+use Rattle.sql_parse.proofs.Productions.{IsUtf8, Lexeme, Word, mark, after_word, after_mark, name_at, number_at, statement_at, either_word, IsAfter, Reads, then_read, also, then_after, name-reads, number-reads, select-reads, select-again, tokens_of, tokens-append, IsPrintedBy, select-printed, word-sound, EachSound, mark-sound, IsWritable, sound-front, select-writable, Writable, writable-append, Holds, hold-none, hold-after, select-held, query-utf8, AreNumbered, query-well_formed}
 use Rattle.sql_parse.specs.declared.mark.Mark.TheVariants as m
 use Rattle.sql_parse.specs.Trees.{QueryTree, Compile}
-use Rattle.sql_parse.specs.Counts.{operands_in, of_condition}
 use Rattle.sql_parse.specs.WellFormed.{IsWellFormedQuery}
 use Rattle.sql_parse.specs.Canonical.{Fixed, query_parts, canonical_query}
 use Rattle.sql_parse.specs.Statements.Compile.{option_of, IsCompile, option_at, compile_at, option_parts, compile_parts}
 use Rattle.sql_parse.proofs.SoundForms.{sound-back}
+use Rattle.sql_parse.proofs.Numbers.{numbers_in}
+use Rattle.sql_parse.proofs.Operands.{terms_of_condition, hold-after_mark, hold-append}
 
 option-reads : (keyword : List ℕ) → Reads (λ tokens n. tokens ≡ option_of keyword n) (option_at keyword)
 unfolding option_at
@@ -82,23 +83,23 @@ compile-writable name levels threshold tokens query sound form =
       ),
     )
 
-pub compile-counted : (name : List ℕ) (levels threshold : Option ℕ) (tokens : List Lexeme) (query : QueryTree) → IsCompile name levels threshold tokens query
-    → of_condition operands_in query.condition ≤ length tokens
-compile-counted name levels threshold tokens query form =
+option-numbers : (keyword : List ℕ) (number : Option ℕ) → numbers_in (option_of keyword number) ≡ []
+option-numbers keyword None = refl
+option-numbers keyword (Some n) = refl
+
+pub compile-held : (name : List ℕ) (levels threshold : Option ℕ) → Holds (IsCompile name levels threshold) (λ query. terms_of_condition query.condition)
+compile-held name levels threshold tokens query form =
     let before = option_of (codes "LEVELS") levels in
     let between = option_of (codes "THRESHOLD") threshold in
-    rw form.1 (omega (
-      arith,
-      length-append before (between ++ mark m.As ∷ form.0),
-      length-append between (mark m.As ∷ form.0),
-      select-counted form.0 query form.3,
-    ))
+    rw form.1 (hold-after (Word (codes "COMPILE")) _ _ refl (hold-after (Word name) _ _ refl
+    (hold-append before _ [] _ (hold-none before (option-numbers (codes "LEVELS") levels))
+    (hold-append between _ [] _ (hold-none between (option-numbers (codes "THRESHOLD") threshold)) (hold-after_mark m.As form.0 _ (select-held form.0 query form.3))))))
 
-pub compile-well_formed : (name : List ℕ) (levels threshold : Option ℕ) (tokens : List Lexeme) (query : QueryTree) → EachSound tokens → IsCompile name levels threshold tokens query
-    → IsWellFormedQuery query × IsUtf8 (canonical_query query)
-compile-well_formed name levels threshold tokens query sound form =
+pub compile-well_formed : (name : List ℕ) (levels threshold : Option ℕ) (tokens : List Lexeme) (query : QueryTree) → EachSound tokens → AreNumbered query.condition
+    → IsCompile name levels threshold tokens query → IsWellFormedQuery query × IsUtf8 (canonical_query query)
+compile-well_formed name levels threshold tokens query sound numbered form =
     let given = option_of (codes "THRESHOLD") threshold ++ mark m.As ∷ form.0 in
     let all : EachSound (Word (codes "COMPILE") ∷ Word name ∷ (option_of (codes "LEVELS") levels ++ given)) = subst EachSound form.1 sound in
     let last : EachSound (mark m.As ∷ form.0) =
     sound-back (option_of (codes "THRESHOLD") threshold) (mark m.As ∷ form.0) (sound-back (option_of (codes "LEVELS") levels) given all.1.1) in
-    (query-well_formed form.0 query form.3, query-utf8 form.0 query last.1 form.3)
+    (query-well_formed form.0 query numbered form.3, query-utf8 form.0 query last.1 form.3)

@@ -1,6 +1,6 @@
 -- What is written by the grammar for CREATE TABLE, what is read and what is printed are the same.
 use Rattle.std.proofs.Common.{codes, ◌≡◌, ◌∙◌, ℕ, List, [], ◌∷◌, ◌++◌, length, Some, None, refl, ap, subst, ◌<◌, inl, inr, Bool, true, false, append_assoc}
-use Rattle.sql_parse.proofs.Productions.{Lexeme, Word, mark, IsName, Separated, after_word, after_mark, name_at, number_at, list_at, in_parentheses_at, create_at, statement_at, IsAfter, Reads, then_read, also, then_after, name-reads, number-reads, list-reads, in_parentheses-reads, IsReadAgain, list-again, read_to_end, tokens_of, tokens-append, IsPrintedBy, separated-printed, word-sound, EachSound, mark-sound, IsWritable, sound-front, listed-writable, Writable, writable-append}
+use Rattle.sql_parse.proofs.Productions.{Lexeme, Word, mark, IsName, Separated, after_word, after_mark, name_at, number_at, list_at, in_parentheses_at, create_at, statement_at, IsAfter, Reads, then_read, also, then_after, name-reads, number-reads, list-reads, in_parentheses-reads, IsReadAgain, list-again, read_to_end, tokens_of, tokens-append, IsPrintedBy, separated-printed, word-sound, EachSound, mark-sound, IsWritable, sound-front, listed-writable, Writable, writable-append, Holds, no_terms, hold-none, hold-after}
 use Rattle.std.proofs.lemmas.List.{append-nil}
 use Rattle.sql_values.specs.declared.column.ColumnType.{ColumnType}
 use Rattle.sql_values.specs.declared.column.ColumnType.TheVariants as types
@@ -15,6 +15,7 @@ use Rattle.sql_parse.proofs.Again.{in_parentheses-again}
 use Rattle.sql_parse.proofs.PrintedForms.{kept-printed, in_parentheses-printed}
 use Rattle.sql_parse.proofs.SoundForms.{in_parentheses-writable}
 use Rattle.sql_parse.proofs.WellFormedQueries.{separated-some}
+use Rattle.sql_parse.proofs.Operands.{Hold, hold-after_mark, hold-append, list-held, in_parentheses-held}
 
 varchar-reads : Reads IsColumnType varchar_at
 unfolding varchar_at
@@ -150,3 +151,21 @@ create_table-writable tokens table sound form =
 
 pub create_table-some : (tokens : List Lexeme) (table : TableDef) → IsCreateTable tokens table → 0 < length table.columns
 create_table-some tokens table form = separated-some m.Comma _ form.3.0 table.columns form.3.2
+
+type-held : Holds IsColumnType no_terms
+type-held tokens types.Integer (inl form) = hold-none tokens (rw form refl)
+type-held tokens types.Integer (inr form) = hold-none tokens (rw form refl)
+type-held tokens (types.Varchar n) form = hold-none tokens (rw form refl)
+
+nulls-held : (written : Bool) → Hold (written_if written (m.Not ∷ m.Null ∷ [])) []
+nulls-held false = hold-none [] refl
+nulls-held true = hold-none (mark m.Not ∷ mark m.Null ∷ []) refl
+
+column-held : Holds IsColumn no_terms
+column-held tokens column form =
+    rw form.1 (hold-after (Word column.name) _ [] refl (hold-append form.0 _ [] [] (type-held form.0 column.kind form.3) (nulls-held column.not_null)))
+
+pub create_table-held : Holds IsCreateTable no_terms
+create_table-held tokens table form =
+    rw form.1 (hold-after (Word (codes "CREATE")) _ [] refl (hold-after_mark m.Table _ [] (hold-after (Word table.name) form.0 [] refl
+    (in_parentheses-held (Separated m.Comma IsColumn) no_terms (list-held m.Comma IsColumn column-held) form.0 table.columns form.3))))

@@ -1,6 +1,6 @@
 -- What is written by the grammar for LOAD, what is read and what is printed are the same.
 use Rattle.std.proofs.Common.{codes, ◌≡◌, ◌∙◌, List, [], ◌∷◌, ◌++◌, Some, refl, ap, subst}
-use Rattle.sql_parse.proofs.Productions.{IsUtf8, Word, Lexeme, mark, after_word, after_mark, name_at, text_token_at, statement_at, IsAfter, Reads, then_read, also, then_after, name-reads, text-reads, IsPrintedBy, word-sound, EachSound, mark-sound, IsWritable}
+use Rattle.sql_parse.proofs.Productions.{IsUtf8, Word, Lexeme, mark, after_word, after_mark, name_at, text_token_at, statement_at, IsAfter, Reads, then_read, also, then_after, name-reads, text-reads, IsPrintedBy, word-sound, EachSound, mark-sound, IsWritable, Holds, no_terms, hold-none}
 use Rattle.sql_parse.specs.declared.mark.Mark.TheVariants as m
 use Rattle.sql_parse.specs.declared.tree.LoadDef.{LoadDef}
 use Rattle.sql_parse.specs.Trees.{Load}
@@ -30,3 +30,6 @@ load-writable tokens load sound form =
 
 pub load-utf8 : (tokens : List Lexeme) (load : LoadDef) → EachSound tokens → IsLoad tokens load → IsUtf8 load.file
 load-utf8 tokens load sound form = (subst EachSound form.0 sound).1.0
+
+pub load-held : Holds IsLoad no_terms
+load-held tokens load form = hold-none tokens (rw form.0 refl)

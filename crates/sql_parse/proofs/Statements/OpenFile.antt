@@ -1,13 +1,13 @@
 -- What is written by the grammar for OPEN, what is read and what is printed are the same.
-use Rattle.std.proofs.Common.{codes, ◌≡◌, ◌∙◌, ◌≤◌, ℕ, List, [], ◌∷◌, ◌++◌, length, Some, refl, ap, subst, arith}
-use Rattle.sql_parse.proofs.Productions.{IsUtf8, Lexeme, Word, mark, after_word, after_mark, name_at, text_token_at, statement_at, IsAfter, Reads, then_read, also, then_after, name-reads, text-reads, select-reads, select-again, tokens_of, IsPrintedBy, select-printed, word-sound, EachSound, mark-sound, IsWritable, select-writable, select-counted, query-utf8, query-well_formed}
+use Rattle.std.proofs.Common.{codes, ◌≡◌, ◌∙◌, ℕ, List, [], ◌∷◌, ◌++◌, Some, refl, ap, subst}
+use Rattle.sql_parse.proofs.Productions.{IsUtf8, Lexeme, Word, mark, after_word, after_mark, name_at, text_token_at, statement_at, IsAfter, Reads, then_read, also, then_after, name-reads, text-reads, select-reads, select-again, tokens_of, IsPrintedBy, select-printed, word-sound, EachSound, mark-sound, IsWritable, select-writable, Holds, hold-after, select-held, query-utf8, AreNumbered, query-well_formed}
 use Rattle.sql_parse.specs.declared.mark.Mark.TheVariants as m
 use Rattle.sql_parse.specs.Lexemes.{Text as TextToken}
 use Rattle.sql_parse.specs.Trees.{QueryTree, OpenFile}
-use Rattle.sql_parse.specs.Counts.{operands_in, of_condition}
 use Rattle.sql_parse.specs.WellFormed.{IsWellFormedQuery}
 use Rattle.sql_parse.specs.Canonical.{query_parts, canonical_query}
 use Rattle.sql_parse.specs.Statements.OpenFile.{IsOpenFile, open_file_at, open_file_parts}
+use Rattle.sql_parse.proofs.Operands.{terms_of_condition, hold-after_mark}
 
 pub open_file-reads : Reads (IsAfter (Word (codes "OPEN") ∷ [])) open_file_at
 unfolding open_file_at
@@ -37,11 +37,13 @@ open_file-writable name file tokens query sound form =
     let all : EachSound (Word (codes "OPEN") ∷ Word name ∷ mark m.From ∷ TextToken file ∷ mark m.As ∷ form.0) = subst EachSound form.1 sound in
     (word-sound (codes "OPEN") refl refl refl refl, tt, (all.1.0, tt, (mark-sound m.From, tt, (all.1.1.1.0, tt, (mark-sound m.As, tt, select-writable form.0 query all.1.1.1.1.1 form.3)))))
 
-pub open_file-counted : (name file : List ℕ) (tokens : List Lexeme) (query : QueryTree) → IsOpenFile name file tokens query → of_condition operands_in query.condition ≤ length tokens
-open_file-counted name file tokens query form = rw form.1 (omega (arith, select-counted form.0 query form.3))
+pub open_file-held : (name file : List ℕ) → Holds (IsOpenFile name file) (λ query. terms_of_condition query.condition)
+open_file-held name file tokens query form =
+    rw form.1 (hold-after (Word (codes "OPEN")) _ _ refl (hold-after (Word name) _ _ refl
+    (hold-after_mark m.From _ _ (hold-after (TextToken file) _ _ refl (hold-after_mark m.As form.0 _ (select-held form.0 query form.3))))))
 
-pub open_file-well_formed : (name file : List ℕ) (tokens : List Lexeme) (query : QueryTree) → EachSound tokens → IsOpenFile name file tokens query
-    → IsUtf8 file × IsWellFormedQuery query × IsUtf8 (canonical_query query)
-open_file-well_formed name file tokens query sound form =
+pub open_file-well_formed : (name file : List ℕ) (tokens : List Lexeme) (query : QueryTree) → EachSound tokens → AreNumbered query.condition
+    → IsOpenFile name file tokens query → IsUtf8 file × IsWellFormedQuery query × IsUtf8 (canonical_query query)
+open_file-well_formed name file tokens query sound numbered form =
     let all = subst EachSound form.1 sound in
-    (all.1.1.1.0, query-well_formed form.0 query form.3, query-utf8 form.0 query all.1.1.1.1.1 form.3)
+    (all.1.1.1.0, query-well_formed form.0 query numbered form.3, query-utf8 form.0 query all.1.1.1.1.1 form.3)

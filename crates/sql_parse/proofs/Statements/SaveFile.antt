@@ -1,6 +1,6 @@
 -- What is written by the grammar for SAVE, what is read and what is printed are the same.
 use Rattle.std.proofs.Common.{codes, ◌≡◌, ◌∙◌, List, [], ◌∷◌, ◌++◌, Some, refl, ap, subst}
-use Rattle.sql_parse.proofs.Productions.{IsUtf8, Word, Lexeme, mark, after_word, after_mark, name_at, text_token_at, statement_at, IsAfter, Reads, then_read, also, then_after, name-reads, text-reads, IsPrintedBy, word-sound, EachSound, mark-sound, IsWritable}
+use Rattle.sql_parse.proofs.Productions.{IsUtf8, Word, Lexeme, mark, after_word, after_mark, name_at, text_token_at, statement_at, IsAfter, Reads, then_read, also, then_after, name-reads, text-reads, IsPrintedBy, word-sound, EachSound, mark-sound, IsWritable, Holds, no_terms, hold-none}
 use Rattle.sql_parse.specs.declared.mark.Mark.TheVariants as m
 use Rattle.sql_parse.specs.declared.tree.FileDef.{FileDef}
 use Rattle.sql_parse.specs.Trees.{SaveFile}
@@ -30,3 +30,6 @@ save_file-writable tokens save sound form =
 
 pub save_file-utf8 : (tokens : List Lexeme) (save : FileDef) → EachSound tokens → IsSaveFile tokens save → IsUtf8 save.file
 save_file-utf8 tokens save sound form = (subst EachSound form.0 sound).1.1.1.0
+
+pub save_file-held : Holds IsSaveFile no_terms
+save_file-held tokens save form = hold-none tokens (rw form.0 refl)

@@ -1,11 +1,12 @@
 // AUDIT.
 
 ghost use Rattle.std.specs.Prelude.{◌∷◌, []};
-ghost use Rattle.sql_parse.specs.Reading.{GivesStatement, number_at};
+ghost use Rattle.sql_parse.specs.Reading.{GivesStatement, GivesValue, number_at};
 ghost use Rattle.sql_parse.specs.Canonical.{Number};
 ghost use Rattle.sql_parse.specs.Printing.{PutsParts};
-ghost use Rattle.sql_parse.specs.Statements.Audit.{audit_at, point_parts, audit_parts};
+ghost use Rattle.sql_parse.specs.Statements.Audit.{levels_at, audit_at, point_parts, audit_parts};
 
+use super::using::{print_using, using};
 use crate::canonical::{Printed, print_list};
 use crate::fault::ReadFault;
 use crate::parse::{Parse, list};
@@ -24,6 +25,17 @@ impl Parse for u64 {
     }
 }
 
+// The levels, where AT stands.
+#[tactic(auto, unfolding(crate::specs::Statements::Audit::levels_at))]
+fn levels<'s>(alloc: Global, piece: Piece<'s>) -> Result<(Sequence<u64>, Piece<'s>), ReadFault>
+    ensures { GivesValue result (levels_at piece.entry) }
+{
+    let Some(after) = piece.after_word(b"AT") else {
+        return Ok((Sequence::from(Vec::new(alloc)), piece));
+    };
+    list(alloc, after)
+}
+
 // From the name of the bouquet on.
 #[tactic(auto, unfolding(crate::specs::Statements::Audit::audit_at))]
 pub(crate) fn audit<'s>(
@@ -33,12 +45,14 @@ pub(crate) fn audit<'s>(
     ensures { GivesStatement result (audit_at piece.entry) }
 {
     let (name, rest) = piece.name(alloc)?;
-    let Some(after) = rest.after_word(b"AT") else {
-        let levels = Sequence::from(Vec::new(alloc));
-        return Ok((Statement::Audit(AuditDef { name, levels }), rest));
+    let (levels, rest) = levels(alloc, rest)?;
+    let (values, rest) = using(alloc, rest)?;
+    let audit = AuditDef {
+        name,
+        levels,
+        values,
     };
-    let (levels, rest) = list(alloc, after)?;
-    Ok((Statement::Audit(AuditDef { name, levels }), rest))
+    Ok((Statement::Audit(audit), rest))
 }
 
 impl Printed for u64 {
@@ -65,5 +79,6 @@ pub(crate) fn print_audit(writer: &mut Writer, audit: &AuditDef) -> Result<(), A
 {
     writer.keyword(b"AUDIT")?;
     writer.name(&audit.name)?;
-    print_point(writer, audit.levels.as_slice())
+    print_point(writer, audit.levels.as_slice())?;
+    print_using(writer, audit.values.as_slice())
 }

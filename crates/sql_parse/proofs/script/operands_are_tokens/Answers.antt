@@ -1,4 +1,4 @@
-use Rattle.sql_parse.proofs.Statements.{statement-counted}
+use Rattle.sql_parse.proofs.Counted.{statement-counted}
 use Rattle.sql_parse.proofs.script.operands_are_tokens.Goals as goal
 
 pub returns : goal.returns

@@ -1,4 +1,4 @@
-use Rattle.std.proofs.Common.{◌≡◌, ◌+◌, ◌<◌, length, List, Some, map, drop, take, sym, ap, subst, ◌∙◌, arith}
+use Rattle.std.proofs.Common.{◌≡◌, ◌+◌, ◌<◌, length, List, Some, map, drop, take, sym, ap, subst, ◌∙◌, length-drop, arith}
 use Rattle.std.specs.List.{All}
 use Rattle.std.proofs.lemmas.Bool.{eqb-false}
 use Rattle.std.proofs.lemmas.List.Elements.{All-drop}
@@ -44,5 +44,6 @@ loop-rest-preserved c =
     ] in
     record {
       each = subst (All (IsToken script)) (sym c.tokens_after-rest.ensures) (All-drop (IsToken script) (end + 1) rest c.loop-rest.invariant.each);
+      few = rw c.tokens_after-rest.ensures (omega (arith, c.loop-rest.invariant.few, length-drop (end + 1) rest));
       so_far = subst (λ (all : List Token). AreReadSoFar script tokens all new) (sym c.tokens_after-rest.ensures) so_far;
     }
