@@ -1,10 +1,10 @@
 -- A query that nothing refuses binds to a block of which holds what is always so of blocks.
-use Rattle.std.proofs.Common.{◌≡◌, ◌≢◌, ◌∙◌, ℕ, zero, suc, ◌+◌, ◌<◌, ◌≤◌, Bool, true, false, ◌&&◌, nat_lt, ◌==◌, if◌then◌else◌, List, [], ◌∷◌, ◌++◌, length, map, filter, slice_index_or, All, IfSome, Option, Some, None, refl, sym, ap, subst, arith, ltb-true, ltb-false, eqb-true, true≢false, lit<}
-use Rattle.std.specs.List.{AllByRecursion, cons_option, count_by}
+use Rattle.std.proofs.Common.{◌≡◌, ◌≢◌, ◌∙◌, ℕ, zero, suc, ◌+◌, ◌<◌, ◌≤◌, ◌^◌, Bool, true, false, nat_lt, ◌==◌, if◌then◌else◌, List, [], ◌∷◌, ◌++◌, length, map, filter, flat_map, slice_index_or, All, IfSome, Option, Some, None, refl, sym, ap, subst, arith, append-nil, ltb-true, ltb-false, eqb-true, true≢false}
+use Rattle.std.specs.Prelude.{unwrap_or}
+use Rattle.std.specs.List.{AllByRecursion, cons_option, filter_map}
 use Rattle.std.specs.Option.{option_or}
 use Rattle.std.proofs.lemmas.Bool.{eqb-false}
 use Rattle.std.proofs.lemmas.List.{length-map}
-use Rattle.std.proofs.lemmas.List.Sums.{count_by-le-length}
 use Rattle.std.proofs.lemmas.List.Elements.{All-nil, All-cons, All-head, All-tail, All-map, All-append, All-weaker}
 use Rattle.sql_values.specs.declared.limit.LimitName.{LimitName}
 use Rattle.sql_values.specs.declared.limit.LimitName.TheVariants as limit
@@ -17,25 +17,29 @@ use Rattle.sql_values.specs.declared.value.Value.TheVariants as value
 use Rattle.sql_values.specs.Limits.{max_relations, max_projection, max_axes}
 use Rattle.query_block.specs.declared.edge.ColumnAt.{ColumnAt}
 use Rattle.query_block.specs.declared.edge.Edge.{Edge}
+use Rattle.query_block.specs.declared.kind.Kind.{Kind}
+use Rattle.query_block.specs.declared.kind.Kind.TheVariants as kind
 use Rattle.query_block.specs.Conditions.{FilterTree}
-use Rattle.query_block.specs.Blocks.{RelationTree, BlockTree, relation_at, kind_at, holds_texts, is_text_operand, IsOperand, AreOperands, FitsColumns, FitColumns, IsRelation, IsPlace, kind_of, IsEdge, IsBlock, has_parameter, put_relation}
-use Rattle.query_block.proofs.PutIn.{put-none, none-left}
+use Rattle.query_block.specs.Blocks.{RelationTree, relation_at, kind_at, holds_texts, is_text, is_text_kind, is_text_operand, IsOperand, AreOperands, FitsColumns, FitColumns, IsRelation, IsPlace, kind_of, IsEdge, IsBlock, axes_of}
 use Rattle.sql_parse.specs.declared.tree.ColRef.{ColRef}
 use Rattle.sql_parse.specs.declared.tree.Term.{Term}
 use Rattle.sql_parse.specs.declared.tree.Term.TheVariants as term
 use Rattle.sql_parse.specs.Trees.{ConditionTree, ConditionTrees, Compare, Between, OneOf, IsNull, Not, And, Or, NoMore, More, QueryTree}
+use Rattle.sql_parse.specs.Parameters.{parameter_of, parameters_in, parameters_in_all, parameters_of_condition}
 use Rattle.sql_parse.specs.WellFormed.{IsNotNull, AreNotNull, IsWellFormedCondition, AreWellFormedConditions, IsWellFormedQuery}
 use Rattle.db_catalog.specs.Database.{DatabaseState}
 use Rattle.sql_bind.specs.declared.fault.BindFault.{BindFault}
-use Rattle.sql_bind.specs.declared.fault.BindFault.TheVariants.{Limit, TypeMismatch}
+use Rattle.sql_bind.specs.declared.fault.BindFault.TheVariants.{Limit}
 use Rattle.sql_bind.specs.declared.reach.Reach.{Reach}
 use Rattle.sql_bind.specs.declared.reach.Reach.TheVariants.{Nothing, One, Several}
 use Rattle.sql_bind.specs.Named.{NamedTable, IsNamed}
 use Rattle.sql_bind.specs.Names.{may_name, places_among, places_from, named_places, named_once, written_column_fault, first_place, place_of, first_fault_from, written_columns_fault}
-use Rattle.sql_bind.specs.Predicates.{predicates, predicates_of_all, kind_in, is_text_term, agree, are_alike, term_fault, terms_fault, kinds_fault, operands_fault, predicate_fault, predicates_fault}
+use Rattle.sql_bind.specs.Kinds.{kind_in, kind_if, kind_of_term, kind_of_terms, given_kinds, parameters_among}
+use Rattle.sql_bind.specs.Predicates.{predicates, predicates_of_all, term_fault, terms_fault, term_kind_fault, term_kinds_fault, kinds_fault, operands_fault, predicate_fault, predicates_fault, predicate_parameters, condition_parameters}
 use Rattle.sql_bind.specs.Conjuncts.{conjuncts, conjuncts_of_all, joined_reach, reach_of_term, reach_of_terms, reach_of, reach_of_all, edge_between, filtered, is_relation, edge_in, edge_of, conjuncts_fault, bound_operand, negated_if, bound_condition, bound_conditions}
-use Rattle.sql_bind.specs.Binding.{named_table, named_tables, past_limit, from_fault, projection_fault, conjuncts_in, condition_fault, edges_of, is_filter_of, filter_of, columns_from, every_column, projection_of, relations_from, block_of, bind_fault}
+use Rattle.sql_bind.specs.Binding.{named_table, named_tables, past_limit, from_fault, projection_fault, conjuncts_in, condition_fault, edges_of, is_filter_of, filter_of, columns_from, every_column, projection_of, relations_from, parameter_kinds, block_of, bind_fault}
 use Rattle.sql_bind.proofs.Faults.{first_fault-append}
+use Rattle.sql_bind.proofs.Parameters.{HasKind, HaveKinds, have-own, have-parts, parameter_kinds-count}
 
 -- no check refuses
 neither : (a b : Option BindFault) → option_or a b ≡ None → (a ≡ None) × (b ≡ None)
@@ -165,92 +169,109 @@ kind-there : (tables : List NamedTable) (parts : List ConditionTree) (place : Co
     → holds_texts (kind_of (relations_from tables parts 0 tables) place) ≡ holds_texts (kind_in tables place)
 kind-there tables parts place = ap (λ columns. holds_texts (kind_at columns place.column)) (columns-at tables parts 0 tables place.relation)
 
--- the column of an operand exists, and its literal isn't NULL
-abbrev IsGood : List NamedTable → Term → Type 0
-IsGood tables (term.Column written) = IsThere tables (place_of tables written)
-IsGood tables (term.Literal literal) = IsNotNull (term.Literal literal)
+-- an operand of this kind: its column exists, its literal isn't NULL, its parameter is one of these
+abbrev IsGood : List NamedTable → List Kind → Kind → Term → Type 0
+IsGood tables parameters of (term.Column written) =
+    IsThere tables (place_of tables written) × (holds_texts (kind_in tables (place_of tables written)) ≡ is_text_kind of)
+IsGood tables parameters of (term.Literal literal) = IsNotNull (term.Literal literal) × (is_text literal ≡ is_text_kind of)
+IsGood tables parameters of (term.Parameter number) = HasKind parameters of number
 
--- so it is of all operands of a predicate, which are of one kind
-abbrev AreGood : List NamedTable → List Term → Type 0
-AreGood tables terms = AllByRecursion (IsGood tables) terms × (are_alike tables terms ≡ true)
+-- so it is of all operands of a predicate, which has a kind
+record AreGood (tables : List NamedTable) (parameters : List Kind) (terms : List Term) : Type 0 where
+  of : Kind
+  all : AllByRecursion (IsGood tables parameters of) terms
 
 abbrev mutual
   -- so it is of each predicate of a condition
-  IsSound : List NamedTable → ConditionTree → Type 0
-  IsSound tables (Compare op left right) = AreGood tables (left ∷ right ∷ [])
-  IsSound tables (Between negated of low high) = AreGood tables (of ∷ low ∷ high ∷ [])
-  IsSound tables (OneOf negated of terms) = AreGood tables (of ∷ terms)
-  IsSound tables (IsNull negated column) = AreGood tables (term.Column column ∷ [])
-  IsSound tables (Not inner) = IsSound tables inner
-  IsSound tables (And parts) = AreSound tables parts
-  IsSound tables (Or parts) = AreSound tables parts
+  IsSound : List NamedTable → List Kind → ConditionTree → Type 0
+  IsSound tables parameters (Compare op left right) = AreGood tables parameters (left ∷ right ∷ [])
+  IsSound tables parameters (Between negated of low high) = AreGood tables parameters (of ∷ low ∷ high ∷ [])
+  IsSound tables parameters (OneOf negated of terms) = AreGood tables parameters (of ∷ terms)
+  IsSound tables parameters (IsNull negated column) = AreGood tables parameters (term.Column column ∷ [])
+  IsSound tables parameters (Not inner) = IsSound tables parameters inner
+  IsSound tables parameters (And parts) = AreSound tables parameters parts
+  IsSound tables parameters (Or parts) = AreSound tables parameters parts
 
-  AreSound : List NamedTable → ConditionTrees → Type 0
-  AreSound tables NoMore = Unit {0}
-  AreSound tables (More part parts) = IsSound tables part × AreSound tables parts
+  AreSound : List NamedTable → List Kind → ConditionTrees → Type 0
+  AreSound tables parameters NoMore = Unit {0}
+  AreSound tables parameters (More part parts) = IsSound tables parameters part × AreSound tables parameters parts
 
-term-good : (tables : List NamedTable) (t : Term) → term_fault tables t ≡ None → IsNotNull t → IsGood tables t
-term-good tables (term.Column written) none null = column-there tables written none
-term-good tables (term.Literal literal) none null = null
+-- the operand of this kind isn't refused
+kind-is : (number : ℕ) (of : Kind) (text : Bool) → term_kind_fault number of (Some (kind_if text)) ≡ None → text ≡ is_text_kind of
+kind-is number kind.Integer false none = refl
+kind-is number kind.Integer true none = cc
+kind-is number kind.Text false none = cc
+kind-is number kind.Text true none = refl
 
-terms-good : (tables : List NamedTable) (terms : List Term) → terms_fault tables terms ≡ None → AreNotNull terms → AllByRecursion (IsGood tables) terms
-terms-good tables [] none null = tt
-terms-good tables (t ∷ terms) none null =
-    let both = neither (term_fault tables t) (terms_fault tables terms) none in
-    (term-good tables t both.0 null.0, terms-good tables terms both.1 null.1)
+module _ (tables : List NamedTable) (parameters : List Kind) where
+  terms-good : (number : ℕ) (of : Kind) (terms : List Term) → terms_fault tables terms ≡ None → term_kinds_fault tables number of terms ≡ None → AreNotNull terms
+      → HaveKinds parameters (filter_map parameter_of terms) (given_kinds tables of terms) → AllByRecursion (IsGood tables parameters of) terms
+  terms-good number of [] none alike null have = tt
+  terms-good number of (term.Column written ∷ terms) none alike null have =
+      let columns = neither (term_fault tables (term.Column written)) (terms_fault tables terms) none in
+      let kinds = neither (term_kind_fault number of (kind_of_term tables (term.Column written))) (term_kinds_fault tables number of terms) alike in
+      ((column-there tables written columns.0, kind-is number of _ kinds.0), terms-good number of terms columns.1 kinds.1 null.1 have)
+  terms-good number of (term.Literal literal ∷ terms) none alike null have =
+      let kinds = neither (term_kind_fault number of (kind_of_term tables (term.Literal literal))) (term_kinds_fault tables number of terms) alike in
+      ((null.0, kind-is number of _ kinds.0), terms-good number of terms none kinds.1 null.1 have)
+  terms-good number of (term.Parameter n ∷ terms) none alike null have = (have.0, terms-good number of terms none alike null.1 have.1)
 
-no_mismatch : (b : Bool) (number : ℕ) → (if b then None else Some (TypeMismatch number)) ≡ None → b ≡ true
-no_mismatch true number none = refl
-no_mismatch false number none = cc
+  operands-good : (number : ℕ) (terms : List Term) → option_or (operands_fault tables number terms) None ≡ None → AreNotNull terms
+      → HaveKinds parameters (filter_map parameter_of terms) (parameters_among tables terms ++ []) → AreGood tables parameters terms
+  operands-good number terms none null have =
+      let one = neither (operands_fault tables number terms) None none in
+      let both = neither (terms_fault tables terms) (kinds_fault tables number (kind_of_terms tables terms) terms) one.0 in
+      by (kind_of_terms tables terms) both.0 both.1 (subst (HaveKinds parameters (filter_map parameter_of terms)) (append-nil (parameters_among tables terms)) have)
+    where
+      by : (of : Option Kind) → terms_fault tables terms ≡ None → kinds_fault tables number of terms ≡ None
+          → HaveKinds parameters (filter_map parameter_of terms) (given_kinds tables (unwrap_or of kind.Integer) terms) → AreGood tables parameters terms
+      by None columns kinds have = cc
+      by (Some of) columns kinds have = record { of = of; all = terms-good number of terms columns kinds null have }
 
-operands-good : (tables : List NamedTable) (number : ℕ) (terms : List Term) → option_or (operands_fault tables number terms) None ≡ None → AreNotNull terms → AreGood tables terms
-operands-good tables number terms none null =
-    let one = neither (operands_fault tables number terms) None none in
-    let both = neither (terms_fault tables terms) (kinds_fault tables number terms) one.0 in
-    (terms-good tables terms both.0 null, no_mismatch (are_alike tables terms) number both.1)
+  mutual
+    condition-sound : (number : ℕ) (tree : ConditionTree) → first_fault_from (predicate_fault tables) number (predicates tree) ≡ None → IsWellFormedCondition tree
+        → HaveKinds parameters (parameters_in tree) (condition_parameters tables tree) → IsSound tables parameters tree
+    condition-sound number (Compare op left right) none formed have = operands-good number (left ∷ right ∷ []) none (formed.0, (formed.1, tt)) have
+    condition-sound number (Between negated of low high) none formed have =
+        operands-good number (of ∷ low ∷ high ∷ []) none (formed.0, (formed.1, (formed.2, tt))) have
+    condition-sound number (OneOf negated of terms) none formed have = operands-good number (of ∷ terms) none (formed.0, formed.1) have
+    condition-sound number (IsNull negated column) none formed have = operands-good number (term.Column column ∷ []) none (tt, tt) tt
+    condition-sound number (Not inner) none formed have = condition-sound number inner none formed have
+    condition-sound number (And parts) none formed have = conditions-sound number parts none formed.1 have
+    condition-sound number (Or parts) none formed have = conditions-sound number parts none formed.1 have
 
-mutual
-  condition-sound : (tables : List NamedTable) (number : ℕ) (tree : ConditionTree) → first_fault_from (predicate_fault tables) number (predicates tree) ≡ None
-      → IsWellFormedCondition tree → IsSound tables tree
-  condition-sound tables number (Compare op left right) none formed = operands-good tables number (left ∷ right ∷ []) none (formed.0, (formed.1, tt))
-  condition-sound tables number (Between negated of low high) none formed =
-      operands-good tables number (of ∷ low ∷ high ∷ []) none (formed.0, (formed.1, (formed.2, tt)))
-  condition-sound tables number (OneOf negated of terms) none formed = operands-good tables number (of ∷ terms) none (formed.0, formed.1)
-  condition-sound tables number (IsNull negated column) none formed = operands-good tables number (term.Column column ∷ []) none (tt, tt)
-  condition-sound tables number (Not inner) none formed = condition-sound tables number inner none formed
-  condition-sound tables number (And parts) none formed = conditions-sound tables number parts none formed.1
-  condition-sound tables number (Or parts) none formed = conditions-sound tables number parts none formed.1
+    conditions-sound : (number : ℕ) (parts : ConditionTrees) → first_fault_from (predicate_fault tables) number (predicates_of_all parts) ≡ None
+        → AreWellFormedConditions parts → HaveKinds parameters (parameters_in_all parts) (flat_map (predicate_parameters tables) (predicates_of_all parts))
+        → AreSound tables parameters parts
+    conditions-sound number NoMore none formed have = tt
+    conditions-sound number (More part parts) none formed have =
+        let next = number + length (predicates part) in
+        let both = neither (first_fault_from (predicate_fault tables) number (predicates part)) (first_fault_from (predicate_fault tables) next (predicates_of_all parts))
+        (sym (first_fault-append (predicate_fault tables) number (predicates part) (predicates_of_all parts)) ∙ none) in
+        let kinds = have-parts parameters tables part parts have in
+        (condition-sound number part both.0 formed.0 kinds.0, conditions-sound next parts both.1 formed.1 kinds.1)
 
-  conditions-sound : (tables : List NamedTable) (number : ℕ) (parts : ConditionTrees) → first_fault_from (predicate_fault tables) number (predicates_of_all parts) ≡ None
-      → AreWellFormedConditions parts → AreSound tables parts
-  conditions-sound tables number NoMore none formed = tt
-  conditions-sound tables number (More part parts) none formed =
-      let next = number + length (predicates part) in
-      let both = neither (first_fault_from (predicate_fault tables) number (predicates part)) (first_fault_from (predicate_fault tables) next (predicates_of_all parts))
-      (sym (first_fault-append (predicate_fault tables) number (predicates part) (predicates_of_all parts)) ∙ none) in
-      (condition-sound tables number part both.0 formed.0, conditions-sound tables next parts both.1 formed.1)
+  mutual
+    conjuncts-sound : (tree : ConditionTree) → IsSound tables parameters tree → All (IsSound tables parameters) (conjuncts tree)
+    conjuncts-sound (Compare op left right) h = all-one (IsSound tables parameters) (Compare op left right) h
+    conjuncts-sound (Between negated of low high) h = all-one (IsSound tables parameters) (Between negated of low high) h
+    conjuncts-sound (OneOf negated of terms) h = all-one (IsSound tables parameters) (OneOf negated of terms) h
+    conjuncts-sound (IsNull negated column) h = all-one (IsSound tables parameters) (IsNull negated column) h
+    conjuncts-sound (Not inner) h = all-one (IsSound tables parameters) (Not inner) h
+    conjuncts-sound (And parts) h = all_conjuncts-sound parts h
+    conjuncts-sound (Or parts) h = all-one (IsSound tables parameters) (Or parts) h
 
-mutual
-  conjuncts-sound : (tables : List NamedTable) (tree : ConditionTree) → IsSound tables tree → All (IsSound tables) (conjuncts tree)
-  conjuncts-sound tables (Compare op left right) h = all-one (IsSound tables) (Compare op left right) h
-  conjuncts-sound tables (Between negated of low high) h = all-one (IsSound tables) (Between negated of low high) h
-  conjuncts-sound tables (OneOf negated of terms) h = all-one (IsSound tables) (OneOf negated of terms) h
-  conjuncts-sound tables (IsNull negated column) h = all-one (IsSound tables) (IsNull negated column) h
-  conjuncts-sound tables (Not inner) h = all-one (IsSound tables) (Not inner) h
-  conjuncts-sound tables (And parts) h = all_conjuncts-sound tables parts h
-  conjuncts-sound tables (Or parts) h = all-one (IsSound tables) (Or parts) h
+    all_conjuncts-sound : (parts : ConditionTrees) → AreSound tables parameters parts → All (IsSound tables parameters) (conjuncts_of_all parts)
+    all_conjuncts-sound NoMore h = All-nil (IsSound tables parameters)
+    all_conjuncts-sound (More part parts) h =
+        All-append (IsSound tables parameters) (conjuncts part) (conjuncts_of_all parts) (conjuncts-sound part h.0) (all_conjuncts-sound parts h.1)
 
-  all_conjuncts-sound : (tables : List NamedTable) (parts : ConditionTrees) → AreSound tables parts → All (IsSound tables) (conjuncts_of_all parts)
-  all_conjuncts-sound tables NoMore h = All-nil (IsSound tables)
-  all_conjuncts-sound tables (More part parts) h =
-      All-append (IsSound tables) (conjuncts part) (conjuncts_of_all parts) (conjuncts-sound tables part h.0) (all_conjuncts-sound tables parts h.1)
-
-parts-sound : (tables : List NamedTable) (condition : Option ConditionTree) → condition_fault tables condition ≡ None
-    → IfSome condition IsWellFormedCondition → All (IsSound tables) (conjuncts_in condition)
-parts-sound tables None none formed = All-nil (IsSound tables)
-parts-sound tables (Some tree) none formed =
-    let both = neither (predicates_fault tables 1 tree) (conjuncts_fault tables 1 tree) none in
-    conjuncts-sound tables tree (condition-sound tables 1 tree both.0 formed)
+  parts-sound : (condition : Option ConditionTree) → condition_fault tables condition ≡ None → IfSome condition IsWellFormedCondition
+      → HaveKinds parameters (parameters_of_condition condition) (parameter_kinds tables condition) → All (IsSound tables parameters) (conjuncts_in condition)
+  parts-sound None none formed have = All-nil (IsSound tables parameters)
+  parts-sound (Some tree) none formed have =
+      let both = neither (predicates_fault tables 1 tree) (conjuncts_fault tables 1 tree) none in
+      conjuncts-sound tree (condition-sound 1 tree both.0 formed have)
 
 -- no column is of another relation
 abbrev IsWithin : ℕ → Reach → Type 0
@@ -279,98 +300,84 @@ not_null value.Null h = absurd h
 not_null (value.Int number) h = λ e. cc
 not_null (value.Text text) h = λ e. cc
 
-operand-fits : (tables : List NamedTable) (relation : ℕ) (t : Term) → IsGood tables t → IsWithin relation (reach_of_term tables t)
-    → IsOperand [] (kinds (table_named tables relation)) (bound_operand tables t)
-operand-fits tables relation (term.Column written) good here =
-    subst (λ n. (place_of tables written).column < length (kinds (table_named tables n))) here
-    (omega (arith, good.1, kinds-count (table_named tables (place_of tables written).relation)))
-operand-fits tables relation (term.Literal literal) good here = not_null literal good
+module _ (tables : List NamedTable) (parameters : List Kind) (relation : ℕ) where
+  -- what the columns of the relation hold
+  abbrev columns_here : List ColumnType
+  columns_here = kinds (table_named tables relation)
 
-operand-kind : (tables : List NamedTable) (relation : ℕ) (t : Term) → IsWithin relation (reach_of_term tables t)
-    → is_text_operand [] (kinds (table_named tables relation)) (bound_operand tables t) ≡ is_text_term tables t
-operand-kind tables relation (term.Column written) here =
-    ap (λ n. holds_texts (kind_at (kinds (table_named tables n)) (place_of tables written).column)) (sym here)
-operand-kind tables relation (term.Literal literal) here = refl
+  -- an operand of this kind that, if it is a column, is one of the relation
+  abbrev IsHere : Kind → Term → Type 0
+  IsHere of t = IsGood tables parameters of t × IsWithin relation (reach_of_term tables t)
 
-agreed : (a b : Bool) → agree a b ≡ true → a ≡ b
-agreed true b h = sym h
-agreed false true h = h
-agreed false false h = refl
+  operand-fits : (of : Kind) (t : Term) → IsHere of t → IsOperand parameters columns_here (bound_operand tables t)
+  operand-fits of (term.Column written) is =
+      subst (λ n. (place_of tables written).column < length (kinds (table_named tables n))) is.1
+      (omega (arith, is.0.0.1, kinds-count (table_named tables (place_of tables written).relation)))
+  operand-fits of (term.Literal literal) is = not_null literal is.0.0
+  operand-fits of (term.Parameter number) is = is.0.0
 
-both-true : (a b : Bool) → (a && b) ≡ true → (a ≡ true) × (b ≡ true)
-both-true true b h = (refl, h)
-both-true false b h = absurd (true≢false (sym h))
+  operand-kind : (of : Kind) (t : Term) → IsHere of t → is_text_operand parameters columns_here (bound_operand tables t) ≡ is_text_kind of
+  operand-kind of (term.Column written) is =
+      ap (λ n. holds_texts (kind_at (kinds (table_named tables n)) (place_of tables written).column)) (sym is.1) ∙ is.0.1
+  operand-kind of (term.Literal literal) is = is.0.1
+  operand-kind of (term.Parameter number) is = ap is_text_kind is.0.1
 
-operands-fit : (tables : List NamedTable) (relation : ℕ) (a b : Term) → IsGood tables a → IsGood tables b
-    → agree (is_text_term tables a) (is_text_term tables b) ≡ true → IsWithin relation (reach_of_term tables a) → IsWithin relation (reach_of_term tables b)
-    → AreOperands [] (kinds (table_named tables relation)) (bound_operand tables a) (bound_operand tables b)
-operands-fit tables relation a b good_a good_b alike here_a here_b = (
-  operand-fits tables relation a good_a here_a,
-  operand-fits tables relation b good_b here_b,
-  operand-kind tables relation a here_a ∙ agreed (is_text_term tables a) (is_text_term tables b) alike ∙ sym (operand-kind tables relation b here_b),
-)
+  operands-fit : (of : Kind) (a b : Term) → IsHere of a → IsHere of b → AreOperands parameters columns_here (bound_operand tables a) (bound_operand tables b)
+  operands-fit of a b is_a is_b = (operand-fits of a is_a, operand-fits of b is_b, operand-kind of a is_a ∙ sym (operand-kind of b is_b))
 
-terms-fit : (tables : List NamedTable) (relation : ℕ) (of : Term) (terms : List Term) → IsGood tables of → AllByRecursion (IsGood tables) terms
-    → are_alike tables (of ∷ terms) ≡ true → IsWithin relation (reach_of_term tables of) → IsWithin relation (reach_of_terms tables terms)
-    → All (AreOperands [] (kinds (table_named tables relation)) (bound_operand tables of)) (map (bound_operand tables) terms)
-terms-fit tables relation of [] good goods alike here heres = All-nil (AreOperands [] (kinds (table_named tables relation)) (bound_operand tables of))
-terms-fit tables relation of (t ∷ terms) good goods alike here heres =
-    let both = both-true (agree (is_text_term tables of) (is_text_term tables t)) (are_alike tables (of ∷ terms)) alike in
-    let reached = both-within relation (reach_of_term tables t) (reach_of_terms tables terms) heres in
-    All-cons (AreOperands [] (kinds (table_named tables relation)) (bound_operand tables of)) (bound_operand tables t) (map (bound_operand tables) terms)
-    (operands-fit tables relation of t good goods.0 both.0 here reached.0) (terms-fit tables relation of terms good goods.1 both.1 here reached.1)
+  terms-fit : (of : Kind) (first : Term) (terms : List Term) → IsHere of first → AllByRecursion (IsGood tables parameters of) terms
+      → IsWithin relation (reach_of_terms tables terms)
+      → All (AreOperands parameters columns_here (bound_operand tables first)) (map (bound_operand tables) terms)
+  terms-fit of first [] is goods heres = All-nil (AreOperands parameters columns_here (bound_operand tables first))
+  terms-fit of first (t ∷ terms) is goods heres =
+      let reached = both-within relation (reach_of_term tables t) (reach_of_terms tables terms) heres in
+      All-cons (AreOperands parameters columns_here (bound_operand tables first)) (bound_operand tables t) (map (bound_operand tables) terms)
+      (operands-fit of first t is (goods.0, reached.0)) (terms-fit of first terms is goods.1 reached.1)
 
-negated-fits : (columns : List ColumnType) (negated : Bool) (tree : FilterTree) → FitsColumns [] columns tree → FitsColumns [] columns (negated_if negated tree)
-negated-fits columns true tree h = h
-negated-fits columns false tree h = h
+  negated-fits : (negated : Bool) (tree : FilterTree) → FitsColumns parameters columns_here tree → FitsColumns parameters columns_here (negated_if negated tree)
+  negated-fits true tree h = h
+  negated-fits false tree h = h
 
-mutual
-  condition-fits : (tables : List NamedTable) (relation : ℕ) (tree : ConditionTree) → IsSound tables tree → IsWithin relation (reach_of tables tree)
-      → FitsColumns [] (kinds (table_named tables relation)) (bound_condition tables tree)
-  condition-fits tables relation (Compare op left right) h here =
-      let heres = both-within relation (reach_of_term tables left) (reach_of_term tables right) here in
-      let alike = both-true (agree (is_text_term tables left) (is_text_term tables right)) true h.1 in
-      operands-fit tables relation left right h.0.0 h.0.1.0 alike.0 heres.0 heres.1
-  condition-fits tables relation (Between negated of low high) h here =
-      let heres = both-within relation (reach_of_term tables of) (joined_reach (reach_of_term tables low) (reach_of_term tables high)) here in
-      let others = both-within relation (reach_of_term tables low) (reach_of_term tables high) heres.1 in
-      let alike = both-true (agree (is_text_term tables of) (is_text_term tables low)) (agree (is_text_term tables of) (is_text_term tables high) && true) h.1 in
-      let other = both-true (agree (is_text_term tables of) (is_text_term tables high)) true alike.1 in
-      negated-fits (kinds (table_named tables relation)) negated _ (
-        operands-fit tables relation of low h.0.0 h.0.1.0 alike.0 heres.0 others.0,
-        operands-fit tables relation of high h.0.0 h.0.1.1.0 other.0 heres.0 others.1,
-      )
-  condition-fits tables relation (OneOf negated of terms) h here =
-      let heres = both-within relation (reach_of_term tables of) (reach_of_terms tables terms) here in
-      negated-fits (kinds (table_named tables relation)) negated _
-      (operand-fits tables relation of h.0.0 heres.0, terms-fit tables relation of terms h.0.0 h.0.1 h.1 heres.0 heres.1)
-  condition-fits tables relation (IsNull negated column) h here =
-      negated-fits (kinds (table_named tables relation)) negated _ (operand-fits tables relation (term.Column column) h.0.0 here)
-  condition-fits tables relation (Not inner) h here = condition-fits tables relation inner h here
-  condition-fits tables relation (And parts) h here = conditions-fit tables relation parts h here
-  condition-fits tables relation (Or parts) h here = conditions-fit tables relation parts h here
+  mutual
+    condition-fits : (tree : ConditionTree) → IsSound tables parameters tree → IsWithin relation (reach_of tables tree)
+        → FitsColumns parameters columns_here (bound_condition tables tree)
+    condition-fits (Compare op left right) h here =
+        let heres = both-within relation (reach_of_term tables left) (reach_of_term tables right) here in
+        operands-fit h.of left right (h.all.0, heres.0) (h.all.1.0, heres.1)
+    condition-fits (Between negated of low high) h here =
+        let heres = both-within relation (reach_of_term tables of) (joined_reach (reach_of_term tables low) (reach_of_term tables high)) here in
+        let others = both-within relation (reach_of_term tables low) (reach_of_term tables high) heres.1 in
+        negated-fits negated _ (
+          operands-fit h.of of low (h.all.0, heres.0) (h.all.1.0, others.0),
+          operands-fit h.of of high (h.all.0, heres.0) (h.all.1.1.0, others.1),
+        )
+    condition-fits (OneOf negated of terms) h here =
+        let heres = both-within relation (reach_of_term tables of) (reach_of_terms tables terms) here in
+        negated-fits negated _ (operand-fits h.of of (h.all.0, heres.0), terms-fit h.of of terms (h.all.0, heres.0) h.all.1 heres.1)
+    condition-fits (IsNull negated column) h here = negated-fits negated _ (operand-fits h.of (term.Column column) (h.all.0, here))
+    condition-fits (Not inner) h here = condition-fits inner h here
+    condition-fits (And parts) h here = conditions-fit parts h here
+    condition-fits (Or parts) h here = conditions-fit parts h here
 
-  conditions-fit : (tables : List NamedTable) (relation : ℕ) (parts : ConditionTrees) → AreSound tables parts → IsWithin relation (reach_of_all tables parts)
-      → FitColumns [] (kinds (table_named tables relation)) (bound_conditions tables parts)
-  conditions-fit tables relation NoMore h here = tt
-  conditions-fit tables relation (More part parts) h here =
-      let heres = both-within relation (reach_of tables part) (reach_of_all tables parts) here in
-      (condition-fits tables relation part h.0 heres.0, conditions-fit tables relation parts h.1 heres.1)
+    conditions-fit : (parts : ConditionTrees) → AreSound tables parameters parts → IsWithin relation (reach_of_all tables parts)
+        → FitColumns parameters columns_here (bound_conditions tables parts)
+    conditions-fit NoMore h here = tt
+    conditions-fit (More part parts) h here =
+        let heres = both-within relation (reach_of tables part) (reach_of_all tables parts) here in
+        (condition-fits part h.0 heres.0, conditions-fit parts h.1 heres.1)
 
-filter-sound : (tables : List NamedTable) (relation : ℕ) (parts : List ConditionTree) → All (IsSound tables) parts
-    → All (λ part. FitsColumns [] (kinds (table_named tables relation)) (bound_condition tables part)) (filter (is_filter_of tables relation) parts)
-filter-sound tables relation [] h = All-nil (λ part. FitsColumns [] (kinds (table_named tables relation)) (bound_condition tables part))
-filter-sound tables relation (part ∷ parts) h =
-    kept-if (λ some. FitsColumns [] (kinds (table_named tables relation)) (bound_condition tables some)) (is_filter_of tables relation part) part
-    (filter (is_filter_of tables relation) parts)
-    (λ one. condition-fits tables relation part (All-head (IsSound tables) part parts h) (filtered-within relation (reach_of tables part) one))
-    (filter-sound tables relation parts (All-tail (IsSound tables) part parts h))
+  filter-sound : (parts : List ConditionTree) → All (IsSound tables parameters) parts
+      → All (λ part. FitsColumns parameters columns_here (bound_condition tables part)) (filter (is_filter_of tables relation) parts)
+  filter-sound [] h = All-nil (λ part. FitsColumns parameters columns_here (bound_condition tables part))
+  filter-sound (part ∷ parts) h =
+      kept-if (λ some. FitsColumns parameters columns_here (bound_condition tables some)) (is_filter_of tables relation part) part
+      (filter (is_filter_of tables relation) parts)
+      (λ one. condition-fits part (All-head (IsSound tables parameters) part parts h) (filtered-within relation (reach_of tables part) one))
+      (filter-sound parts (All-tail (IsSound tables parameters) part parts h))
 
-filter-fits : (tables : List NamedTable) (relation : ℕ) (parts : List ConditionTree) → All (IsSound tables) parts
-    → All (FitsColumns [] (kinds (table_named tables relation))) (filter_of tables parts relation)
-filter-fits tables relation parts h =
-    All-map (FitsColumns [] (kinds (table_named tables relation))) (bound_condition tables) (filter (is_filter_of tables relation) parts)
-    (filter-sound tables relation parts h)
+  filter-fits : (parts : List ConditionTree) → All (IsSound tables parameters) parts → All (FitsColumns parameters columns_here) (filter_of tables parts relation)
+  filter-fits parts h =
+      All-map (FitsColumns parameters columns_here) (bound_condition tables) (filter (is_filter_of tables relation) parts) (filter-sound parts h)
 
 -- the edge between two columns that exist, of one kind and of different relations
 between-sound : (relations : List RelationTree) (a b : ColumnAt) → IsPlace relations a → IsPlace relations b
@@ -409,62 +416,63 @@ equality-sound tables parts a b found here_a here_b alike e =
     (between-sound (relations_from tables parts 0 tables) place_a place_b (place-sound tables parts place_a here_a) (place-sound tables parts place_b here_b)
     (kind-there tables parts place_a ∙ alike ∙ sym (kind-there tables parts place_b)) apart.0)
 
-compare-sound : (tables : List NamedTable) (parts : List ConditionTree) (op : Op) (left right : Term) (found : Edge) → IsSound tables (Compare op left right)
+compare-sound : (tables : List NamedTable) (parameters : List Kind) (parts : List ConditionTree) (op : Op) (left right : Term) (found : Edge) → IsSound tables parameters (Compare op left right)
     → edge_of tables (Compare op left right) ≡ Some found → IsEdge (relations_from tables parts 0 tables) found
-compare-sound tables parts Eq (term.Column a) (term.Column b) found h e =
-    let alike = both-true (agree (is_text_term tables (term.Column a)) (is_text_term tables (term.Column b))) true h.1 in
-    equality-sound tables parts a b found h.0.0 h.0.1.0 (agreed (is_text_term tables (term.Column a)) (is_text_term tables (term.Column b)) alike.0) e
-compare-sound tables parts Eq (term.Column a) (term.Literal v) found h e = absurd (no_edge (reach_of tables (Compare Eq (term.Column a) (term.Literal v))) found e)
-compare-sound tables parts Eq (term.Literal v) right found h e = absurd (no_edge (reach_of_term tables right) found e)
-compare-sound tables parts Ne left right found h e = absurd (no_edge (reach_of tables (Compare Ne left right)) found e)
-compare-sound tables parts Lt left right found h e = absurd (no_edge (reach_of tables (Compare Lt left right)) found e)
-compare-sound tables parts Le left right found h e = absurd (no_edge (reach_of tables (Compare Le left right)) found e)
-compare-sound tables parts Gt left right found h e = absurd (no_edge (reach_of tables (Compare Gt left right)) found e)
-compare-sound tables parts Ge left right found h e = absurd (no_edge (reach_of tables (Compare Ge left right)) found e)
+compare-sound tables parameters parts Eq (term.Column a) (term.Column b) found h e =
+    equality-sound tables parts a b found h.all.0.0 h.all.1.0.0 (h.all.0.1 ∙ sym h.all.1.0.1) e
+compare-sound tables parameters parts Eq (term.Column a) (term.Literal v) found h e = absurd (no_edge (reach_of tables (Compare Eq (term.Column a) (term.Literal v))) found e)
+compare-sound tables parameters parts Eq (term.Column a) (term.Parameter n) found h e = absurd (no_edge (reach_of tables (Compare Eq (term.Column a) (term.Parameter n))) found e)
+compare-sound tables parameters parts Eq (term.Literal v) right found h e = absurd (no_edge (reach_of_term tables right) found e)
+compare-sound tables parameters parts Eq (term.Parameter n) right found h e = absurd (no_edge (reach_of_term tables right) found e)
+compare-sound tables parameters parts Ne left right found h e = absurd (no_edge (reach_of tables (Compare Ne left right)) found e)
+compare-sound tables parameters parts Lt left right found h e = absurd (no_edge (reach_of tables (Compare Lt left right)) found e)
+compare-sound tables parameters parts Le left right found h e = absurd (no_edge (reach_of tables (Compare Le left right)) found e)
+compare-sound tables parameters parts Gt left right found h e = absurd (no_edge (reach_of tables (Compare Gt left right)) found e)
+compare-sound tables parameters parts Ge left right found h e = absurd (no_edge (reach_of tables (Compare Ge left right)) found e)
 
-edge-sound : (tables : List NamedTable) (parts : List ConditionTree) (conjunct : ConditionTree) (found : Edge) → IsSound tables conjunct
+edge-sound : (tables : List NamedTable) (parameters : List Kind) (parts : List ConditionTree) (conjunct : ConditionTree) (found : Edge) → IsSound tables parameters conjunct
     → edge_of tables conjunct ≡ Some found → IsEdge (relations_from tables parts 0 tables) found
-edge-sound tables parts (Compare op left right) found h e = compare-sound tables parts op left right found h e
-edge-sound tables parts (Between negated of low high) found h e = absurd (no_edge (reach_of tables (Between negated of low high)) found e)
-edge-sound tables parts (OneOf negated of terms) found h e = absurd (no_edge (reach_of tables (OneOf negated of terms)) found e)
-edge-sound tables parts (IsNull negated column) found h e = absurd (no_edge (reach_of tables (IsNull negated column)) found e)
-edge-sound tables parts (Not inner) found h e = absurd (no_edge (reach_of tables (Not inner)) found e)
-edge-sound tables parts (And inner) found h e = absurd (no_edge (reach_of tables (And inner)) found e)
-edge-sound tables parts (Or inner) found h e = absurd (no_edge (reach_of tables (Or inner)) found e)
+edge-sound tables parameters parts (Compare op left right) found h e = compare-sound tables parameters parts op left right found h e
+edge-sound tables parameters parts (Between negated of low high) found h e = absurd (no_edge (reach_of tables (Between negated of low high)) found e)
+edge-sound tables parameters parts (OneOf negated of terms) found h e = absurd (no_edge (reach_of tables (OneOf negated of terms)) found e)
+edge-sound tables parameters parts (IsNull negated column) found h e = absurd (no_edge (reach_of tables (IsNull negated column)) found e)
+edge-sound tables parameters parts (Not inner) found h e = absurd (no_edge (reach_of tables (Not inner)) found e)
+edge-sound tables parameters parts (And inner) found h e = absurd (no_edge (reach_of tables (And inner)) found e)
+edge-sound tables parameters parts (Or inner) found h e = absurd (no_edge (reach_of tables (Or inner)) found e)
 
 all-with : {X : Type 0} (P : X → Type 0) (o : Option X) (xs : List X) → ((x : X) → o ≡ Some x → P x) → All P xs → All P (cons_option o xs)
 all-with P None xs p h = h
 all-with P (Some x) xs p h = All-cons P x xs (p x refl) h
 
-edges-sound : (tables : List NamedTable) (parts some : List ConditionTree) → All (IsSound tables) some
+edges-sound : (tables : List NamedTable) (parameters : List Kind) (parts some : List ConditionTree) → All (IsSound tables parameters) some
     → All (IsEdge (relations_from tables parts 0 tables)) (edges_of tables some)
-edges-sound tables parts [] h = All-nil (IsEdge (relations_from tables parts 0 tables))
-edges-sound tables parts (conjunct ∷ some) h =
+edges-sound tables parameters parts [] h = All-nil (IsEdge (relations_from tables parts 0 tables))
+edges-sound tables parameters parts (conjunct ∷ some) h =
     all-with (IsEdge (relations_from tables parts 0 tables)) (edge_of tables conjunct) (edges_of tables some)
-    (λ found e. edge-sound tables parts conjunct found (All-head (IsSound tables) conjunct some h) e)
-    (edges-sound tables parts some (All-tail (IsSound tables) conjunct some h))
+    (λ found e. edge-sound tables parameters parts conjunct found (All-head (IsSound tables parameters) conjunct some h) e)
+    (edges-sound tables parameters parts some (All-tail (IsSound tables parameters) conjunct some h))
 
-relation-sound : (tables : List NamedTable) (parts : List ConditionTree) (relation : ℕ) (table : NamedTable) → table_named tables relation ≡ table → IsNamed table
-    → All (IsSound tables) parts
-    → IsRelation [] (record { table = table.number; columns = kinds table; filter = filter_of tables parts relation; indexes = table.indexed })
-relation-sound tables parts relation table same named h = record {
+relation-sound : (tables : List NamedTable) (parameters : List Kind) (parts : List ConditionTree) (relation : ℕ) (table : NamedTable) → table_named tables relation ≡ table → IsNamed table
+    → All (IsSound tables parameters) parts
+    → IsRelation parameters (record { table = table.number; columns = kinds table; filter = filter_of tables parts relation; indexes = table.indexed })
+relation-sound tables parameters parts relation table same named h = record {
   some = omega (arith, named.some, kinds-count table);
   few = omega (arith, named.few, kinds-count table);
-  filter = subst (λ (t : NamedTable). All (FitsColumns [] (kinds t)) (filter_of tables parts relation)) same (filter-fits tables relation parts h);
+  filter = subst (λ (t : NamedTable). All (FitsColumns parameters (kinds t)) (filter_of tables parts relation)) same (filter-fits tables parameters relation parts h);
   indexes = λ k d below. omega (arith, named.indexed k d below, kinds-count table);
   different = named.different;
 }
 
-relations-sound : (tables : List NamedTable) (parts : List ConditionTree) (relation : ℕ) (rest : List NamedTable)
-    → ((k : ℕ) → table_named tables (relation + k) ≡ table_named rest k) → All IsNamed rest → All (IsSound tables) parts
-    → All (IsRelation []) (relations_from tables parts relation rest)
-relations-sound tables parts relation [] same named h = All-nil (IsRelation [])
-relations-sound tables parts relation (table ∷ rest) same named h =
+relations-sound : (tables : List NamedTable) (parameters : List Kind) (parts : List ConditionTree) (relation : ℕ) (rest : List NamedTable)
+    → ((k : ℕ) → table_named tables (relation + k) ≡ table_named rest k) → All IsNamed rest → All (IsSound tables parameters) parts
+    → All (IsRelation parameters) (relations_from tables parts relation rest)
+relations-sound tables parameters parts relation [] same named h = All-nil (IsRelation parameters)
+relations-sound tables parameters parts relation (table ∷ rest) same named h =
     let first : relation ≡ relation + 0 = omega arith in
     let next : (k : ℕ) → relation + 1 + k ≡ relation + suc k = λ k. omega arith in
-    All-cons (IsRelation []) _ (relations_from tables parts (relation + 1) rest)
-    (relation-sound tables parts relation table (ap (table_named tables) first ∙ same 0) (All-head IsNamed table rest named) h)
-    (relations-sound tables parts (relation + 1) rest (λ k. ap (table_named tables) (next k) ∙ same (suc k)) (All-tail IsNamed table rest named) h)
+    All-cons (IsRelation parameters) _ (relations_from tables parts (relation + 1) rest)
+    (relation-sound tables parameters parts relation table (ap (table_named tables) first ∙ same 0) (All-head IsNamed table rest named) h)
+    (relations-sound tables parameters parts (relation + 1) rest (λ k. ap (table_named tables) (next k) ∙ same (suc k)) (All-tail IsNamed table rest named) h)
 
 columns-sound : (tables : List NamedTable) (parts : List ConditionTree) (columns : List ColRef) → written_columns_fault tables columns ≡ None
     → All (IsPlace (relations_from tables parts 0 tables)) (map (place_of tables) columns)
@@ -487,60 +495,43 @@ record IsFree (database : DatabaseState) (query : QueryTree) : Type 0 where
   tables : length query.from ≤ max_relations
   projection : projection_fault (named_tables database query.from) query.columns ≡ None
   condition : condition_fault (named_tables database query.from) query.condition ≡ None
-  edges : length (edges_of (named_tables database query.from) (conjuncts_in query.condition)) ≤ max_axes
+  axes : axes_of (block_of database query) ≤ max_axes
 
 free : (database : DatabaseState) (query : QueryTree) → bind_fault database query ≡ None → IsFree database query
 free database query none =
     let tables = named_tables database query.from in
-    let of_edges = past_limit limit.Axes max_axes (length (edges_of tables (conjuncts_in query.condition))) in
-    let of_condition = option_or (condition_fault tables query.condition) of_edges in
+    let of_axes = past_limit limit.Axes max_axes (axes_of (block_of database query)) in
+    let of_condition = option_or (condition_fault tables query.condition) of_axes in
     let of_projection = option_or (projection_fault tables query.columns) of_condition in
     let few = neither (past_limit limit.Relations max_relations (length query.from)) (option_or (from_fault database [] query.from) of_projection) none in
     let from = neither (from_fault database [] query.from) of_projection few.1 in
     let projected = neither (projection_fault tables query.columns) of_condition from.1 in
-    let filtered = neither (condition_fault tables query.condition) of_edges projected.1 in
+    let filtered = neither (condition_fault tables query.condition) of_axes projected.1 in
     record {
       tables = within limit.Relations max_relations (length query.from) few.0;
       projection = projected.0;
       condition = filtered.0;
-      edges = within limit.Axes max_axes (length (edges_of tables (conjuncts_in query.condition))) filtered.1;
+      axes = within limit.Axes max_axes (axes_of (block_of database query)) filtered.1;
     }
-
--- relations that fit no parameters have none: they are a block without edges, which no values change
-closed : (relations : List RelationTree) → 1 ≤ length relations → length relations ≤ max_relations → All (IsRelation []) relations → count_by has_parameter relations ≡ 0
-closed relations some few all =
-    let block : BlockTree = record { relations = relations; edges = []; projection = []; parameters = [] } in
-    let is : IsBlock block = record {
-      some = some;
-      few = few;
-      relations = all;
-      axes = omega (arith, few, count_by-le-length has_parameter relations);
-      edges = All-nil (IsEdge relations);
-      projection = All-nil (IsPlace relations);
-      parameters = lit< tt;
-    } in
-    let same : map (put_relation []) relations ≡ relations = ap (λ (one : BlockTree). one.relations) (put-none block is refl) in
-    ap (count_by has_parameter) (sym same) ∙ none-left [] relations
 
 pub block-sound : (database : DatabaseState) (query : QueryTree) → IsWellFormedQuery query → All IsNamed (named_tables database query.from)
     → bind_fault database query ≡ None → IsBlock (block_of database query)
 block-sound database query formed named none =
     let tables = named_tables database query.from in
     let parts = conjuncts_in query.condition in
+    let parameters = parameter_kinds tables query.condition in
     let h = free database query none in
-    let sound = parts-sound tables query.condition h.condition formed.2 in
+    let have = have-own parameters (parameters_of_condition query.condition) formed.numbered in
+    let sound = parts-sound tables parameters query.condition h.condition formed.condition have in
     let count : length (relations_from tables parts 0 tables) ≡ length query.from =
     relations-count tables parts 0 tables ∙ length-map query.from (named_table database) in
     let here : (k : ℕ) → 0 + k ≡ k = λ k. omega arith in
-    let some : 1 ≤ length (relations_from tables parts 0 tables) = omega (arith, count, formed.0) in
-    let few : length (relations_from tables parts 0 tables) ≤ max_relations = omega (arith, count, h.tables) in
-    let relations = relations-sound tables parts 0 tables (λ k. ap (table_named tables) (here k)) named sound in
     record {
-      some = some;
-      few = few;
-      relations = relations;
-      axes = omega (arith, h.edges, closed (relations_from tables parts 0 tables) some few relations);
-      edges = edges-sound tables parts parts sound;
+      some = omega (arith, count, formed.tables);
+      few = omega (arith, count, h.tables);
+      relations = relations-sound tables parameters parts 0 tables (λ k. ap (table_named tables) (here k)) named sound;
+      axes = h.axes;
+      edges = edges-sound tables parameters parts parts sound;
       projection = projection-sound tables parts query.columns h.projection;
-      parameters = lit< tt;
+      parameters = subst (λ n. n < 2 ^ 32) (sym (parameter_kinds-count tables query.condition)) formed.few_parameters;
     }

@@ -5,6 +5,7 @@ pub mod Joined
 pub mod Collected
 pub mod Columns
 pub mod Counts
+pub mod Parameters
 pub mod Relations
 pub mod Blocks
 pub mod Whole

@@ -3,6 +3,7 @@ use Rattle.std.proofs.Common.{◌≡◌, ◌∙◌, ℕ, ◌+◌, ◌<◌, List,
 use Rattle.std.proofs.lemmas.List.{length-map, length-replicate}
 use Rattle.std.proofs.lemmas.List.Elements.{All-nil, All-cons, All-contains_itself}
 use Rattle.std.proofs.lemmas.List.Quantifiers.{position-Some}
+use Rattle.std.specs.List.{count_by, list_any}
 use Rattle.std.specs.Option.{option_or}
 use Rattle.std.specs.Prelude.{unwrap_or}
 use Rattle.std.specs.Str.{bytes_eq}
@@ -13,18 +14,20 @@ use Rattle.query_block.specs.declared.edge.Edge.{Edge}
 use Rattle.query_block.specs.declared.kind.Kind.{Kind}
 use Rattle.query_block.specs.declared.edge.ColumnAt.{ColumnAt}
 use Rattle.query_block.specs.Conditions.{FilterTree}
-use Rattle.query_block.specs.Blocks.{RelationTree, BlockTree}
+use Rattle.query_block.specs.Parameters.{is_open}
+use Rattle.query_block.specs.Blocks.{RelationTree, BlockTree, has_parameter}
 use Rattle.sql_parse.specs.declared.tree.Item.{Item}
 use Rattle.sql_parse.specs.Trees.{ConditionTree, QueryTree}
 use Rattle.db_catalog.specs.Database.{DatabaseState, table_number}
 use Rattle.db_catalog.specs.Fits.{FitsTable, Fits}
+use Rattle.sql_bind.specs.declared.binding.Asked.{Asked}
 use Rattle.sql_bind.specs.declared.conjuncts.Parts.{Parts}
 use Rattle.sql_bind.specs.declared.fault.BindFault.{BindFault}
 use Rattle.sql_bind.specs.Named.{NamedTable}
-use Rattle.sql_bind.specs.Binding.{named_table, named_tables, table_fault, alias_fault, from_fault, relation_with, relations_from, filter_of, block_of, conjuncts_in, projection_of, edges_of, past_limit, projection_fault, condition_fault, bind_fault}
-use Rattle.sql_bind.specs.Collected.{HasParts, filter_trees, more_filters, with_filters}
+use Rattle.sql_bind.specs.Binding.{named_table, named_tables, table_fault, alias_fault, from_fault, relation_with, relations_from, filter_of, block_of, conjuncts_in, parameter_kinds, projection_of, edges_of, past_limit, projection_fault, condition_fault, bind_fault}
+use Rattle.sql_bind.specs.Collected.{HasParts, IsAsked, filter_trees, more_filters, with_filters, axes_with, where_fault}
 use Rattle.sql_bind.proofs.Collected.{trees-count}
-use Rattle.sql_bind.proofs.Relations.{relations-of_parts}
+use Rattle.sql_bind.proofs.Relations.{relations-of_parts, open-count}
 
 -- checks of which none refuses
 pub none_of : (a b : Option BindFault) → a ≡ None → b ≡ None → option_or a b ≡ None
@@ -80,23 +83,32 @@ same_block relations other edges edges' projection projection' parameters parame
     ∙ ap (λ p. record { relations = other; edges = edges'; projection = p; parameters = parameters }) same_projection
     ∙ ap (λ k. record { relations = other; edges = edges'; projection = projection'; parameters = k }) same_parameters
 
+-- of a condition that isn't refused, the parts tell how many axes it asks for
+pub axes-due : (tables : List NamedTable) (condition : Option ConditionTree) (parts : Parts) → condition_fault tables condition ≡ None → HasParts tables (conjuncts_in condition) parts
+    → where_fault tables condition ≡ past_limit limit.Axes max_axes (length parts.edges.items + count_by (list_any is_open) (filter_trees parts.filters.items))
+axes-due tables condition parts none has =
+    let conjuncts = conjuncts_in condition in
+    let of_edges : length parts.edges.items ≡ length (edges_of tables conjuncts) = ap length has.edges in
+    let of_filters : count_by (list_any is_open) (filter_trees parts.filters.items) ≡ count_by has_parameter (relations_from tables conjuncts 0 tables) =
+    ap (count_by (list_any is_open)) has.filters ∙ open-count tables conjuncts 0 tables in
+    let same : axes_with tables conjuncts ≡ length parts.edges.items + count_by (list_any is_open) (filter_trees parts.filters.items) = omega (arith, of_edges, of_filters) in
+    ap (λ fault. option_or fault (past_limit limit.Axes max_axes (axes_with tables conjuncts))) none ∙ ap (past_limit limit.Axes max_axes) same
+
 -- parts that no check refused, put together, are the block, and nothing refuses the query
-pub whole : (database : DatabaseState) (query : QueryTree) (from : List Item) (tables : List NamedTable) (parts : Parts) (relations : List RelationTree) (projection : List ColumnAt) (parameters : List Kind) (edges : ℕ)
-    → from ≡ query.from → tables ≡ named_tables database from → HasParts tables (conjuncts_in query.condition) parts → relations ≡ with_filters tables (filter_trees parts.filters.items)
-    → projection ≡ projection_of tables query.columns → past_limit limit.Relations max_relations (length from) ≡ None → from_fault database [] from ≡ None
-    → projection_fault tables query.columns ≡ None → condition_fault tables query.condition ≡ None → edges ≡ length parts.edges.items → past_limit limit.Axes max_axes edges ≡ None → parameters ≡ []
-    → ((let block : BlockTree = record { relations = relations; edges = parts.edges.items; projection = projection; parameters = parameters } in block) ≡ block_of database query) × (bind_fault database query ≡ None)
-whole database query from tables parts relations projection parameters edges items is has made asked few from_none projection_none condition_none count axes_none none =
+pub whole : (database : DatabaseState) (query : QueryTree) (from : List Item) (tables : List NamedTable) (asked : Asked) (relations : List RelationTree) (projection : List ColumnAt)
+    → from ≡ query.from → tables ≡ named_tables database from → IsAsked tables query.condition asked → relations ≡ with_filters tables (filter_trees asked.parts.filters.items)
+    → projection ≡ projection_of tables query.columns → past_limit limit.Relations max_relations (length from) ≡ None
+    → from_fault database [] from ≡ None → projection_fault tables query.columns ≡ None → where_fault tables query.condition ≡ None
+    → ((let block : BlockTree = record { relations = relations; edges = asked.parts.edges.items; projection = projection; parameters = asked.parameters.items } in block) ≡ block_of database query) × (bind_fault database query ≡ None)
+whole database query from tables asked relations projection items is has made named_are few from_none projection_none where_none =
     let conjuncts = conjuncts_in query.condition in
     let named = is ∙ ap (named_tables database) items in
-    let blocks : List NamedTable → BlockTree = λ some. record { relations = relations_from some conjuncts 0 some; edges = edges_of some conjuncts; projection = projection_of some query.columns; parameters = [] } in
-    let edges_are : edges ≡ length (edges_of (named_tables database query.from) conjuncts) = count ∙ ap length has.edges ∙ ap (λ some. length (edges_of some conjuncts)) named in (
-      same_block relations (relations_from tables conjuncts 0 tables) parts.edges.items (edges_of tables conjuncts) projection (projection_of tables query.columns) parameters []
-          (made ∙ ap (with_filters tables) has.filters ∙ relations-of_parts tables conjuncts 0 tables) has.edges asked none
+    let blocks : List NamedTable → BlockTree = λ some. record { relations = relations_from some conjuncts 0 some; edges = edges_of some conjuncts; projection = projection_of some query.columns; parameters = parameter_kinds some query.condition } in (
+      same_block relations (relations_from tables conjuncts 0 tables) asked.parts.edges.items (edges_of tables conjuncts) projection (projection_of tables query.columns) asked.parameters.items (parameter_kinds tables query.condition)
+          (made ∙ ap (with_filters tables) has.parts.filters ∙ relations-of_parts tables conjuncts 0 tables) has.parts.edges named_are has.parameters
           ∙ ap blocks named,
       none_of _ _ (ap (λ some. past_limit limit.Relations max_relations (length some)) (sym items) ∙ few)
           (none_of _ _ (ap (from_fault database []) (sym items) ∙ from_none)
           (none_of _ _ (ap (λ some. projection_fault some query.columns) (sym named) ∙ projection_none)
-          (none_of _ _ (ap (λ some. condition_fault some query.condition) (sym named) ∙ condition_none)
-          (ap (past_limit limit.Axes max_axes) (sym edges_are) ∙ axes_none)))),
+          (ap (λ some. where_fault some query.condition) (sym named) ∙ where_none))),
     )

@@ -9,8 +9,9 @@ use Rattle.sql_values.specs.Dictionary.{has_text}
 use Rattle.sql_values.specs.Limits.{max_relations, max_projection, max_axes}
 use Rattle.query_block.specs.declared.edge.ColumnAt.{ColumnAt}
 use Rattle.query_block.specs.declared.edge.Edge.{Edge}
+use Rattle.query_block.specs.declared.kind.Kind.{Kind}
 use Rattle.query_block.specs.Conditions.{FilterTree}
-use Rattle.query_block.specs.Blocks.{RelationTree, BlockTree}
+use Rattle.query_block.specs.Blocks.{RelationTree, BlockTree, axes_of}
 use Rattle.sql_parse.specs.declared.tree.ColRef.{ColRef}
 use Rattle.sql_parse.specs.declared.tree.Item.{Item}
 use Rattle.sql_parse.specs.Trees.{ConditionTree, QueryTree}
@@ -19,7 +20,7 @@ use Rattle.sql_bind.specs.declared.fault.BindFault.{BindFault}
 use Rattle.sql_bind.specs.declared.fault.BindFault.TheVariants.{UnknownTable, DuplicateAlias, Limit}
 use Rattle.sql_bind.specs.Named.{NamedTable}
 use Rattle.sql_bind.specs.Names.{place_of, written_columns_fault}
-use Rattle.sql_bind.specs.Predicates.{predicates_fault}
+use Rattle.sql_bind.specs.Predicates.{predicates_fault, condition_parameters}
 use Rattle.sql_bind.specs.Conjuncts.{conjuncts, reach_of, filtered, is_relation, edge_of, conjuncts_fault, bound_condition}
 
 -- a table of FROM, where the database has it
@@ -112,7 +113,12 @@ relations_from tables parts relation [] = []
 relations_from tables parts relation (table ∷ rest) =
     relation_with table (filter_of tables parts relation) ∷ relations_from tables parts (relation + 1) rest
 
--- the block of a query that nothing refuses: it has no parameter
+-- the kinds of the parameters in WHERE, in written order
+abbrev pub parameter_kinds : List NamedTable → Option ConditionTree → List Kind
+parameter_kinds tables None = []
+parameter_kinds tables (Some condition) = condition_parameters tables condition
+
+-- the block of a query that nothing refuses
 abbrev pub block_of : DatabaseState → QueryTree → BlockTree
 block_of database query =
     let tables = named_tables database query.from in
@@ -121,7 +127,7 @@ block_of database query =
       relations = relations_from tables parts 0 tables;
       edges = edges_of tables parts;
       projection = projection_of tables query.columns;
-      parameters = [];
+      parameters = parameter_kinds tables query.condition;
     }
 
 -- FROM has too many tables
@@ -129,7 +135,7 @@ abbrev pub tables_past_limit : QueryTree → Option BindFault
 tables_past_limit query = past_limit limit.Relations max_relations (length query.from)
 
 -- what refuses a query: how many tables FROM has, each of them, the columns that SELECT names, the condition of WHERE,
--- and how many edges it has
+-- and how many axes its block would have
 abbrev pub bind_fault : DatabaseState → QueryTree → Option BindFault
 bind_fault database query =
     let tables = named_tables database query.from in
@@ -137,4 +143,4 @@ bind_fault database query =
     (option_or (from_fault database [] query.from)
     (option_or (projection_fault tables query.columns)
     (option_or (condition_fault tables query.condition)
-    (past_limit limit.Axes max_axes (length (edges_of tables (conjuncts_in query.condition)))))))
+    (past_limit limit.Axes max_axes (axes_of (block_of database query))))))

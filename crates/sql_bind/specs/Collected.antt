@@ -1,17 +1,23 @@
 -- What the conjuncts so far come to: a filter for each relation, and the edges.
-use Rattle.std.specs.Prelude.{◌≡◌, ℕ, zero, suc, ◌+◌, List, [], ◌∷◌, ◌++◌, length, map, replicate}
+use Rattle.std.specs.Prelude.{◌≡◌, ℕ, zero, suc, ◌+◌, List, [], ◌∷◌, ◌++◌, Option, length, map, replicate}
+use Rattle.std.specs.List.{count_by}
+use Rattle.std.specs.Option.{option_or}
+use Rattle.sql_values.specs.Limits.{max_axes}
+use Rattle.sql_values.specs.declared.limit.LimitName.TheVariants as limit
 use Rattle.query_block.specs.declared.condition.Condition.{Condition}
 use Rattle.query_block.specs.Conditions.{FilterTree, filter_tree, chain}
 use Rattle.std.specs.declared.alloc.Global.{Global}
 use Rattle.std.specs.declared.vec.Vec.{Vec}
 use Rattle.sql_parse.specs.Trees.{ConditionTree, condition_tree, operands}
 use Rattle.sql_parse.specs.declared.tree.Cond.{Cond}
+use Rattle.sql_bind.specs.declared.binding.Asked.{Asked}
 use Rattle.sql_bind.specs.declared.conjuncts.Parts.{Parts}
+use Rattle.sql_bind.specs.declared.fault.BindFault.{BindFault}
 use Rattle.sql_bind.specs.Named.{NamedTable}
 use Rattle.sql_bind.specs.Conjuncts.{bound_condition, bound_conditions}
 use Rattle.query_block.specs.declared.block.Relation.{Relation}
-use Rattle.query_block.specs.Blocks.{RelationTree, relation_tree}
-use Rattle.sql_bind.specs.Binding.{edges_of, filter_of, relation_with}
+use Rattle.query_block.specs.Blocks.{RelationTree, relation_tree, has_parameter}
+use Rattle.sql_bind.specs.Binding.{edges_of, filter_of, relation_with, relations_from, conjuncts_in, parameter_kinds, condition_fault, past_limit}
 
 -- a condition with its columns by number
 abbrev pub IsBound : List NamedTable → ConditionTree → Condition → Type 0
@@ -59,3 +65,17 @@ HaveFilters tables filters relations = map relation_tree relations ≡ with_filt
 pub record HasParts (tables : List NamedTable) (conjuncts : List ConditionTree) (parts : Parts) : Type 0 where
   pub edges : parts.edges.items ≡ edges_of tables conjuncts
   pub filters : filter_trees parts.filters.items ≡ more_filters tables conjuncts 0 (replicate (length tables) [])
+
+-- the parts of the conjuncts of WHERE, and the kinds of its parameters
+pub record IsAsked (tables : List NamedTable) (condition : Option ConditionTree) (asked : Asked) : Type 0 where
+  pub parts : HasParts tables (conjuncts_in condition) asked.parts
+  pub parameters : asked.parameters.items ≡ parameter_kinds tables condition
+
+-- how many axes a block with these conjuncts has
+abbrev pub axes_with : List NamedTable → List ConditionTree → ℕ
+axes_with tables conjuncts = length (edges_of tables conjuncts) + count_by has_parameter (relations_from tables conjuncts 0 tables)
+
+-- the condition of WHERE, and then how many axes it asks for
+abbrev pub where_fault : List NamedTable → Option ConditionTree → Option BindFault
+where_fault tables condition =
+    option_or (condition_fault tables condition) (past_limit limit.Axes max_axes (axes_with tables (conjuncts_in condition)))

@@ -10,7 +10,7 @@ use Rattle.query_block.specs.Conditions.{FilterTree, FilterTrees}
 use Rattle.query_block.specs.Conditions as bound
 use Rattle.sql_parse.specs.declared.tree.Cond.{Cond}
 use Rattle.sql_parse.specs.declared.tree.Term.{Term}
-use Rattle.sql_parse.specs.declared.tree.Term.TheVariants.{Column, Literal}
+use Rattle.sql_parse.specs.declared.tree.Term.TheVariants.{Column, Literal, Parameter}
 use Rattle.sql_parse.specs.Trees.{ConditionTree, ConditionTrees, Compare, Between, OneOf, IsNull, Not, And, Or, NoMore, More, condition_tree, operands}
 use Rattle.sql_bind.specs.declared.fault.BindFault.{BindFault}
 use Rattle.sql_bind.specs.declared.fault.BindFault.TheVariants.{PredicateForm}
@@ -46,10 +46,11 @@ joined_reach (One r) (One s) = if r == s then One r else Several
 joined_reach (One r) Several = Several
 joined_reach Several b = Several
 
--- of which relation an operand is
+-- of which relation an operand is: a column alone is of one
 abbrev pub reach_of_term : List NamedTable → Term → Reach
 reach_of_term tables (Column written) = One (place_of tables written).relation
 reach_of_term tables (Literal value) = Nothing
+reach_of_term tables (Parameter number) = Nothing
 
 abbrev pub reach_of_terms : List NamedTable → List Term → Reach
 reach_of_terms tables [] = Nothing
@@ -82,7 +83,9 @@ edge_between a b =
 abbrev pub equality_between : List NamedTable → Op → Term → Term → Option Edge
 equality_between tables Eq (Column a) (Column b) = Some (edge_between (place_of tables a) (place_of tables b))
 equality_between tables Eq (Column a) (Literal v) = None
+equality_between tables Eq (Column a) (Parameter n) = None
 equality_between tables Eq (Literal v) right = None
+equality_between tables Eq (Parameter n) right = None
 equality_between tables Ne left right = None
 equality_between tables Lt left right = None
 equality_between tables Le left right = None
@@ -140,6 +143,7 @@ all_conjuncts_fault tables number parts = first_fault_from (conjunct_fault table
 abbrev pub bound_operand : List NamedTable → Term → Operand
 bound_operand tables (Column written) = operand.Column (place_of tables written).column
 bound_operand tables (Literal value) = operand.Literal value
+bound_operand tables (Parameter number) = operand.Parameter number
 
 -- a predicate's own NOT
 abbrev pub negated_if : Bool → FilterTree → FilterTree

@@ -1,18 +1,16 @@
--- The predicates of a condition, and the kinds of what they compare.
-use Rattle.std.specs.Prelude.{ℕ, Bool, true, false, not, List, [], ◌∷◌, ◌++◌, Option, Some, None, if◌then◌else◌, slice_index_or, map}
-use Rattle.std.specs.List.{list_all}
+-- The predicates of a condition, what refuses each, and the kinds of its parameters.
+use Rattle.std.specs.Prelude.{ℕ, List, [], ◌∷◌, ◌++◌, Option, Some, None, if◌then◌else◌, flat_map, map}
 use Rattle.std.specs.Option.{option_or}
-use Rattle.sql_values.specs.declared.column.ColumnType.{ColumnType}
-use Rattle.query_block.specs.declared.edge.ColumnAt.{ColumnAt}
-use Rattle.query_block.specs.Blocks.{kind_at, holds_texts, is_text}
+use Rattle.query_block.specs.declared.kind.Kind.{Kind}
 use Rattle.sql_parse.specs.declared.tree.Cond.{Cond}
 use Rattle.sql_parse.specs.declared.tree.Term.{Term}
-use Rattle.sql_parse.specs.declared.tree.Term.TheVariants.{Column, Literal}
+use Rattle.sql_parse.specs.declared.tree.Term.TheVariants.{Column, Literal, Parameter}
 use Rattle.sql_parse.specs.Trees.{ConditionTree, ConditionTrees, Compare, Between, OneOf, IsNull, Not, And, Or, NoMore, More, condition_tree, operands}
 use Rattle.sql_bind.specs.declared.fault.BindFault.{BindFault}
 use Rattle.sql_bind.specs.declared.fault.BindFault.TheVariants.{TypeMismatch}
 use Rattle.sql_bind.specs.Named.{NamedTable}
-use Rattle.sql_bind.specs.Names.{place_of, written_column_fault, first_fault_from}
+use Rattle.sql_bind.specs.Names.{written_column_fault, first_fault_from}
+use Rattle.sql_bind.specs.Kinds.{is_same_kind, kind_of_term, kind_of_terms, parameters_among}
 
 abbrev mutual
   -- each comparison, BETWEEN, IN and IS NULL of a condition, in written order
@@ -43,43 +41,37 @@ terms_of (Not inner) = []
 terms_of (And parts) = []
 terms_of (Or parts) = []
 
--- what a column of a relation holds
-abbrev pub kind_in : List NamedTable → ColumnAt → ColumnType
-kind_in tables place =
-    kind_at (map (λ column. column.kind) (slice_index_or tables place.relation (record { alias = []; number = 0; columns = []; indexed = [] })).columns) place.column
-
--- whether an operand is a text; else it is a number
-abbrev pub is_text_term : List NamedTable → Term → Bool
-is_text_term tables (Column written) = holds_texts (kind_in tables (place_of tables written))
-is_text_term tables (Literal value) = is_text value
-
--- whether two tests agree
-abbrev pub agree : Bool → Bool → Bool
-agree true b = b
-agree false b = not b
-
--- whether all operands are of the first one's kind
-abbrev pub are_alike : List NamedTable → List Term → Bool
-are_alike tables [] = true
-are_alike tables (first ∷ rest) = list_all (λ term. agree (is_text_term tables first) (is_text_term tables term)) rest
-
 -- an operand: a column of it names exactly one
 abbrev pub term_fault : List NamedTable → Term → Option BindFault
 term_fault tables (Column written) = written_column_fault tables written
 term_fault tables (Literal value) = None
+term_fault tables (Parameter number) = None
 
 -- operands from left to right
 abbrev pub terms_fault : List NamedTable → List Term → Option BindFault
 terms_fault tables [] = None
 terms_fault tables (term ∷ terms) = option_or (term_fault tables term) (terms_fault tables terms)
 
--- the kinds of operands
-abbrev pub kinds_fault : List NamedTable → ℕ → List Term → Option BindFault
-kinds_fault tables number terms = if are_alike tables terms then None else Some (TypeMismatch number)
+-- an operand of a predicate of this kind, by its own: that is the same, or it is a parameter
+abbrev pub term_kind_fault : ℕ → Kind → Option Kind → Option BindFault
+term_kind_fault number kind None = None
+term_kind_fault number kind (Some own) = if is_same_kind kind own then None else Some (TypeMismatch number)
+
+-- operands of a predicate of this kind, from left to right
+abbrev pub term_kinds_fault : List NamedTable → ℕ → Kind → List Term → Option BindFault
+term_kinds_fault tables number kind [] = None
+term_kinds_fault tables number kind (term ∷ terms) =
+    option_or (term_kind_fault number kind (kind_of_term tables term)) (term_kinds_fault tables number kind terms)
+
+-- operands of a predicate of a kind; it has none if all of them are parameters
+abbrev pub kinds_fault : List NamedTable → ℕ → Option Kind → List Term → Option BindFault
+kinds_fault tables number None terms = Some (TypeMismatch number)
+kinds_fault tables number (Some kind) terms = term_kinds_fault tables number kind terms
 
 -- the operands of a predicate, by its number: their columns from left to right, then their kinds
 abbrev pub operands_fault : List NamedTable → ℕ → List Term → Option BindFault
-operands_fault tables number terms = option_or (terms_fault tables terms) (kinds_fault tables number terms)
+operands_fault tables number terms =
+    option_or (terms_fault tables terms) (kinds_fault tables number (kind_of_terms tables terms) terms)
 
 abbrev pub predicate_fault : List NamedTable → ℕ → ConditionTree → Option BindFault
 predicate_fault tables number predicate = operands_fault tables number (terms_of predicate)
@@ -91,3 +83,15 @@ predicates_fault tables number condition = first_fault_from (predicate_fault tab
 -- the same of the operands of a chain
 abbrev pub all_predicates_fault : List NamedTable → ℕ → List Cond → Option BindFault
 all_predicates_fault tables number parts = first_fault_from (predicate_fault tables) number (all_predicates parts)
+
+-- the kinds of a predicate's parameters, in written order
+abbrev pub predicate_parameters : List NamedTable → ConditionTree → List Kind
+predicate_parameters tables predicate = parameters_among tables (terms_of predicate)
+
+-- the kinds of a condition's parameters, in written order
+abbrev pub condition_parameters : List NamedTable → ConditionTree → List Kind
+condition_parameters tables condition = flat_map (predicate_parameters tables) (predicates condition)
+
+-- the same of the operands of a chain
+abbrev pub all_condition_parameters : List NamedTable → List Cond → List Kind
+all_condition_parameters tables parts = flat_map (predicate_parameters tables) (all_predicates parts)

@@ -1,9 +1,10 @@
 -- When a check refuses, what comes of a query, and what a look-up has found so far.
-use Rattle.std.specs.Prelude.{◌≡◌, ◌≢◌, List, fold, Option, Some, None, Result, Err, OnOk, IfOk, IfErr, IfSome, MatchResult}
+use Rattle.std.specs.Prelude.{◌≡◌, ◌≢◌, List, fold, length, Option, Some, None, Result, Err, OnOk, IfOk, IfErr, IfSome, MatchResult}
 use Rattle.query_block.specs.Shape.{BlockShape}
 use Rattle.query_block.specs.declared.edge.ColumnAt.{ColumnAt}
 use Rattle.query_block.specs.Blocks.{block_tree}
 use Rattle.sql_parse.specs.Trees.{QueryTree}
+use Rattle.sql_parse.specs.Parameters.{parameters_of_condition}
 use Rattle.db_catalog.specs.Database.{DatabaseState}
 use Rattle.db_catalog.specs.Fits.{Fits}
 use Rattle.sql_bind.specs.declared.fault.BindFault.{BindFault}
@@ -21,11 +22,12 @@ pub record RefusesBlock {T : Type 0} (due : Option BindFault) (result : Result T
 abbrev pub RefusesAlways : {T : Type 0} → Option BindFault → Result T BindFault → Type 0
 RefusesAlways due result = MatchResult result (λ _. due ≡ None) (λ fault. due ≡ Some fault)
 
--- a query's answer is its block, which fits the database; it is refused with the fault that is due, and where FROM has too
--- many tables, even without memory
+-- a query's answer is its block, which fits the database, with a kind for each parameter of the query; it is refused with
+-- the fault that is due, and where FROM has too many tables, even without memory
 pub record Binds (database : DatabaseState) (query : QueryTree) (result : Result BlockShape BindFault) : Type 0 where
   pub block : IfOk result (λ block. block_tree block ≡ block_of database query)
   pub fits : IfOk result (λ block. Fits database (block_tree block))
+  pub parameters : IfOk result (λ block. length (block_tree block).parameters ≡ length (parameters_of_condition query.condition))
   pub refuses : RefusesBlock (bind_fault database query) result
   pub counted : IfSome (tables_past_limit query) (λ fault. result ≡ Err fault)
 

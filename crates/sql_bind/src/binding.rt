@@ -5,11 +5,11 @@ ghost use Rattle.query_block.specs.Blocks.{relation_tree};
 ghost use Rattle.sql_parse.specs.Trees.{condition_tree, query_tree};
 ghost use Rattle.sql_parse.specs.Counts.{predicates_in, of_condition};
 ghost use Rattle.sql_parse.specs.WellFormed.{IsWellFormedQuery, IsWellFormedCondition};
-ghost use Rattle.sql_bind.specs.Binding.{condition_fault, conjuncts_in, relation_with};
-ghost use Rattle.sql_bind.specs.Conjuncts.{conjuncts};
-ghost use Rattle.sql_bind.specs.Collected.{HasParts, filter_trees, HaveFilters};
+ghost use Rattle.sql_bind.specs.Binding.{condition_fault, relation_with};
+ghost use Rattle.sql_bind.specs.Collected.{IsAsked, filter_trees, HaveFilters, where_fault};
 ghost use Rattle.sql_bind.specs.Refused.{Binds, RefusesBlock};
 
+use crate::axes::check_axes;
 use crate::conjuncts::{Parts, add_conjuncts};
 use crate::fault::BindFault;
 use crate::from::{check_limit, named_tables};
@@ -17,10 +17,18 @@ use crate::predicates::check_predicates;
 use crate::projection::projection;
 use crate::scope::{NamedTable, Scope};
 use db_catalog::Database;
-use query_block::{Block, Condition, Relation};
+use query_block::{Block, Condition, Kind, Relation};
 use sql_parse::{Cond, Query};
-use sql_values::{ColumnDef, ColumnType, LimitName, MAX_AXES, MAX_RELATIONS, Sequence};
+use sql_values::{ColumnDef, ColumnType, LimitName, MAX_RELATIONS, Sequence};
 use std::alloc::{AllocError, Global};
+
+// What the condition of WHERE asks for.
+#[derive(Drop)]
+struct Asked {
+    parts: Parts,
+    // The kinds of its parameters, in written order.
+    parameters: Vec<Kind>,
+}
 
 // No conjunct yet.
 fn no_parts(alloc: Global, scope: &Scope<'_>) -> Result<Parts, AllocError>
@@ -37,41 +45,62 @@ fn no_parts(alloc: Global, scope: &Scope<'_>) -> Result<Parts, AllocError>
     Ok(Parts { filters, edges })
 }
 
-// The parts of a condition: its predicates are checked first.
-fn parts_of(alloc: Global, scope: &Scope<'_>, condition: &Cond) -> Result<Parts, BindFault>
+// What a condition asks for: its predicates are checked first.
+fn asked_by(alloc: Global, scope: &Scope<'_>, condition: &Cond) -> Result<Asked, BindFault>
     requires well_formed { IsWellFormedCondition (condition_tree condition.now) }
     requires counted { predicates_in (condition_tree condition.now) < 2 ^ 32 }
     ensures refuses { RefusesBlock
         (condition_fault scope.now (Some (condition_tree condition.now))) result }
-    ensures parts { IfOk result (HasParts scope.now (conjuncts (condition_tree condition.now))) }
+    ensures asked { IfOk result (IsAsked scope.now (Some (condition_tree condition.now))) }
 {
-    let _ = check_predicates(alloc, scope, condition, 1)?;
+    let mut parameters = Vec::new(alloc);
+    let _ = check_predicates(alloc, scope, condition, 1, &mut parameters)?;
     let mut parts = no_parts(alloc, scope)?;
     let _ = add_conjuncts(alloc, scope, condition, 1, &mut parts)?;
-    Ok(parts)
+    Ok(Asked { parts, parameters })
 }
 
-// The parts of the condition of WHERE, if there is one.
-fn condition_parts(
+// What the condition of WHERE asks for, if there is one.
+fn asked_by_condition(
     alloc: Global,
     scope: &Scope<'_>,
     condition: &Option<Cond>,
-) -> Result<Parts, BindFault>
+) -> Result<Asked, BindFault>
     requires well_formed { IfSome (option_map condition_tree condition.now) IsWellFormedCondition }
     requires counted { of_condition predicates_in
         (option_map condition_tree condition.now) < 2 ^ 32 }
     ensures refuses { RefusesBlock
         (condition_fault scope.now (option_map condition_tree condition.now)) result }
-    ensures parts { IfOk result
-        (HasParts scope.now (conjuncts_in (option_map condition_tree condition.now))) }
+    ensures asked { IfOk result
+        (IsAsked scope.now (option_map condition_tree condition.now)) }
 {
     match condition {
-        Some(condition) => parts_of(alloc, scope, condition),
+        Some(condition) => asked_by(alloc, scope, condition),
         None => {
             let parts = no_parts(alloc, scope)?;
-            Ok(parts)
+            let parameters = Vec::new(alloc);
+            Ok(Asked { parts, parameters })
         }
     }
+}
+
+// The same, refused if it asks for too many axes.
+fn asked_by_where(
+    alloc: Global,
+    scope: &Scope<'_>,
+    condition: &Option<Cond>,
+) -> Result<Asked, BindFault>
+    requires well_formed { IfSome (option_map condition_tree condition.now) IsWellFormedCondition }
+    requires counted { of_condition predicates_in
+        (option_map condition_tree condition.now) < 2 ^ 32 }
+    ensures refuses { RefusesBlock
+        (where_fault scope.now (option_map condition_tree condition.now)) result }
+    ensures asked { IfOk result
+        (IsAsked scope.now (option_map condition_tree condition.now)) }
+{
+    let asked = asked_by_condition(alloc, scope, condition)?;
+    check_axes(&asked.parts)?;
+    Ok(asked)
 }
 
 // What columns hold.
@@ -129,9 +158,10 @@ fn relations_with(
 ///
 /// Refused is the first of these checks that fails: how many tables FROM has; each of them from left to right, that the
 /// database has it and that no alias stands twice; how many columns SELECT names, and each of them; the predicates of
-/// WHERE, in each its columns and then the kinds of its operands; the conjuncts of WHERE, each over one relation or an
-/// equality of columns of two; how many edges there are. Its only other refusal is out of memory, which doesn't come where
-/// FROM has too many tables: they are counted before any memory is taken.
+/// WHERE, in each its columns and then the kinds of its operands, not all of which are parameters; the conjuncts of
+/// WHERE, each over one relation or an equality of columns of two; how many edges and relations with a parameter there
+/// are. Its only other refusal is out of memory, which doesn't come where FROM has too many tables: they are counted
+/// before any memory is taken.
 pub fn bind(alloc: Global, database: &Database, query: &Query) -> Result<Block, BindFault>
     requires well_formed { IsWellFormedQuery (query_tree query.now) }
     requires counted { of_condition predicates_in (query_tree query.now).condition < 2 ^ 32 }
@@ -141,10 +171,9 @@ pub fn bind(alloc: Global, database: &Database, query: &Query) -> Result<Block, 
     check_limit(LimitName::Relations, MAX_RELATIONS, from.len())?;
     let scope = named_tables(alloc, database, from)?;
     let projection = projection(alloc, &scope, &query.columns)?;
-    let parts = condition_parts(alloc, &scope, &query.condition)?;
-    check_limit(LimitName::Axes, MAX_AXES, parts.edges.len())?;
+    let asked = asked_by_where(alloc, &scope, &query.condition)?;
+    let Asked { parts, parameters } = asked;
     let Parts { filters, edges } = parts;
     let relations = relations_with(alloc, &scope, filters)?;
-    let parameters = Vec::new(alloc);
     Ok(Block::new(relations, edges, projection, parameters))
 }

@@ -21,6 +21,7 @@ fn bound_operand(scope: &Scope<'_>, term: &Term) -> Result<Operand, AllocError>
             let value = value.clone()?;
             Ok(Operand::Literal(value))
         }
+        Term::Parameter(number) => Ok(Operand::Parameter(*number)),
     }
 }
 

@@ -62,9 +62,9 @@ fn equality_between(scope: &Scope<'_>, op: Op, left: &Term, right: &Term) -> Opt
                 Term::Column(right) => {
                     Some(edge_between(place_of(scope, left), place_of(scope, right)))
                 }
-                Term::Literal(_) => None,
+                _ => None,
             },
-            Term::Literal(_) => None,
+            _ => None,
         },
         _ => None,
     }

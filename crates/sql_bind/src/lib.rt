@@ -4,11 +4,13 @@
 //! It never reads a row, and changes neither the database nor the query.
 #![tactic(auto)]
 
+mod axes;
 mod binding;
 mod bound;
 mod conjuncts;
 mod fault;
 mod from;
+mod kinds;
 mod names;
 mod predicates;
 mod projection;

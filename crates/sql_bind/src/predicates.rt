@@ -1,75 +1,20 @@
-// The checks of predicates: their columns, and the kinds of what they compare.
-ghost use Rattle.std.specs.Prelude.{◌≡◌, ◌≤◌, ◌+◌, ◌^◌, [], ◌∷◌, IfOk, map};
-ghost use Rattle.query_block.specs.Blocks.{is_text};
+// The checks of predicates: their columns, and the kinds of what they compare. The kinds of their parameters are
+// collected on the way.
+ghost use Rattle.std.specs.Prelude.{◌≡◌, ◌≤◌, ◌+◌, ◌++◌, ◌^◌, [], ◌∷◌, IfOk, OnOk, map};
 ghost use Rattle.sql_parse.specs.Trees.{condition_tree, operands};
 ghost use Rattle.sql_parse.specs.Counts.{predicates_in, predicates_in_all};
-ghost use Rattle.sql_bind.specs.Predicates.{kind_in, is_text_term, agree, are_alike, term_fault, terms_fault};
-ghost use Rattle.sql_bind.specs.Predicates.{operands_fault, predicate_fault, predicates_fault, all_predicates_fault};
+ghost use Rattle.sql_bind.specs.Kinds.{parameters_among};
+ghost use Rattle.sql_bind.specs.Predicates.{term_fault, terms_fault, operands_fault, predicates_fault, all_predicates_fault};
+ghost use Rattle.sql_bind.specs.Predicates.{condition_parameters, all_condition_parameters};
 ghost use Rattle.sql_bind.specs.Refused.{RefusesBlock};
 
 use crate::fault::BindFault;
-use crate::names::{check_column, place_of};
+use crate::kinds::{check_kind, check_kinds, kind_of_term, kind_of_terms};
+use crate::names::check_column;
 use crate::scope::Scope;
-use query_block::{ColumnAt, holds_texts};
+use query_block::Kind;
 use sql_parse::{Cond, Term};
-use sql_values::{ColumnType, Value};
 use std::alloc::Global;
-
-// What a column holds; of one that isn't there, INTEGER.
-fn kind_in(scope: &Scope<'_>, place: ColumnAt) -> ColumnType
-    ensures { result ≡ kind_in scope.now place }
-{
-    let Some(table) = scope.tables().get(place.relation as usize) else {
-        return ColumnType::Integer;
-    };
-    match table.columns.get(place.column as usize) {
-        Some(column) => column.kind,
-        None => ColumnType::Integer,
-    }
-}
-
-fn is_text(value: &Value) -> bool
-    ensures { result ≡ is_text value.now }
-{
-    match value {
-        Value::Text(_) => true,
-        _ => false,
-    }
-}
-
-// Whether an operand is a text; else it is a number.
-fn is_text_term(scope: &Scope<'_>, term: &Term) -> bool
-    ensures { result ≡ is_text_term scope.now term.now }
-{
-    match term {
-        Term::Column(written) => holds_texts(kind_in(scope, place_of(scope, written))),
-        Term::Literal(value) => is_text(value),
-    }
-}
-
-// Whether two operands are of one kind.
-fn agree(scope: &Scope<'_>, first: &Term, other: &Term) -> bool
-    ensures { result ≡ agree (is_text_term scope.now first.now) (is_text_term scope.now other.now) }
-{
-    let text = is_text_term(scope, other);
-    if is_text_term(scope, first) {
-        text
-    } else {
-        !text
-    }
-}
-
-// Whether all operands are of the first one's kind.
-fn all_agree(scope: &Scope<'_>, first: &Term, others: &[Term]) -> bool
-    ensures { result ≡ are_alike scope.now (first.now ∷ others.now) }
-{
-    for i in 0..others.len() {
-        if !agree(scope, first, &others[i]) {
-            return false;
-        }
-    }
-    true
-}
 
 // Refuses an operand whose column doesn't name exactly one.
 fn check_term(alloc: Global, scope: &Scope<'_>, term: &Term) -> Result<(), BindFault>
@@ -78,6 +23,7 @@ fn check_term(alloc: Global, scope: &Scope<'_>, term: &Term) -> Result<(), BindF
     match term {
         Term::Column(written) => check_column(alloc, scope, written),
         Term::Literal(_) => Ok(()),
+        Term::Parameter(_) => Ok(()),
     }
 }
 
@@ -111,16 +57,22 @@ fn check_two(
     predicate: u32,
     first: &Term,
     second: &Term,
+    parameters: &mut Vec<Kind>,
 ) -> Result<(), BindFault>
-    ensures { RefusesBlock
+    ensures refuses { RefusesBlock
         (operands_fault scope.now predicate (first.now ∷ second.now ∷ [])) result }
+    ensures given { OnOk result (parameters.new.items ≡ parameters.old.items
+        ++ parameters_among scope.now (first.now ∷ second.now ∷ [])) }
 {
     check_term(alloc, scope, first)?;
     check_term(alloc, scope, second)?;
-    if !agree(scope, first, second) {
+    let first = kind_of_term(scope, first);
+    let second = kind_of_term(scope, second);
+    let Some(kind) = first.or(second) else {
         return Err(BindFault::TypeMismatch { predicate });
-    }
-    Ok(())
+    };
+    check_kind(first, kind, predicate, parameters)?;
+    check_kind(second, kind, predicate, parameters)
 }
 
 // The three operands of a predicate.
@@ -131,17 +83,25 @@ fn check_three(
     first: &Term,
     second: &Term,
     third: &Term,
+    parameters: &mut Vec<Kind>,
 ) -> Result<(), BindFault>
-    ensures { RefusesBlock
+    ensures refuses { RefusesBlock
         (operands_fault scope.now predicate (first.now ∷ second.now ∷ third.now ∷ [])) result }
+    ensures given { OnOk result (parameters.new.items ≡ parameters.old.items
+        ++ parameters_among scope.now (first.now ∷ second.now ∷ third.now ∷ [])) }
 {
     check_term(alloc, scope, first)?;
     check_term(alloc, scope, second)?;
     check_term(alloc, scope, third)?;
-    if !agree(scope, first, second) || !agree(scope, first, third) {
+    let first = kind_of_term(scope, first);
+    let second = kind_of_term(scope, second);
+    let third = kind_of_term(scope, third);
+    let Some(kind) = first.or(second).or(third) else {
         return Err(BindFault::TypeMismatch { predicate });
-    }
-    Ok(())
+    };
+    check_kind(first, kind, predicate, parameters)?;
+    check_kind(second, kind, predicate, parameters)?;
+    check_kind(third, kind, predicate, parameters)
 }
 
 // The operands of a predicate with a list.
@@ -151,60 +111,71 @@ fn check_list(
     predicate: u32,
     first: &Term,
     others: &[Term],
+    parameters: &mut Vec<Kind>,
 ) -> Result<(), BindFault>
-    ensures { RefusesBlock (operands_fault scope.now predicate (first.now ∷ others.now)) result }
+    ensures refuses { RefusesBlock
+        (operands_fault scope.now predicate (first.now ∷ others.now)) result }
+    ensures given { OnOk result (parameters.new.items ≡ parameters.old.items
+        ++ parameters_among scope.now (first.now ∷ others.now)) }
 {
     check_term_and(alloc, scope, first, others)?;
-    if !all_agree(scope, first, others) {
+    let first = kind_of_term(scope, first);
+    let kind = match first {
+        Some(kind) => Some(kind),
+        None => kind_of_terms(scope, others),
+    };
+    let Some(kind) = kind else {
         return Err(BindFault::TypeMismatch { predicate });
-    }
-    Ok(())
-}
-
-// A predicate.
-fn check_predicate(
-    alloc: Global,
-    scope: &Scope<'_>,
-    predicate: &Cond,
-    number: u32,
-) -> Result<(), BindFault>
-    ensures { RefusesBlock
-        (predicate_fault scope.now number (condition_tree predicate.now)) result }
-{
-    match predicate {
-        Cond::Compare(_, left, right) => check_two(alloc, scope, number, left, right),
-        Cond::Between(_, of, low, high) => check_three(alloc, scope, number, of, low, high),
-        Cond::OneOf(_, of, terms) => check_list(alloc, scope, number, of, terms.as_slice()),
-        Cond::IsNull(_, column) => check_column(alloc, scope, column),
-        Cond::Not(_) => Ok(()),
-        Cond::And(_) => Ok(()),
-        Cond::Or(_) => Ok(()),
-    }
+    };
+    check_kind(first, kind, predicate, parameters)?;
+    check_kinds(scope, others, kind, predicate, parameters)
 }
 
 /// Refuses a condition at the first predicate with a fault. The first predicate has this number; returned is the number
-/// behind the last one.
+/// behind the last one. The kinds of the parameters are added in written order.
 #[cycle(predicates)]
 pub(crate) fn check_predicates(
     alloc: Global,
     scope: &Scope<'_>,
     condition: &Cond,
     number: u64,
+    parameters: &mut Vec<Kind>,
 ) -> Result<u64, BindFault>
     requires { number + predicates_in (condition_tree condition.now) ≤ 2 ^ 32 }
     ensures refuses { RefusesBlock
         (predicates_fault scope.now number (condition_tree condition.now)) result }
     ensures next { IfOk result
         (λ next. next ≡ number + predicates_in (condition_tree condition.now)) }
+    ensures given { OnOk result (parameters.new.items ≡ parameters.old.items
+        ++ condition_parameters scope.now (condition_tree condition.now)) }
 {
     match condition {
-        Cond::Not(inner) => check_predicates(alloc, scope, inner, number),
-        Cond::And(parts) => check_parts(alloc, scope, parts.as_slice(), number),
-        Cond::Or(parts) => check_parts(alloc, scope, parts.as_slice(), number),
-        _ => {
-            check_predicate(alloc, scope, condition, number as u32)?;
+        Cond::Compare(_, left, right) => {
+            check_two(alloc, scope, number as u32, left, right, parameters)?;
             Ok(number + 1)
         }
+        Cond::Between(_, of, low, high) => {
+            check_three(alloc, scope, number as u32, of, low, high, parameters)?;
+            Ok(number + 1)
+        }
+        Cond::OneOf(_, of, terms) => {
+            check_list(
+                alloc,
+                scope,
+                number as u32,
+                of,
+                terms.as_slice(),
+                parameters,
+            )?;
+            Ok(number + 1)
+        }
+        Cond::IsNull(_, column) => {
+            check_column(alloc, scope, column)?;
+            Ok(number + 1)
+        }
+        Cond::Not(inner) => check_predicates(alloc, scope, inner, number, parameters),
+        Cond::And(parts) => check_parts(alloc, scope, parts.as_slice(), number, parameters),
+        Cond::Or(parts) => check_parts(alloc, scope, parts.as_slice(), number, parameters),
     }
 }
 
@@ -215,15 +186,18 @@ fn check_parts(
     scope: &Scope<'_>,
     parts: &[Cond],
     number: u64,
+    parameters: &mut Vec<Kind>,
 ) -> Result<u64, BindFault>
     requires { number + predicates_in_all (operands (map condition_tree parts.now)) ≤ 2 ^ 32 }
     ensures refuses { RefusesBlock (all_predicates_fault scope.now number parts.now) result }
     ensures next { IfOk result (λ next.
         next ≡ number + predicates_in_all (operands (map condition_tree parts.now))) }
+    ensures given { OnOk result (parameters.new.items ≡ parameters.old.items
+        ++ all_condition_parameters scope.now parts.now) }
 {
     let mut next = number;
     for i in 0..parts.len() {
-        next = check_predicates(alloc, scope, &parts[i], next)?;
+        next = check_predicates(alloc, scope, &parts[i], next, parameters)?;
     }
     Ok(next)
 }

@@ -48,6 +48,7 @@ fn reach_of_term(scope: &Scope<'_>, term: &Term) -> Reach
     match term {
         Term::Column(written) => Reach::One(place_of(scope, written).relation),
         Term::Literal(_) => Reach::Nothing,
+        Term::Parameter(_) => Reach::Nothing,
     }
 }
 

@@ -1,7 +1,8 @@
-use Rattle.std.proofs.Common.{◌∙◌, ◌+◌, ap, arith, sym}
+use Rattle.std.proofs.Common.{◌∙◌, ◌+◌, ◌++◌, ap, arith, drop, sym}
 use Rattle.sql_parse.specs.Trees.{condition_tree}
-use Rattle.sql_bind.specs.Predicates.{predicate_fault, all_predicates}
+use Rattle.sql_bind.specs.Predicates.{predicate_fault, all_predicates, all_condition_parameters}
 use Rattle.sql_bind.proofs.Faults.{predicates_in_part, predicates-flat, predicates-count, passed, refused_at, counted-next, handed_on}
+use Rattle.sql_bind.proofs.Parameters.{parameters-next}
 use Rattle.sql_bind.proofs.predicates.+predicates.Goals as goal
 
 pub check_parts-returns-in_err-next-clause-refuses : goal.check_parts-returns-in_err-next-clause-refuses
@@ -16,4 +17,6 @@ check_parts-loop-i-preserved t c = (
       c.index-parts-i.is c.loop-i.invariant.0 c.in_ok-next.ensures.refuses.answered
       (c.in_ok-next.ensures.next ∙ ap (λ n. c.loop-i.next + n) (sym (predicates-count (condition_tree c.index-parts-i.result)))),
   omega (arith, counted-next c.args.parts.now c.loop-i.i c.index-parts-i.result c.loop-i-test.true c.index-parts-i.is, c.loop-i.invariant.1, c.in_ok-next.ensures.next),
+  c.loop-i.invariant.2 ∙ parameters-next c.args.scope.now c.args.parts.now c.loop-i.i c.index-parts-i.result c.loop-i.parameters.items c.loop-i-test.true c.index-parts-i.is
+      ∙ ap (λ kinds. kinds ++ all_condition_parameters c.args.scope.now (drop (c.loop-i.i + 1) c.args.parts.now)) (sym c.in_ok-next.ensures.given),
 )
