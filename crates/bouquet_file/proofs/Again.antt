@@ -1,5 +1,5 @@
 -- What is written is read again as it was: no float, not deep, each part fits.
-use Rattle.std.proofs.Common.{◌≡◌, ℕ, ◌+◌, ◌^◌, ◌≤◌, true, false, List, [], ◌∷◌, map, length, All, Some, None, Ok, bytes_eq, nat_eq, refl, arith}
+use Rattle.std.proofs.Common.{◌≡◌, ℕ, zero, suc, ◌+◌, ◌^◌, ◌≤◌, true, false, List, [], ◌∷◌, map, length, All, Some, None, Ok, bytes_eq, nat_eq, refl, arith}
 use Rattle.std.proofs.lemmas.Bool.{le-leb}
 use Rattle.std.proofs.lemmas.Bool.Decides.{nat_tests}
 use Rattle.std.proofs.lemmas.Slice.Eq.{bytes_eq-Decides}
@@ -18,9 +18,10 @@ use Rattle.bouquet_type.specs.Trees.{BouquetTree, ContourTree}
 use Rattle.bouquet_file.specs.declared.relations.KeptCounts.{KeptCounts}
 use Rattle.bouquet_file.specs.Steps.{Checked, each}
 use Rattle.bouquet_file.specs.Values.{within, list_within}
-use Rattle.bouquet_file.specs.Written.{plan_value, contour_value, relation_value, file_value}
-use Rattle.bouquet_file.specs.Checks.{FileContour, levels_within, counts_at, plan_fits, contour_fits, changed_counts, plan_here, contour_at}
-use Rattle.bouquet_file.specs.Parts.{parts_of}
+use Rattle.bouquet_file.specs.Limits.{max_parameters}
+use Rattle.bouquet_file.specs.Written.{plan_value, contour_value, relation_value, file_with, file_value}
+use Rattle.bouquet_file.specs.Checks.{FileContour, head_of, levels_within, counts_at, plan_fits, contour_fits, changed_counts, plan_here, contour_at}
+use Rattle.bouquet_file.specs.Parts.{counts_in, contours_in, parts_of}
 use Rattle.bouquet_file.specs.Opened.{file_of}
 use Rattle.bouquet_file.proofs.Lists.{listed_items}
 use Rattle.bouquet_file.proofs.Numbers.{number-again}
@@ -51,6 +52,9 @@ same-text text = (bytes_eq-Decides text text).1 refl
 
 in-range : (least most n : ℕ) → least ≤ n → n ≤ most → within least most (Some n) ≡ Some n
 in-range least most n low high = rw (le-leb least n low, le-leb n most high) refl
+
+some-number : (more : ℕ) → nat_eq (suc more) 0 ≡ false
+some-number more = grind (arith, nat_tests)
 
 -- ---- counts
 
@@ -114,6 +118,7 @@ pub record IsWritable (bouquet : BouquetTree) : Type 0 where
   pub high_levels : bouquet.costing.grid.levels ≤ max_levels
   pub points : bouquet.costing.grid.levels ^ axes_of bouquet.costing.block ≤ max_points
   pub threshold : bouquet.threshold ≤ max_threshold
+  pub parameters : length bouquet.costing.block.parameters ≤ max_parameters
   pub relations : length bouquet.costing.stats.relations ≡ length bouquet.costing.block.relations
   pub counts : All AreFew bouquet.costing.stats.relations
   pub some : 1 ≤ length bouquet.contours
@@ -123,31 +128,52 @@ pub record IsWritable (bouquet : BouquetTree) : Type 0 where
 levels-again : (axes levels : ℕ) → min_levels ≤ levels → levels ≤ max_levels → levels ^ axes ≤ max_points → levels_within axes (within min_levels max_levels (Some levels)) ≡ Some levels
 levels-again axes levels low high few = rw (in-range min_levels max_levels levels low high, le-leb (levels ^ axes) max_points few) refl
 
-parts-again : (bouquet : BouquetTree) (query : List ℕ) → IsWritable bouquet → parts_of (Some (file_value bouquet query)) bouquet.costing.block
+-- what is read of its lists and numbers
+record IsRead (bouquet : BouquetTree) : Type 0 where
+  levels : levels_within (axes_of bouquet.costing.block) (within min_levels max_levels (Some bouquet.costing.grid.levels)) ≡ Some bouquet.costing.grid.levels
+  threshold : within 0 max_threshold (Some bouquet.threshold) ≡ Some bouquet.threshold
+  relations : list_within (length bouquet.costing.block.relations) (length bouquet.costing.block.relations) (Some (array (items_of (map relation_value bouquet.costing.stats.relations)))) ≡ Some (map relation_value bouquet.costing.stats.relations)
+  counts : each counts_at 1 (map relation_value bouquet.costing.stats.relations) ≡ Ok (map kept_of bouquet.costing.stats.relations)
+  contours : list_within 1 128 (Some (array (items_of (map contour_value bouquet.contours)))) ≡ Some (map contour_value bouquet.contours)
+  parts : each contour_fits 1 (map contour_value bouquet.contours) ≡ Ok (map parts_written bouquet.contours)
+
+is-read : (bouquet : BouquetTree) → IsWritable bouquet → IsRead bouquet
+is-read bouquet is =
+    let block = bouquet.costing.block in
+    let stats = bouquet.costing.stats.relations in record {
+      levels = levels-again (axes_of block) bouquet.costing.grid.levels is.low_levels is.high_levels is.points;
+      threshold = in-range 0 max_threshold bouquet.threshold (omega arith) is.threshold;
+      relations = list-written relation_value (length block.relations) (length block.relations) stats (omega (arith, is.relations)) (omega (arith, is.relations));
+      counts = each-written relation_value counts_at kept_of AreFew counts-again 1 stats is.counts;
+      contours = list-written contour_value 1 128 bouquet.contours is.some is.few;
+      parts = each-written contour_value contour_fits parts_written (IsContourTree block) (contour-fits block) 1 bouquet.contours is.contours;
+    }
+
+-- the value of a file of a bouquet that keeps so many parameters
+abbrev file_keeping : BouquetTree → (query : List ℕ) → (parameters : ℕ) → Data
+file_keeping bouquet query parameters = file_with query parameters bouquet.costing.grid.levels bouquet.threshold
+    (items_of (map contour_value bouquet.contours)) (items_of (map relation_value bouquet.costing.stats.relations))
+
+parts-again : (bouquet : BouquetTree) (query : List ℕ) (parameters : ℕ) → parameters ≤ max_parameters → IsRead bouquet → parts_of (file_keeping bouquet query parameters) bouquet.costing.block
     ≡ Ok (record {
       query = query;
       levels = bouquet.costing.grid.levels;
       threshold = bouquet.threshold;
       counts = map kept_of bouquet.costing.stats.relations;
       contours = map parts_written bouquet.contours;
+      parameters = parameters;
     })
-parts-again bouquet query is =
-    let block = bouquet.costing.block in
-    let stats = bouquet.costing.stats.relations in
-    rw (
-      levels-again (axes_of block) bouquet.costing.grid.levels is.low_levels is.high_levels is.points,
-      in-range 0 max_threshold bouquet.threshold (omega arith) is.threshold,
-      list-written relation_value (length block.relations) (length block.relations) stats (omega (arith, is.relations)) (omega (arith, is.relations)),
-      each-written relation_value counts_at kept_of AreFew counts-again 1 stats is.counts,
-      list-written contour_value 1 128 bouquet.contours is.some is.few,
-      each-written contour_value contour_fits parts_written (IsContourTree block) (contour-fits block) 1 bouquet.contours is.contours,
-    ) refl
+unfolding parts_of head_of counts_in contours_in
+parts-again bouquet query zero few is = rw (is.levels, is.threshold, is.relations, is.counts, is.contours, is.parts) refl
+parts-again bouquet query (suc more) few is =
+    rw (some-number more, is.levels, is.threshold, is.relations, is.counts, is.contours, is.parts, in-range 1 max_parameters (suc more) (omega arith) few) refl
 
 pub file_again : (bouquet : BouquetTree) (query : List ℕ) → IsWritable bouquet → file_of (Some (file_value bouquet query)) query bouquet.costing.block bouquet.costing.stats ≡ Ok bouquet
 file_again bouquet query is =
     rw (
-      parts-again bouquet query is,
+      parts-again bouquet query (length bouquet.costing.block.parameters) is.parameters (is-read bouquet is),
       same-text query,
+      same-number (length bouquet.costing.block.parameters),
       unchanged 0 bouquet.costing.stats.relations,
       each-written parts_written (contour_at bouquet.costing.block) (λ contour. contour) (IsContourTree bouquet.costing.block) (contour-again bouquet.costing.block is.block) 1 bouquet.contours is.contours,
       map-id bouquet.contours,
@@ -159,12 +185,21 @@ file_again bouquet query is =
 contour-float : (contour : ContourTree) → has_float (contour_value contour) ≡ false
 contour-float contour = rw (no-floats plan_value (λ p. refl) contour.plans) refl
 
+keeping-float : (bouquet : BouquetTree) (query : List ℕ) (parameters : ℕ) → has_float (file_keeping bouquet query parameters) ≡ false
+keeping-float bouquet query zero = rw (no-floats contour_value contour-float bouquet.contours, no-floats relation_value (λ stats. refl) bouquet.costing.stats.relations) refl
+keeping-float bouquet query (suc more) = rw (some-number more, no-floats contour_value contour-float bouquet.contours, no-floats relation_value (λ stats. refl) bouquet.costing.stats.relations) refl
+
 pub file_float : (bouquet : BouquetTree) (query : List ℕ) → has_float (file_value bouquet query) ≡ false
-file_float bouquet query = rw (no-floats contour_value contour-float bouquet.contours, no-floats relation_value (λ stats. refl) bouquet.costing.stats.relations) refl
+file_float bouquet query = keeping-float bouquet query (length bouquet.costing.block.parameters)
 
 contour-shallow : (contour : ContourTree) → depth (contour_value contour) ≤ 2
 contour-shallow contour = omega (arith, shallow plan_value 0 (λ p. omega arith) contour.plans)
 
-pub file_shallow : (bouquet : BouquetTree) (query : List ℕ) → depth (file_value bouquet query) ≤ 127
-file_shallow bouquet query =
+keeping-shallow : (bouquet : BouquetTree) (query : List ℕ) (parameters : ℕ) → depth (file_keeping bouquet query parameters) ≤ 127
+keeping-shallow bouquet query zero =
     omega (arith, shallow contour_value 2 contour-shallow bouquet.contours, shallow relation_value 1 (λ stats. omega arith) bouquet.costing.stats.relations)
+keeping-shallow bouquet query (suc more) =
+    rw (some-number more) (omega (arith, shallow contour_value 2 contour-shallow bouquet.contours, shallow relation_value 1 (λ stats. omega arith) bouquet.costing.stats.relations))
+
+pub file_shallow : (bouquet : BouquetTree) (query : List ℕ) → depth (file_value bouquet query) ≤ 127
+file_shallow bouquet query = keeping-shallow bouquet query (length bouquet.costing.block.parameters)

@@ -25,6 +25,7 @@ use Rattle.bouquet_type.specs.declared.contour.Contour.{Contour}
 use Rattle.bouquet_type.specs.Shapes.{BouquetShape}
 use Rattle.bouquet_type.specs.Trees.{IsContour, IsBouquet, contour_tree, bouquet_tree}
 use Rattle.bouquet_file.specs.Written.{file_value}
+use Rattle.bouquet_file.specs.Limits.{max_parameters}
 use Rattle.bouquet_file.specs.Opened.{file_of, json_value}
 use Rattle.bouquet_file.proofs.Again.{AreFew, IsContourTree, IsWritable, file_again}
 
@@ -61,8 +62,8 @@ of-contour block contour is = record {
   plans = All-map (IsPlan block) plan_tree contour.plans.items is.plans;
 }
 
-pub writable : (bouquet : BouquetShape) → IsBouquet bouquet → IsWritable (bouquet_tree bouquet)
-writable bouquet is =
+pub writable : (bouquet : BouquetShape) → IsBouquet bouquet → length bouquet.block.parameters ≤ max_parameters → IsWritable (bouquet_tree bouquet)
+writable bouquet is few =
     let tree = bouquet_tree bouquet in
     let block = tree.costing.block in record {
       block = is.costing.block;
@@ -71,6 +72,7 @@ writable bouquet is =
       high_levels = is.costing.grid.few_levels;
       points = subst (λ axes. tree.costing.grid.levels ^ axes ≤ max_points) is.costing.axes is.costing.grid.few_points;
       threshold = is.threshold;
+      parameters = few;
       relations = AllZip-long FitsRelation block.relations bouquet.stats.relations is.costing.stats.relations;
       counts = all-few block.parameters block.relations bouquet.stats.relations is.costing.block.relations is.costing.stats.relations;
       some = omega (arith, is.some, length-map bouquet.contours contour_tree);
@@ -80,16 +82,16 @@ writable bouquet is =
     }
 
 -- bytes that are read as its value are opened as the bouquet
-pub opened : (bouquet : BouquetShape) (query bytes : List ℕ) → IsBouquet bouquet → IsUtf8 bytes → read bytes ≡ Some (file_value (bouquet_tree bouquet) query)
+pub opened : (bouquet : BouquetShape) (query bytes : List ℕ) → IsBouquet bouquet → length bouquet.block.parameters ≤ max_parameters → IsUtf8 bytes → read bytes ≡ Some (file_value (bouquet_tree bouquet) query)
     → file_of (json_value bytes) query (block_tree bouquet.block) bouquet.stats ≡ Ok (bouquet_tree bouquet)
-opened bouquet query bytes is utf8 reads =
-    rw (is_utf8-from_IsUtf8 bytes utf8, reads) (file_again (bouquet_tree bouquet) query (writable bouquet is))
+opened bouquet query bytes is few utf8 reads =
+    rw (is_utf8-from_IsUtf8 bytes utf8, reads) (file_again (bouquet_tree bouquet) query (writable bouquet is few))
 
-pub opened-if : {E : Type 0} (bouquet : BouquetShape) (query : List ℕ) (r : Result (Vec ℕ Global) E) → IsBouquet bouquet → IfOk r (λ bytes. IsUtf8 bytes.items)
+pub opened-if : {E : Type 0} (bouquet : BouquetShape) (query : List ℕ) (r : Result (Vec ℕ Global) E) → IsBouquet bouquet → length bouquet.block.parameters ≤ max_parameters → IfOk r (λ bytes. IsUtf8 bytes.items)
     → IfOk r (λ bytes. read bytes.items ≡ Some (file_value (bouquet_tree bouquet) query))
     → IfOk r (λ bytes. file_of (json_value bytes.items) query (block_tree bouquet.block) bouquet.stats ≡ Ok (bouquet_tree bouquet))
-opened-if bouquet query (Ok bytes) is utf8 reads = opened bouquet query bytes.items is utf8 reads
-opened-if bouquet query (Err why) is utf8 reads = tt
+opened-if bouquet query (Ok bytes) is few utf8 reads = opened bouquet query bytes.items is few utf8 reads
+opened-if bouquet query (Err why) is few utf8 reads = tt
 
 -- parts that fit are those of a bouquet
 pub is-costing : (block : BlockShape) (stats : Stats) (grid : GridShape) → IsBlock (block_tree block) → FitsBlock (block_tree block) stats → IsGrid grid → grid.axes ≡ axes_of (block_tree block)

@@ -17,18 +17,24 @@ use Rattle.bouquet_file.specs.declared.fault.FieldPath.TheVariants as path
 use Rattle.bouquet_file.specs.declared.fault.OpenFault.TheVariants as fault
 use Rattle.bouquet_file.specs.declared.relations.KeptCounts.{KeptCounts}
 use Rattle.bouquet_file.specs.declared.values.ObjectKind.TheVariants.{File, Relation, Contour}
+use Rattle.bouquet_file.specs.declared.values.Version.{Version}
+use Rattle.bouquet_file.specs.declared.values.Version.TheVariants.{One, Two}
+use Rattle.bouquet_file.specs.Limits.{max_parameters}
 use Rattle.bouquet_file.specs.Steps.{Checked, pure, ◌>>=◌, ◌>>◌, need, check, each}
 use Rattle.bouquet_file.specs.Values.{unsigned, within, string_of, list_within, has_only, object_of, decimal_number}
 
--- the members of a file of version 1
-abbrev pub head_of : Option Data → Checked Members
+-- the version of this number
+abbrev pub version_of : ℕ → Option Version
+version_of number = if nat_eq number 1 then Some One else if nat_eq number 2 then Some Two else None
+
+-- the version and the members of a file
+unfoldable pub head_of : Data → Checked (Version × Members)
 head_of value = do
-  found ← need fault.NotJson value
-  members ← need (fault.Field path.Bouquet) (as_object found)
-  version ← need (fault.Field path.Bouquet) (unsigned (get_member (codes "bouquet") members))
-  check (fault.Version version) (nat_eq version 1)
-  check (fault.Field path.Keys) (has_only File members)
-  pure members
+  members ← need (fault.Field path.Bouquet) (as_object value)
+  number ← need (fault.Field path.Bouquet) (unsigned (get_member (codes "bouquet") members))
+  version ← need (fault.Version number) (version_of number)
+  check (fault.Field path.Keys) (has_only (File version) members)
+  pure (version, members)
 
 -- levels of each of so many axes, where a grid can have them
 abbrev pub levels_within : (axes : ℕ) → Option ℕ → Option ℕ
@@ -70,6 +76,11 @@ contour_fits number value = do
   plans ← need (fault.Field (path.Plans number)) (plans_in members)
   texts ← each (plan_fits number) 1 plans
   pure (record { cost = cost; texts = texts })
+
+-- the number of parameters that a file keeps, of which one of version 1 has none
+abbrev pub kept_parameters : Version → Members → Checked ℕ
+kept_parameters One _ = pure 0
+kept_parameters Two members = need (fault.Field path.Parameters) (within 1 max_parameters (unsigned (get_member (codes "parameters") members)))
 
 -- the first count of a relation that isn't that of its table
 abbrev pub changed_in : (number : ℕ) → KeptCounts → RelationStats → Option Stale

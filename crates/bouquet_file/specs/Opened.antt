@@ -1,5 +1,5 @@
 -- The bouquet of a file, or the first fault.
-use Rattle.std.specs.Prelude.{◌≡◌, ℕ, List, Option, None, Ok, bytes_eq, if◌then◌else◌}
+use Rattle.std.specs.Prelude.{◌≡◌, ℕ, List, length, nat_eq, Option, None, Ok, bytes_eq, if◌then◌else◌}
 use Rattle.std.specs.Str.{is_utf8}
 use Rattle.serde_json.specs.Data.{Data}
 use Rattle.serde_json.specs.Read.{read}
@@ -7,7 +7,7 @@ use Rattle.query_block.specs.Blocks.{BlockTree, axes_of}
 use Rattle.cost_model.specs.declared.stats.Stats.{Stats}
 use Rattle.bouquet_type.specs.Trees.{BouquetTree}
 use Rattle.bouquet_file.specs.declared.fault.OpenFault.TheVariants as fault
-use Rattle.bouquet_file.specs.Steps.{Checked, pure, ◌>>=◌, ◌>>◌, check}
+use Rattle.bouquet_file.specs.Steps.{Checked, pure, ◌>>=◌, ◌>>◌, need, check}
 use Rattle.bouquet_file.specs.Checks.{changed_counts, unless_changed, contours_at}
 use Rattle.bouquet_file.specs.Parts.{parts_of}
 
@@ -15,12 +15,15 @@ use Rattle.bouquet_file.specs.Parts.{parts_of}
 abbrev pub json_value : List ℕ → Option Data
 json_value bytes = if is_utf8 bytes then read bytes else None
 
--- the bouquet of a value for this query, whose block and counts these are: its parts fit, first of all; then it is of this
--- query, its counts are those of the tables, and its contours have costs and plans that a bouquet may have
+-- the bouquet of a value for this query, whose block and counts these are: there is a value, and its parts fit, first of
+-- all; then it is of this query, it keeps as many parameters as the block has, its counts are those of the tables, and its
+-- contours have costs and plans that a bouquet may have
 abbrev pub file_of : Option Data → (query : List ℕ) → BlockTree → Stats → Checked BouquetTree
 file_of value query block stats = do
-  parts ← parts_of value block
+  file ← need fault.NotJson value
+  parts ← parts_of file block
   check fault.OtherQuery (bytes_eq parts.query query)
+  check (fault.Parameters parts.parameters (length block.parameters)) (nat_eq parts.parameters (length block.parameters))
   unless_changed (changed_counts 0 parts.counts stats.relations)
   found ← contours_at block parts.contours
   pure (record {

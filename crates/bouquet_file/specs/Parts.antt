@@ -1,7 +1,7 @@
 -- The parts of a file, each of which fits.
-use Rattle.std.specs.Prelude.{ℕ, ◌≤◌, List, length, map, Option, codes}
+use Rattle.std.specs.Prelude.{ℕ, ◌≤◌, List, length, map, codes}
 use Rattle.sql_values.specs.Limits.{max_points, max_threshold, max_contours}
-use Rattle.serde_json.specs.Data.{Data}
+use Rattle.serde_json.specs.Data.{Data, Members}
 use Rattle.serde_json.specs.Find.{get_member}
 use Rattle.query_block.specs.Blocks.{BlockTree, axes_of}
 use Rattle.bouquet_file.specs.declared.fault.FieldPath.TheVariants as path
@@ -11,7 +11,7 @@ use Rattle.bouquet_file.specs.declared.parts.Parts.{Parts}
 use Rattle.bouquet_file.specs.declared.contours.ContourParts.{ContourParts}
 use Rattle.bouquet_file.specs.Steps.{Checked, pure, ◌>>=◌, need, each}
 use Rattle.bouquet_file.specs.Values.{unsigned, within, string_of, list_within}
-use Rattle.bouquet_file.specs.Checks.{FileContour, head_of, levels_in, counts_at, contour_fits}
+use Rattle.bouquet_file.specs.Checks.{FileContour, head_of, levels_in, counts_at, contour_fits, kept_parameters}
 
 -- what stands in a file
 pub record FileParts : Type 0 where
@@ -20,6 +20,7 @@ pub record FileParts : Type 0 where
   pub threshold : ℕ
   pub counts : List KeptCounts
   pub contours : List FileContour
+  pub parameters : ℕ
 
 -- what is seen of them
 abbrev pub contour_seen : ContourParts → FileContour
@@ -36,17 +37,28 @@ parts_seen parts = record {
   threshold = parts.threshold;
   counts = parts.counts.items;
   contours = map contour_seen parts.contours.items;
+  parameters = parts.parameters;
 }
 
+-- what is in the lists of relations, as many as the query has, and of contours
+unfoldable pub counts_in : (count : ℕ) → Members → Checked (List KeptCounts)
+counts_in count members = do
+  relations ← need (fault.Field path.Relations) (list_within count count (get_member (codes "relations") members))
+  each counts_at 1 relations
+
+unfoldable pub contours_in : Members → Checked (List FileContour)
+contours_in members = do
+  contours ← need (fault.Field path.Contours) (list_within 1 max_contours (get_member (codes "contours") members))
+  each contour_fits 1 contours
+
 -- the parts of a value, for a query with this block: the first of them that isn't there or doesn't fit is told
-abbrev pub parts_of : Option Data → BlockTree → Checked FileParts
+unfoldable pub parts_of : Data → BlockTree → Checked FileParts
 parts_of value block = do
-  members ← head_of value
+  (version, members) ← head_of value
   text ← need (fault.Field path.Query) (string_of (get_member (codes "query") members))
   levels ← need (fault.Field path.Levels) (levels_in (axes_of block) members)
   threshold ← need (fault.Field path.Threshold) (within 0 max_threshold (unsigned (get_member (codes "threshold") members)))
-  relations ← need (fault.Field path.Relations) (list_within (length block.relations) (length block.relations) (get_member (codes "relations") members))
-  counts ← each counts_at 1 relations
-  values ← need (fault.Field path.Contours) (list_within 1 max_contours (get_member (codes "contours") members))
-  contours ← each contour_fits 1 values
-  pure (record { query = text; levels = levels; threshold = threshold; counts = counts; contours = contours })
+  counts ← counts_in (length block.relations) members
+  contours ← contours_in members
+  parameters ← kept_parameters version members
+  pure (record { query = text; levels = levels; threshold = threshold; counts = counts; contours = contours; parameters = parameters })

@@ -36,6 +36,7 @@ field_path (path.Contour number) = contour_path number
 field_path (path.Cost contour) = cost_path contour
 field_path (path.Plans contour) = plans_path contour
 field_path (path.Plan contour number) = plan_path contour number
+field_path path.Parameters = codes "parameters"
 
 -- of a fault; counts that aren't those of the tables and want of memory have none
 abbrev pub fault_path : OpenFault → List ℕ
@@ -43,6 +44,7 @@ fault_path fault.NotJson = codes "json"
 fault_path (fault.Field path) = field_path path
 fault_path (fault.Version found) = codes "version"
 fault_path fault.OtherQuery = codes "query"
+fault_path (fault.Parameters kept present) = codes "parameters"
 fault_path (fault.Stale stale) = []
 fault_path (fault.BudgetLimit contour) = cost_path contour
 fault_path (fault.NotAPlan contour number) = plan_path contour number

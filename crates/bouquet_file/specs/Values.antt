@@ -9,6 +9,7 @@ use Rattle.serde_json.specs.declared.value.Value.{Value}
 use Rattle.serde_json.specs.Find.{get_member, as_number, as_u64, as_str, as_array, as_object}
 use Rattle.bouquet_file.specs.declared.values.ObjectKind.{ObjectKind}
 use Rattle.bouquet_file.specs.declared.values.ObjectKind.TheVariants.{File, Relation, Contour}
+use Rattle.bouquet_file.specs.declared.values.Version.TheVariants.{One, Two}
 
 -- the value of a key among the members of an object, as it is seen
 abbrev pub value_of_key : (key : List ℕ) → List (String Global × Value) → Option Data
@@ -38,9 +39,14 @@ list_within least most value = option_and_then
     (λ items. if nat_le least (length (item_list items)) && nat_le (length (item_list items)) most then Some (item_list items) else None)
     (option_and_then as_array value)
 
--- the keys of a file, of a relation in it, of a contour
+-- the keys of every file
+abbrev pub file_keys : List (List ℕ)
+file_keys = codes "bouquet" ∷ codes "query" ∷ codes "levels" ∷ codes "threshold" ∷ codes "relations" ∷ codes "contours" ∷ []
+
+-- the keys of a file, one more in version 2, of a relation in it, of a contour
 abbrev pub key_list : ObjectKind → List (List ℕ)
-key_list File = codes "bouquet" ∷ codes "query" ∷ codes "levels" ∷ codes "threshold" ∷ codes "relations" ∷ codes "contours" ∷ []
+key_list (File One) = file_keys
+key_list (File Two) = codes "parameters" ∷ file_keys
 key_list Relation = codes "rows" ∷ codes "kept" ∷ codes "indexes" ∷ []
 key_list Contour = codes "cost" ∷ codes "plans" ∷ []
 

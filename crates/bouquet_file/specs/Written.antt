@@ -1,5 +1,5 @@
 -- What is written for a bouquet.
-use Rattle.std.specs.Prelude.{ℕ, List, length, map, codes, decimal}
+use Rattle.std.specs.Prelude.{ℕ, List, length, map, nat_eq, codes, decimal, if◌then◌else◌}
 use Rattle.serde_json.specs.Data.{Data, number, unsigned, string, array, object, Items, no_members, member}
 use Rattle.serde_json.specs.View.{items_of}
 use Rattle.serde_json.specs.Written.{compact_text}
@@ -30,9 +30,9 @@ relation_value stats = object
     (member (codes "rows") (number_value stats.rows)
     no_members)))
 
--- a file with these contours and relations
-abbrev pub file_with : (query : List ℕ) → (levels threshold : ℕ) → (contours relations : Items) → Data
-file_with query levels threshold contours relations = object
+-- a file of version 1 with these contours and relations
+abbrev pub first_version : (query : List ℕ) → (levels threshold : ℕ) → (contours relations : Items) → Data
+first_version query levels threshold contours relations = object
     (member (codes "bouquet") (number_value 1)
     (member (codes "contours") (array contours)
     (member (codes "levels") (number_value levels)
@@ -41,9 +41,27 @@ file_with query levels threshold contours relations = object
     (member (codes "threshold") (number_value threshold)
     no_members))))))
 
+-- a file of version 2: it says besides how many parameters the query has
+abbrev pub second_version : (query : List ℕ) → (parameters levels threshold : ℕ) → (contours relations : Items) → Data
+second_version query parameters levels threshold contours relations = object
+    (member (codes "bouquet") (number_value 2)
+    (member (codes "contours") (array contours)
+    (member (codes "levels") (number_value levels)
+    (member (codes "parameters") (number_value parameters)
+    (member (codes "query") (string query)
+    (member (codes "relations") (array relations)
+    (member (codes "threshold") (number_value threshold)
+    no_members)))))))
+
+-- a file of a query with so many parameters
+abbrev pub file_with : (query : List ℕ) → (parameters levels threshold : ℕ) → (contours relations : Items) → Data
+file_with query parameters levels threshold contours relations =
+    if nat_eq parameters 0 then first_version query levels threshold contours relations
+    else second_version query parameters levels threshold contours relations
+
 -- a bouquet with the canonical text of its query
 abbrev pub file_value : BouquetTree → (query : List ℕ) → Data
-file_value bouquet query = file_with query bouquet.costing.grid.levels bouquet.threshold
+file_value bouquet query = file_with query (length bouquet.costing.block.parameters) bouquet.costing.grid.levels bouquet.threshold
     (items_of (map contour_value bouquet.contours)) (items_of (map relation_value bouquet.costing.stats.relations))
 
 -- its bytes: compact JSON

@@ -31,6 +31,8 @@ pub enum FieldPath {
     Plans(u32),
     /// A plan of a contour: a text.
     Plan(u32, u32),
+    /// The number of parameters in a file of version 2: 1 to 16777216.
+    Parameters,
 }
 
 /// Why a file isn't opened as a bouquet: the first fault.
@@ -50,6 +52,13 @@ pub enum OpenFault {
     },
     /// It is of another query.
     OtherQuery,
+    /// It is of a query with another number of parameters.
+    Parameters {
+        /// How many parameters it says, 0 in version 1.
+        kept: u64,
+        /// How many the query has.
+        present: u64,
+    },
     /// A count isn't that of the tables.
     Stale(Stale),
     /// A contour costs more than 2^114.

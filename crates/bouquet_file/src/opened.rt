@@ -32,8 +32,8 @@ fn value_of(alloc: Global, bytes: &[u8]) -> Result<Value, OpenFault>
 
 /// The bouquet that a file says, of the query with this canonical text, whose block and counts these are. It may have any
 /// costs up to 2^114 and any plans of the block. Else the first fault: `NotJson`, `Field` of the version, `Version`, `Field`
-/// of the keys and of the values in their order, `OtherQuery`, `Stale`, and contour by contour `BudgetLimit`, `NotAPlan`.
-/// `NoMemory`: out of memory.
+/// of the keys and of the values in their order, `OtherQuery`, `Parameters`, `Stale`, and contour by contour `BudgetLimit`,
+/// `NotAPlan`. `NoMemory`: out of memory.
 pub fn from_bytes(
     alloc: Global,
     bytes: &[u8],
@@ -51,6 +51,13 @@ pub fn from_bytes(
     let parts = parts_of(alloc, &file, &block)?;
     if parts.query != query {
         return Err(OpenFault::OtherQuery);
+    }
+    let present = block.parameters().len() as u64;
+    if parts.parameters != present {
+        return Err(OpenFault::Parameters {
+            kept: parts.parameters,
+            present,
+        });
     }
     check_counts(parts.counts.as_slice(), stats.relations.as_slice())?;
     let contours = contours_of(alloc, &block, parts.contours.as_slice())?;

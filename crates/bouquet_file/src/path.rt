@@ -84,6 +84,7 @@ fn put_field(text: &mut Vec<u8>, path: FieldPath) -> Result<(), AllocError>
         FieldPath::Cost(contour) => put_cost(text, contour),
         FieldPath::Plans(contour) => put_plans(text, contour),
         FieldPath::Plan(contour, number) => put_plan(text, contour, number),
+        FieldPath::Parameters => text.extend_from_slice(b"parameters"),
     }
 }
 
@@ -98,6 +99,7 @@ pub fn path_text(alloc: Global, fault: OpenFault) -> Result<Vec<u8>, AllocError>
         OpenFault::Field { path } => put_field(&mut text, path)?,
         OpenFault::Version { .. } => text.extend_from_slice(b"version")?,
         OpenFault::OtherQuery => text.extend_from_slice(b"query")?,
+        OpenFault::Parameters { .. } => text.extend_from_slice(b"parameters")?,
         OpenFault::BudgetLimit { contour } => put_cost(&mut text, contour)?,
         OpenFault::NotAPlan { contour, plan } => put_plan(&mut text, contour, plan)?,
         OpenFault::Stale(_) | OpenFault::NoMemory => {}

@@ -12,11 +12,20 @@ use serde_json::{Map, Value};
 /// The members of an object.
 pub(crate) type Members = Map<String, Value>;
 
+/// The version of a file.
+#[derive(Clone, Copy)]
+pub(crate) enum Version {
+    /// 1: of a query without parameters.
+    One,
+    /// 2: it has a key more, which says how many parameters the query has.
+    Two,
+}
+
 /// Which object of a file.
 #[derive(Clone, Copy)]
 pub(crate) enum ObjectKind {
-    /// The whole.
-    File,
+    /// The whole, of this version.
+    File(Version),
     /// What was counted of a relation.
     Relation,
     /// A contour.
@@ -113,7 +122,8 @@ fn is_key(kind: ObjectKind, text: &str) -> bool
     ensures { result ≡ is_key kind text.now }
 {
     match kind {
-        ObjectKind::File => is_among(text, &FILE_KEYS),
+        ObjectKind::File(Version::One) => is_among(text, &FILE_KEYS),
+        ObjectKind::File(Version::Two) => text == "parameters" || is_among(text, &FILE_KEYS),
         ObjectKind::Relation => is_among(text, &RELATION_KEYS),
         ObjectKind::Contour => is_among(text, &CONTOUR_KEYS),
     }
@@ -145,7 +155,10 @@ fn has_all(members: &Members, kind: ObjectKind) -> bool
     ensures { result ≡ has_all kind (members_view members.now.entries) }
 {
     match kind {
-        ObjectKind::File => has_each(members, &FILE_KEYS),
+        ObjectKind::File(Version::One) => has_each(members, &FILE_KEYS),
+        ObjectKind::File(Version::Two) => {
+            member(members, "parameters").is_some() && has_each(members, &FILE_KEYS)
+        }
         ObjectKind::Relation => has_each(members, &RELATION_KEYS),
         ObjectKind::Contour => has_each(members, &CONTOUR_KEYS),
     }

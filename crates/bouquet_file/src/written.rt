@@ -1,10 +1,11 @@
 // The bytes that are written of a bouquet.
-ghost use Rattle.std.specs.Prelude.{◌≡◌, IfOk, map, string_bytes};
+ghost use Rattle.std.specs.Prelude.{◌≡◌, ◌≤◌, IfOk, length, map, string_bytes};
 ghost use Rattle.std.specs.Str.{IsUtf8};
 ghost use Rattle.serde_json.specs.View.{view, items_view};
 ghost use Rattle.plan_tree.specs.Plans.{plan_tree};
 ghost use Rattle.bouquet_type.specs.Trees.{bouquet_tree, contour_tree};
-ghost use Rattle.bouquet_file.specs.Written.{plan_value, contour_value, relation_value, file_with, file_value, file_text};
+ghost use Rattle.bouquet_file.specs.Limits.{max_parameters};
+ghost use Rattle.bouquet_file.specs.Written.{plan_value, contour_value, relation_value, first_version, second_version, file_with, file_value, file_text};
 ghost use Rattle.bouquet_file.specs.Opened.{OpensAs};
 
 use bouquet_type::{Bouquet, Contour};
@@ -80,8 +81,8 @@ fn relation_values(alloc: Global, relations: &[RelationStats]) -> Result<Vec<Val
     Ok(values)
 }
 
-// The value of a file with these contours and relations.
-fn file_with(
+// The value of a file of version 1 with these contours and relations.
+fn first_version(
     alloc: Global,
     query: &str,
     levels: usize,
@@ -89,7 +90,7 @@ fn file_with(
     contours: Vec<Value>,
     relations: Vec<Value>,
 ) -> Result<Value, AllocError>
-    ensures { IfOk result (λ value. view value ≡ file_with query.now levels threshold
+    ensures { IfOk result (λ value. view value ≡ first_version query.now levels threshold
         (items_view contours.items) (items_view relations.items)) }
 {
     json!(in alloc; {
@@ -102,6 +103,52 @@ fn file_with(
     })
 }
 
+// The same of version 2.
+fn second_version(
+    alloc: Global,
+    query: &str,
+    parameters: usize,
+    levels: usize,
+    threshold: u32,
+    contours: Vec<Value>,
+    relations: Vec<Value>,
+) -> Result<Value, AllocError>
+    ensures { IfOk result (λ value. view value ≡ second_version query.now parameters levels threshold
+        (items_view contours.items) (items_view relations.items)) }
+{
+    json!(in alloc; {
+        "bouquet": 2u64,
+        "contours": contours,
+        "levels": levels,
+        "parameters": parameters,
+        "query": query,
+        "relations": relations,
+        "threshold": threshold,
+    })
+}
+
+// The value of a file of a query with so many parameters.
+fn file_with(
+    alloc: Global,
+    query: &str,
+    parameters: usize,
+    levels: usize,
+    threshold: u32,
+    contours: Vec<Value>,
+    relations: Vec<Value>,
+) -> Result<Value, AllocError>
+    ensures { IfOk result (λ value. view value ≡ file_with query.now parameters levels threshold
+        (items_view contours.items) (items_view relations.items)) }
+{
+    if parameters == 0 {
+        first_version(alloc, query, levels, threshold, contours, relations)
+    } else {
+        second_version(
+            alloc, query, parameters, levels, threshold, contours, relations,
+        )
+    }
+}
+
 // The value of a file.
 fn file_value(alloc: Global, bouquet: &Bouquet, query: &str) -> Result<Value, AllocError>
     ensures { IfOk result
@@ -109,10 +156,12 @@ fn file_value(alloc: Global, bouquet: &Bouquet, query: &str) -> Result<Value, Al
 {
     let contours = contour_values(alloc, bouquet.contours())?;
     let relations = relation_values(alloc, bouquet.stats().relations.as_slice())?;
+    let parameters = bouquet.block().parameters().len();
     let levels = bouquet.grid().levels();
     file_with(
         alloc,
         query,
+        parameters,
         levels,
         bouquet.threshold(),
         contours,
@@ -121,9 +170,10 @@ fn file_value(alloc: Global, bouquet: &Bouquet, query: &str) -> Result<Value, Al
 }
 
 /// The file of a bouquet with the canonical text of its query: one compact JSON object, its keys in ascending order, without
-/// a line end. An error is want of memory.
+/// a line end. It is of version 2 where the query has parameters, and else of version 1. An error is want of memory.
 pub fn to_bytes(alloc: Global, bouquet: &Bouquet, query: &[u8]) -> Result<Vec<u8>, AllocError>
     requires text { IsUtf8 query.now }
+    requires parameters { length bouquet.now.block.parameters ≤ max_parameters }
     ensures text { IfOk result (λ bytes. bytes.items
         ≡ file_text (bouquet_tree bouquet.now) query.now) }
     ensures opens { IfOk result

@@ -21,5 +21,5 @@ returns-clause-opens c =
     let tree = bouquet_tree c.args.bouquet.now in
     let query = c.args.query.now in
     let same : view c.in_ok-file_value.field-0 ≡ file_value tree query = c.in_ok-file_value.ensures ∙ ap (file_value tree) c.in-Ok.ensures.cases.0 in
-    opened-if c.args.bouquet.now query c.to_vec.result c.contours.ensures.bouquet c.to_vec.ensures.utf8
+    opened-if c.args.bouquet.now query c.to_vec.result c.contours.ensures.bouquet c.requires.parameters c.to_vec.ensures.utf8
     (IfOk-weaker c.to_vec.result _ _ (λ bytes back. back (subst (λ value. depth value ≤ 127) (sym same) (file_shallow tree query)) ∙ ap Some same) c.to_vec.ensures.reads_back)
