@@ -8,7 +8,7 @@ use Rattle.sql_parse.specs.Canonical.{canonical_query}
 use Rattle.sql_parse.specs.Trees.{QueryTree}
 use Rattle.bouquet_type.specs.Trees.{BouquetTree}
 use Rattle.db_catalog.specs.Database.{DatabaseState}
-use Rattle.session.specs.Bouquets.{GivesBouquet, bouquet_due, kept_as, with_due}
+use Rattle.session.specs.Bouquets.{GivesDue, bouquet_due, kept_as, with_due}
 use Rattle.session.specs.Compile.{compile_outcome, levels_refusal, taken_refusal, threshold_refusal, unless_refused}
 use Rattle.session.specs.States.{NamedShape, named_of, world_of}
 use Rattle.session.specs.Outcome.{Outcome, Refuses}
@@ -30,9 +30,9 @@ unrefused world name levels threshold percent query free low small is =
     let due = λ (n : ℕ). with_due (bouquet_due world.database query levels n) (kept world name query) in
     λ i. unless_refused (option_or (taken_refusal name (free i)) (option_or (low i) (small i))) (due (sym is i))
 
--- without a bouquet a statement stops
-pub stops : (due : Result BouquetTree Refusal) (go : BouquetTree → Outcome) (why : Stop) → GivesBouquet due (Err why) → StopsAt (with_due due go) why
-stops due go why gives = stops_so (λ found. due ≡ Err found) (λ found. with_due due go ≡ Refuses found) (λ found is. ap (λ d. with_due d go) is) why gives
+-- without what is due a statement stops
+pub stops : {T Seen : Type 0} (seen : T → Seen) (due : Result Seen Refusal) (go : Seen → Outcome) (why : Stop) → GivesDue seen due (Err why) → StopsAt (with_due due go) why
+stops seen due go why gives = stops_so (λ found. due ≡ Err found) (λ found. with_due due go ≡ Refuses found) (λ found is. ap (λ d. with_due d go) is) why gives
 
 -- the state with a bouquet more
 pub world_kept : (database : DatabaseState) (old new : List NamedShape) (kept : NamedShape) → new ≡ old ++ kept ∷ []

@@ -1,5 +1,5 @@
 -- What always holds of a session holds once there is more in it.
-use Rattle.std.proofs.Common.{◌≡◌, ℕ, [], ◌∷◌, ◌++◌, List, subst, sym}
+use Rattle.std.proofs.Common.{◌≡◌, ℕ, ◌≤◌, [], ◌∷◌, ◌++◌, List, length, subst, sym}
 use Rattle.std.specs.Prelude.{All, Result, Ok, Err, IsOkAnd}
 use Rattle.std.specs.Str.{IsUtf8}
 use Rattle.std.proofs.lemmas.List.Elements.{All-weaker, All-push}
@@ -11,6 +11,7 @@ use Rattle.csv_load.specs.declared.fault.LoadFault.{LoadFault}
 use Rattle.csv_load.specs.Load.{Appends}
 use Rattle.sql_values.specs.Stored.{ValueRow}
 use Rattle.bouquet_type.specs.Trees.{bouquet_tree}
+use Rattle.bouquet_file.specs.Limits.{max_parameters}
 use Rattle.session.specs.Counted.{HasCountsOf, IsCountedBefore}
 use Rattle.session.specs.States.{NamedShape, IsSession}
 use Rattle.session.proofs.Counting.{Grows, counted_before, counted_now, grows_with_rows}
@@ -22,19 +23,21 @@ is_grown old new grown bouquets is fits grows session = record {
   fit = subst (λ (database : DatabaseState). All (λ kept. Fits database (block_tree kept.bouquet.block)) bouquets) (sym is)
       (All-weaker (λ (kept : NamedShape). Fits old (block_tree kept.bouquet.block)) (λ (kept : NamedShape). Fits grown (block_tree kept.bouquet.block)) (λ kept. fits (block_tree kept.bouquet.block)) bouquets session.fit);
   texts = session.texts;
+  parameters = session.parameters;
   counted = subst (λ (database : DatabaseState). All (λ kept. IsCountedBefore database (bouquet_tree kept.bouquet)) bouquets) (sym is)
       (All-weaker (λ (kept : NamedShape). IsCountedBefore old (bouquet_tree kept.bouquet)) (λ (kept : NamedShape). IsCountedBefore grown (bouquet_tree kept.bouquet)) (λ kept. counted_before old grown (bouquet_tree kept.bouquet) grows) bouquets session.counted);
 }
 
--- with a bouquet more, whose block fits, which has the counts of the tables, and the text of whose query is UTF-8
+-- with a bouquet more, whose block fits and has few parameters, which has the counts of the tables, and the text of whose query is UTF-8
 pub is_with_bouquet : (database : DatabaseState) (old new : List NamedShape) (kept : NamedShape) → new ≡ old ++ kept ∷ [] → Fits database (block_tree kept.bouquet.block)
-    → HasCountsOf database.tables (bouquet_tree kept.bouquet) → IsUtf8 kept.query
+    → HasCountsOf database.tables (bouquet_tree kept.bouquet) → IsUtf8 kept.query → length kept.bouquet.block.parameters ≤ max_parameters
     → IsSession (record { database = database; bouquets = old }) → IsSession (record { database = database; bouquets = new })
-is_with_bouquet database old new kept is fits counts text session =
+is_with_bouquet database old new kept is fits counts text few session =
     subst (λ (bouquets : List NamedShape). IsSession (record { database = database; bouquets = bouquets })) (sym is) (record {
       fit = All-push (λ (one : NamedShape). Fits database (block_tree one.bouquet.block)) old kept session.fit fits;
       counted = All-push (λ (one : NamedShape). IsCountedBefore database (bouquet_tree one.bouquet)) old kept session.counted (counted_now database (bouquet_tree kept.bouquet) counts);
       texts = All-push (λ (one : NamedShape). IsUtf8 one.query) old kept session.texts text;
+      parameters = All-push (λ (one : NamedShape). length one.bouquet.block.parameters ≤ max_parameters) old kept session.parameters few;
     })
 
 -- with the rows of a file more

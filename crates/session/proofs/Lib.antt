@@ -12,5 +12,6 @@ pub mod Opening
 pub mod PointLevels
 pub mod PointTexts
 pub mod RowsPrinted
+pub mod Selecting
 pub mod Sizes
 pub mod Misfits

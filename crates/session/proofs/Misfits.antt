@@ -6,11 +6,11 @@ use Rattle.query_block.specs.Shape.{BlockShape}
 use Rattle.query_block.specs.Values.{due_of, value_fault}
 use Rattle.query_block.specs.declared.values.ValueFault.{ValueFault}
 
-fits : (found : Option ValueFault) (answer : Unit {0}) → Ok answer ≡ due_of found → found ≡ None
+pub fits : (found : Option ValueFault) (answer : Unit {0}) → Ok answer ≡ due_of found → found ≡ None
 fits None answer is = refl
 fits (Some fault) answer is = cc
 
-misfits : (found : Option ValueFault) (fault : ValueFault) → Err fault ≡ due_of found → found ≡ Some fault
+pub misfits : (found : Option ValueFault) (fault : ValueFault) → Err fault ≡ due_of found → found ≡ Some fault
 misfits None fault is = cc
 misfits (Some other) fault is = cc
 

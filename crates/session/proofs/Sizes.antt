@@ -1,13 +1,11 @@
--- Which bouquet a query has, by what binding, its grid and its counts say.
-use Rattle.std.proofs.Common.{◌≡◌, ◌∙◌, ℕ, ◌^◌, ◌<◌, ◌≤◌, Bool, true, false, Option, Some, None, inl, inr, refl, sym, ap, subst, nat_lt, if◌then◌else◌, arith}
+-- Which bouquet a block has, by what its grid and its counts say.
+use Rattle.std.proofs.Common.{◌≡◌, ℕ, ◌^◌, ◌<◌, ◌≤◌, Bool, true, false, Option, Some, None, inl, inr, refl, sym, ap, subst, nat_lt, if◌then◌else◌, arith}
 use Rattle.std.specs.Prelude.{option_map}
 use Rattle.std.specs.Option.{option_or}
 use borrow.Author.Tests.{lt-ltb, ltb-true}
 use Rattle.sql_values.specs.Limits.{min_levels, max_levels, max_points}
 use Rattle.sql_values.specs.declared.limit.LimitName.TheVariants as limit
 use Rattle.query_block.specs.Blocks.{BlockTree, axes_of}
-use Rattle.sql_parse.specs.Trees.{QueryTree}
-use Rattle.sql_bind.specs.Binding.{bind_fault, block_of}
 use Rattle.db_catalog.specs.Database.{DatabaseState}
 use Rattle.ess_grid.specs.declared.fault.GridFault.{GridFault}
 use Rattle.ess_grid.specs.declared.fault.GridFault.TheVariants as grid
@@ -15,7 +13,7 @@ use Rattle.ess_grid.specs.Refused.{HasBadLevels, HasTooManyPoints}
 use Rattle.table_stats.specs.declared.fault.StatsFault.{StatsFault}
 use Rattle.table_stats.specs.declared.fault.StatsFault.TheVariants as counts
 use Rattle.table_stats.specs.Product.{first_past, row_counts}
-use Rattle.session.specs.Bouquets.{AreGridLevels, bouquet_due, bouquet_unless, compiled_over, points_refusal, product_refusal, size_refusal}
+use Rattle.session.specs.Bouquets.{AreGridLevels, compiled_due, compiled_over, points_refusal, product_refusal}
 use Rattle.session.specs.Stop.{StopsWhere, stop_of_counts, stop_of_grid}
 use Rattle.session.specs.declared.refusal.Refusal.{Refusal}
 use Rattle.session.specs.declared.refusal.Refusal.TheVariants as refusal
@@ -63,10 +61,7 @@ module _ (database : DatabaseState) (block : BlockTree) where
       by None is = refl
       by (Some value) is = absurd (small value is)
 
--- of a query that is bound, the points of its grid decide, then the combinations of its tables' rows
-pub decided : (database : DatabaseState) (query : QueryTree) (levels : Option ℕ) (threshold : ℕ) (block : BlockTree) (points product : Option Refusal) → bind_fault database query ≡ None → block ≡ block_of database query
-    → points_refusal (axes_of block) levels ≡ points → product_refusal database block ≡ product → bouquet_due database query levels threshold ≡ compiled_over database levels threshold block (option_or points product)
-decided database query levels threshold block points product bound same are is =
-    ap (bouquet_unless database query levels threshold) bound
-    ∙ ap (λ (tree : BlockTree). compiled_over database levels threshold tree (size_refusal database tree levels)) (sym same)
-    ∙ (λ i. compiled_over database levels threshold block (option_or (are i) (is i)))
+-- the points of a block's grid decide, then the combinations of its tables' rows
+pub decided : (database : DatabaseState) (levels : Option ℕ) (threshold : ℕ) (block : BlockTree) (points product : Option Refusal) → points_refusal (axes_of block) levels ≡ points → product_refusal database block ≡ product
+    → compiled_due database levels threshold block ≡ compiled_over database levels threshold block (option_or points product)
+decided database levels threshold block points product are is = λ i. compiled_over database levels threshold block (option_or (are i) (is i))

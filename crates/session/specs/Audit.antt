@@ -45,7 +45,7 @@ bouquet_audit max_work world values levels bouquet =
     unless_misfit (value_fault bouquet.costing.block.parameters values)
     (audit_answer max_work world bouquet block levels (point_refusal bouquet.costing.grid levels))
 
--- the audit of the bouquet of this name, whose counts have to be those of the tables
+-- the audit of the bouquet of this name with the statement's values, whose counts have to be those of the tables
 abbrev pub audit_outcome : (max_work : ℕ) → World → AuditDef → Outcome
 audit_outcome max_work world audit =
-    at_present world audit.name (bouquet_audit max_work world [] audit.levels)
+    at_present world audit.name (bouquet_audit max_work world audit.values audit.levels)

@@ -1,10 +1,11 @@
 -- How a statement begins, held against what is due to it, and what is to be done with the bytes of a file that it asks for.
-use Rattle.std.specs.Prelude.{◌≡◌, ℕ, ◌<◌, List, length, None, Option, Some, Result, Ok, Err, Vec}
+use Rattle.std.specs.Prelude.{◌≡◌, ℕ, ◌<◌, ◌≤◌, List, length, None, Option, Some, Result, Ok, Err, Vec}
 use Rattle.std.specs.Str.{IsUtf8}
 use Rattle.query_block.specs.Blocks.{block_tree}
 use Rattle.db_catalog.specs.Fits.{Fits}
 use Rattle.cost_model.specs.Counts.{stats_of}
 use Rattle.cost_model.specs.Fits.{FitsBlock}
+use Rattle.bouquet_file.specs.Limits.{max_parameters}
 use Rattle.session.specs.declared.begun.Opening.{Opening}
 use Rattle.session.specs.declared.begun.Pending.{Pending}
 use Rattle.session.specs.declared.begun.Pending.TheVariants as pending
@@ -28,13 +29,15 @@ abbrev pub pending_outcome : World → Pending → (bytes : List ℕ) → Outcom
 pending_outcome world (pending.Load table) bytes = load_bytes world table bytes
 pending_outcome world (pending.Open opening) bytes = open_with world opening.name opening.query.items (block_tree opening.block) opening.stats bytes
 
--- the name is free; the block fits the database, its counts are those of the tables, and the text is UTF-8
+-- the name is free; the block fits the database, has no more parameters than a file may say, its counts are those of the tables, and
+-- the text is UTF-8
 pub record CanOpen (world : World) (opening : Opening) : Type 0 where
   pub free : named_in opening.name world.bouquets ≡ None
   pub text : IsUtf8 opening.query.items
   pub fits : Fits world.database (block_tree opening.block)
   pub counts : opening.stats ≡ stats_of world.database.tables (block_tree opening.block)
   pub few : FitsBlock (block_tree opening.block) opening.stats
+  pub parameters : length opening.block.parameters ≤ max_parameters
 
 -- it belongs to this state of a script
 abbrev pub BelongsTo : World → Pending → Type 0

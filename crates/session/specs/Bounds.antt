@@ -26,11 +26,11 @@ pub record RunsWithinBound (database : DatabaseState) (values : List Value) (bou
   pub bound : let work = works_over database (put_of values bouquet.costing.block) in MeetsBound bouquet work (total_work bouquet work)
   pub sound : IsCompiled bouquet → IsSound bouquet
 
--- so it is for the bouquet by which a query is answered; that of a SELECT is sound
+-- so it is for the bouquet by which a query is answered, with the statement's values; that of a SELECT is sound
 abbrev pub IsAnsweredWithin : World → StatementTree → Type 0
 IsAnsweredWithin world (Select query) =
     IfOk (bouquet_due world.database query None default_threshold) (λ bouquet. IsSound bouquet × RunsWithinBound world.database [] bouquet)
-IsAnsweredWithin world (Run name) = IfSome (bouquet_in name world.bouquets) (RunsWithinBound world.database [])
+IsAnsweredWithin world (Run run) = IfSome (bouquet_in run.name world.bouquets) (RunsWithinBound world.database run.values)
 IsAnsweredWithin world other = ⊤
 
 -- what a query's statement returned is due to it, an answer is within its bound, and no more was paid than may be

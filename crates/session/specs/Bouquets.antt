@@ -1,5 +1,5 @@
 -- The bouquet of a query, and what a bouquet answers.
-use Rattle.std.specs.Prelude.{◌≡◌, ℕ, ◌^◌, ◌≤◌, nat_le, nat_lt, true, List, Option, Some, None, IfSome, option_map, Result, Ok, Err, if◌then◌else◌}
+use Rattle.std.specs.Prelude.{◌≡◌, ℕ, ◌^◌, ◌≤◌, nat_le, nat_lt, true, List, length, Option, Some, None, IfSome, option_map, Result, Ok, Err, if◌then◌else◌}
 use Rattle.std.specs.Option.{option_or}
 use Rattle.sql_values.specs.Limits.{min_levels, max_levels, max_points, max_script_bytes}
 use Rattle.sql_values.specs.declared.limit.LimitName.TheVariants as limit
@@ -10,6 +10,7 @@ use Rattle.query_block.specs.declared.values.ValueFault.{ValueFault}
 use Rattle.sql_parse.specs.Trees.{QueryTree}
 use Rattle.sql_parse.specs.WellFormed.{IsWellFormedQuery}
 use Rattle.sql_parse.specs.Counts.{of_condition, predicates_in}
+use Rattle.sql_parse.specs.Parameters.{parameters_of_condition}
 use Rattle.db_catalog.specs.Database.{DatabaseState}
 use Rattle.sql_bind.specs.declared.fault.BindFault.{BindFault}
 use Rattle.sql_bind.specs.Binding.{bind_fault, block_of}
@@ -17,8 +18,7 @@ use Rattle.ess_grid.specs.Levels.{levels_of}
 use Rattle.cost_model.specs.Costing.{CostingTree}
 use Rattle.cost_model.specs.Counts.{stats_of}
 use Rattle.table_stats.specs.Product.{first_past, row_counts}
-use Rattle.bouquet_type.specs.Shapes.{BouquetShape}
-use Rattle.bouquet_type.specs.Trees.{BouquetTree, bouquet_tree}
+use Rattle.bouquet_type.specs.Trees.{BouquetTree}
 use Rattle.bouquet_type.specs.Compiled.{compiled}
 use Rattle.bouquet_type.specs.Runs.{run_end}
 use Rattle.bouquet_run.specs.Outcomes.{works_over}
@@ -30,10 +30,12 @@ use Rattle.session.specs.Outcome.{Outcome, Prints, Refuses}
 use Rattle.session.specs.Stop.{StopsWhere}
 use Rattle.session.specs.World.{World, with_bouquet}
 
--- a query as a script may have it: of the grammar's form, with no more predicates than a script may have bytes
+-- a query as a script may have it: of the grammar's form, with no more predicates, and no more parameters, than a script may have
+-- bytes
 pub record IsScriptQuery (query : QueryTree) : Type 0 where
   pub well_formed : IsWellFormedQuery query
   pub predicates : of_condition predicates_in query.condition ≤ max_script_bytes
+  pub parameters : length (parameters_of_condition query.condition) ≤ max_script_bytes
 
 -- levels that an axis may have, where they are given
 abbrev pub AreGridLevels : (levels : Option ℕ) → Type 0
@@ -64,24 +66,34 @@ abbrev pub compiled_over : DatabaseState → (levels : Option ℕ) → (threshol
 compiled_over database levels threshold block (Some why) = Err why
 compiled_over database levels threshold block None = Ok (compiled (costing_over database block levels) threshold)
 
--- the bouquet that is due is returned, or why there is none, which costs nothing
-abbrev pub GivesBouquet : Result BouquetTree Refusal → Result BouquetShape Stop → Type 0
-GivesBouquet due (Ok bouquet) = due ≡ Ok (bouquet_tree bouquet)
-GivesBouquet due (Err why) = StopsWhere (λ found. due ≡ Err found) why
+-- it is refused by the points of its grid, or by the product of its tables' rows
+abbrev pub compiled_due : DatabaseState → (levels : Option ℕ) → (threshold : ℕ) → BlockTree → Result BouquetTree Refusal
+compiled_due database levels threshold block = compiled_over database levels threshold block (size_refusal database block levels)
 
--- of a query: it is refused by binding, by the points of its grid, or by the product of its tables' rows; else this is its bouquet
-abbrev pub bouquet_unless : DatabaseState → QueryTree → (levels : Option ℕ) → (threshold : ℕ) → Option BindFault → Result BouquetTree Refusal
-bouquet_unless database query levels threshold (Some fault) = Err (refusal.NotBound fault)
-bouquet_unless database query levels threshold None =
-    let block = block_of database query in
-    compiled_over database levels threshold block (size_refusal database block levels)
+-- the block of a query, or why it has none: binding refuses it
+abbrev pub block_unless : DatabaseState → QueryTree → Option BindFault → Result BlockTree Refusal
+block_unless database query (Some fault) = Err (refusal.NotBound fault)
+block_unless database query None = Ok (block_of database query)
+
+abbrev pub block_due : DatabaseState → QueryTree → Result BlockTree Refusal
+block_due database query = block_unless database query (bind_fault database query)
+
+-- the compiled bouquet of a query's block, where it has one
+abbrev pub bouquet_over : DatabaseState → (levels : Option ℕ) → (threshold : ℕ) → Result BlockTree Refusal → Result BouquetTree Refusal
+bouquet_over database levels threshold (Ok block) = compiled_due database levels threshold block
+bouquet_over database levels threshold (Err why) = Err why
 
 abbrev pub bouquet_due : DatabaseState → QueryTree → (levels : Option ℕ) → (threshold : ℕ) → Result BouquetTree Refusal
-bouquet_due database query levels threshold = bouquet_unless database query levels threshold (bind_fault database query)
+bouquet_due database query levels threshold = bouquet_over database levels threshold (block_due database query)
 
--- what comes of a bouquet, where there is one; else the refusal
-abbrev pub with_due : Result BouquetTree Refusal → (BouquetTree → Outcome) → Outcome
-with_due (Ok bouquet) go = go bouquet
+-- what is due is returned, as it is seen so, or why there is none, which costs nothing
+abbrev pub GivesDue : {T Seen : Type 0} → (T → Seen) → Result Seen Refusal → Result T Stop → Type 0
+GivesDue seen due (Ok given) = due ≡ Ok (seen given)
+GivesDue seen due (Err why) = StopsWhere (λ found. due ≡ Err found) why
+
+-- what comes of what is due, where there is such; else the refusal
+abbrev pub with_due : {T : Type 0} → Result T Refusal → (T → Outcome) → Outcome
+with_due (Ok given) go = go given
 with_due (Err why) go = Refuses why
 
 -- a bouquet is kept under a name, with the text of its query, and its size is printed behind a label
@@ -102,7 +114,11 @@ block_answer max_work world bouquet block =
     if nat_le end.total max_work then Prints (answer_text world.database block end) end.total world
     else Refuses (refusal.PastWork max_work true)
 
--- the answer of a bouquet: that on its block with values in place of its parameters
+-- the answer of a bouquet with values that fit: that on its block with them in place of its parameters
+abbrev pub answer_with : (max_work : ℕ) → World → List Value → BouquetTree → Outcome
+answer_with max_work world values bouquet = block_answer max_work world bouquet (put_of values bouquet.costing.block)
+
+-- the answer of a bouquet with values, unless they don't fit
 abbrev pub bouquet_answer : (max_work : ℕ) → World → List Value → BouquetTree → Outcome
 bouquet_answer max_work world values bouquet =
-    unless_misfit (value_fault bouquet.costing.block.parameters values) (block_answer max_work world bouquet (put_of values bouquet.costing.block))
+    unless_misfit (value_fault bouquet.costing.block.parameters values) (answer_with max_work world values bouquet)

@@ -1,18 +1,17 @@
 -- What comes of OPEN.
-use Rattle.std.specs.Prelude.{ℕ, List, Option, Some, None, Result, Ok, Err, codes}
+use Rattle.std.specs.Prelude.{ℕ, List, Option, Some, Result, Ok, Err, codes}
 use Rattle.std.specs.Option.{option_or}
 use Rattle.query_block.specs.Blocks.{BlockTree}
 use Rattle.sql_parse.specs.Trees.{QueryTree}
 use Rattle.sql_parse.specs.Canonical.{canonical_query}
 use Rattle.db_catalog.specs.Database.{DatabaseState}
-use Rattle.sql_bind.specs.declared.fault.BindFault.{BindFault}
-use Rattle.sql_bind.specs.Binding.{bind_fault, block_of}
+use Rattle.sql_bind.specs.Binding.{block_of}
 use Rattle.cost_model.specs.Counts.{stats_of}
 use Rattle.cost_model.specs.declared.stats.Stats.{Stats}
 use Rattle.bouquet_type.specs.Trees.{BouquetTree}
 use Rattle.bouquet_file.specs.declared.fault.OpenFault.{OpenFault}
 use Rattle.bouquet_file.specs.Opened.{file_of, json_value}
-use Rattle.session.specs.Bouquets.{kept_as, product_refusal}
+use Rattle.session.specs.Bouquets.{block_due, kept_as, product_refusal}
 use Rattle.session.specs.Compile.{taken_refusal, unless_refused}
 use Rattle.session.specs.Given.{at_file}
 use Rattle.session.specs.declared.refusal.Refusal.{Refusal}
@@ -21,14 +20,14 @@ use Rattle.session.specs.Outcome.{Outcome, Refuses}
 use Rattle.session.specs.World.{World, named_in}
 
 -- a query that can't be bound, or whose tables have too many combinations of rows
-abbrev pub query_refusal : DatabaseState → QueryTree → Option BindFault → Option Refusal
-query_refusal database query (Some fault) = Some (refusal.NotBound fault)
-query_refusal database query None = product_refusal database (block_of database query)
+abbrev pub query_refusal : DatabaseState → Result BlockTree Refusal → Option Refusal
+query_refusal database (Err why) = Some why
+query_refusal database (Ok block) = product_refusal database block
 
 -- why no file is asked for: the first of these that comes, the name before them
 abbrev pub open_refusal : World → (name : List ℕ) → QueryTree → Option Refusal
 open_refusal world name query =
-    option_or (taken_refusal name (named_in name world.bouquets)) (query_refusal world.database query (bind_fault world.database query))
+    option_or (taken_refusal name (named_in name world.bouquets)) (query_refusal world.database (block_due world.database query))
 
 -- the bouquet that a file says, kept under the name with the text of the query; or the file is refused
 abbrev pub opened_kept : World → (name text : List ℕ) → Result BouquetTree OpenFault → Outcome

@@ -1,12 +1,20 @@
 -- What comes of SELECT.
 use Rattle.std.specs.Prelude.{ℕ, [], None}
 use Rattle.sql_values.specs.Limits.{default_threshold}
+use Rattle.query_block.specs.Blocks.{BlockTree}
+use Rattle.query_block.specs.Values.{value_fault}
 use Rattle.sql_parse.specs.Trees.{QueryTree}
-use Rattle.session.specs.Bouquets.{bouquet_due, bouquet_answer, with_due}
+use Rattle.session.specs.Bouquets.{answer_with, block_due, compiled_due, unless_misfit, with_due}
 use Rattle.session.specs.Outcome.{Outcome}
 use Rattle.session.specs.World.{World}
 
--- the answer of the query's bouquet, by as many levels as none given say and the threshold that holds where none is given
+-- on a block: the answer of its bouquet, by as many levels as none given say and the threshold that holds where none is given. A SELECT
+-- has no values, so it is refused before where the block has a parameter
+abbrev pub selected : (max_work : ℕ) → World → BlockTree → Outcome
+selected max_work world block =
+    unless_misfit (value_fault block.parameters [])
+    (with_due (compiled_due world.database None default_threshold block) (answer_with max_work world []))
+
+-- of a query, on its block
 abbrev pub select_outcome : (max_work : ℕ) → World → QueryTree → Outcome
-select_outcome max_work world query =
-    with_due (bouquet_due world.database query None default_threshold) (bouquet_answer max_work world [])
+select_outcome max_work world query = with_due (block_due world.database query) (selected max_work world)

@@ -46,8 +46,8 @@ fn point_of(grid: &Grid, levels: &[u64]) -> Result<Point, Refusal>
 }
 
 impl Session {
-    /// Tells of the bouquet of this name how its plans' works are to their costs at a point. It is refused where the levels are
-    /// no point of the bouquet's grid.
+    /// Tells of the bouquet of this name how its plans' works with the statement's values are to their costs at a point. It is
+    /// refused where the values don't fit, then where the levels are no point of the bouquet's grid.
     pub(crate) fn audit(
         &self,
         alloc: Global,
@@ -58,9 +58,10 @@ impl Session {
             result (world_of self.now) }
     {
         let bouquet = self.present(&audit.name)?;
-        bouquet.block().fits_values(&[])?;
+        let values = audit.values.as_slice();
+        bouquet.block().fits_values(values)?;
         let point = point_of(bouquet.grid(), audit.levels.as_slice())?;
-        let told = audit_run::audit(alloc, &self.database, bouquet, &[], &point, max_work)?;
+        let told = audit_run::audit(alloc, &self.database, bouquet, values, &point, max_work)?;
         Ok(audit_line(alloc, &told)?)
     }
 }

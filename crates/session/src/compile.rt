@@ -10,7 +10,7 @@ ghost use Rattle.session.specs.Outcome.{RefusesFound};
 ghost use Rattle.session.specs.Returns.{ReturnsFree};
 ghost use Rattle.session.specs.States.{world_of};
 
-use crate::bouquets::bouquet_of;
+use crate::bouquets::{block_of, compiled_of};
 use crate::named::taken;
 use crate::refusal::Refusal;
 use crate::session::Session;
@@ -61,8 +61,8 @@ impl Session {
         }
         check_levels(compile.levels)?;
         let threshold = checked_threshold(compile.threshold)?;
-        let levels = compile.levels;
-        let bouquet = bouquet_of(alloc, &self.database, &compile.query, levels, threshold)?;
+        let block = block_of(alloc, &self.database, &compile.query)?;
+        let bouquet = compiled_of(alloc, &self.database, block, compile.levels, threshold)?;
         let query = print_query(alloc, &compile.query)?;
         self.keep(alloc, "-- compile points=", &compile.name, query, bouquet)
     }

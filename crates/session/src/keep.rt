@@ -1,9 +1,10 @@
 // A bouquet kept under a new name: what COMPILE and OPEN do at their end.
-ghost use Rattle.std.specs.Prelude.{◌≡◌, OnErr, None};
+ghost use Rattle.std.specs.Prelude.{◌≡◌, ◌≤◌, OnErr, None, length};
 ghost use Rattle.std.specs.Str.{IsUtf8};
 ghost use Rattle.query_block.specs.Blocks.{block_tree};
 ghost use Rattle.db_catalog.specs.Fits.{Fits};
 ghost use Rattle.bouquet_type.specs.Trees.{bouquet_tree};
+ghost use Rattle.bouquet_file.specs.Limits.{max_parameters};
 ghost use Rattle.session.specs.Counted.{HasCountsOf};
 ghost use Rattle.session.specs.Bouquets.{kept_as};
 ghost use Rattle.session.specs.Returns.{ReturnsFree};
@@ -32,6 +33,7 @@ impl Session {
         requires fits { Fits self.old.database (block_tree bouquet.block) }
         requires counts { HasCountsOf self.old.database.tables (bouquet_tree bouquet) }
         requires text { IsUtf8 query.items }
+        requires parameters { length bouquet.block.parameters ≤ max_parameters }
         ensures kept { ReturnsFree
             (kept_as label.now (world_of self.old) name.now query.items (bouquet_tree bouquet))
             result (world_of self.new) }

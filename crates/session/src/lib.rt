@@ -8,6 +8,7 @@
 //! never returns one but for a SAVE, and never reads a row but by a meter.
 #![tactic(auto)]
 
+mod answers;
 mod audit;
 mod begun;
 mod bouquets;

@@ -9,11 +9,11 @@ ghost use Rattle.session.specs.Returns.{ReturnsFree};
 ghost use Rattle.session.specs.States.{world_of};
 
 use crate::begun::{Asked, Begun, Opening, Pending};
+use crate::bouquets::block_of;
 use crate::named::taken;
 use crate::session::Session;
 use crate::stop::Stop;
 use bouquet_file::from_bytes;
-use sql_bind::bind;
 use sql_parse::{OpenDef, print_query};
 use std::alloc::Global;
 use table_stats::stats_of;
@@ -30,7 +30,7 @@ impl Session {
         if self.bouquets.get(opened.name.bytes()).is_some() {
             return Err(taken(&opened.name));
         }
-        let block = bind(alloc, &self.database, &opened.query)?;
+        let block = block_of(alloc, &self.database, &opened.query)?;
         let stats = stats_of(alloc, &self.database, &block)?;
         let opening = Opening {
             name: opened.name.clone()?,

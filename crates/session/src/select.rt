@@ -1,4 +1,5 @@
-// SELECT: a query is bound before anything else is asked of it, then compiled, then answered by a run of its bouquet.
+// SELECT: a query is bound before anything else is asked of it; it has no values, so none of its block's parameters may be left;
+// then it is compiled, and answered by a run of its bouquet.
 ghost use Rattle.std.specs.Prelude.{◌+◌, ◌≤◌};
 ghost use Rattle.work_ledger.specs.Account.{max_account};
 ghost use Rattle.sql_parse.specs.Trees.{Select, query_tree};
@@ -6,7 +7,8 @@ ghost use Rattle.session.specs.Bouquets.{IsScriptQuery};
 ghost use Rattle.session.specs.Bounds.{Answers};
 ghost use Rattle.session.specs.States.{world_of};
 
-use crate::bouquets::{answer, bouquet_of};
+use crate::answers::answer_with;
+use crate::bouquets::{block_of, compiled_of};
 use crate::session::Session;
 use crate::stop::Stop;
 use bouquet_run::Book;
@@ -28,8 +30,10 @@ impl Session {
         ensures { Answers max_work (world_of self.now) (Select (query_tree query.now))
             result book.old book.new }
     {
+        let block = block_of(alloc, &self.database, query)?;
+        block.fits_values(&[])?;
         let threshold = DEFAULT_THRESHOLD as u32;
-        let bouquet = bouquet_of(alloc, &self.database, query, None, threshold)?;
-        answer(alloc, max_work, &self.database, &bouquet, &[], book)
+        let bouquet = compiled_of(alloc, &self.database, block, None, threshold)?;
+        answer_with(alloc, max_work, &self.database, &bouquet, &[], book)
     }
 }

@@ -3,7 +3,7 @@ ghost use Rattle.std.specs.Prelude.{◌≡◌, ◌+◌, ◌≤◌, OnOk, OnErr};
 ghost use Rattle.work_ledger.specs.Account.{max_account};
 ghost use Rattle.sql_parse.specs.Trees.{statement_tree};
 ghost use Rattle.sql_parse.specs.WellFormed.{IsWellFormed};
-ghost use Rattle.sql_parse.specs.Counts.{predicates_of};
+ghost use Rattle.sql_parse.specs.Counts.{HasUpTo};
 ghost use Rattle.sql_values.specs.Limits.{max_script_bytes};
 ghost use Rattle.session.specs.Begins.{BeginsAsDue, begun_with};
 ghost use Rattle.session.specs.Bounds.{IsAnsweredWithin};
@@ -74,7 +74,7 @@ impl Session {
         book: &mut Book,
     ) -> Result<Begun, Stop>
         requires well_formed { IsWellFormed (statement_tree statement.now) }
-        requires predicates { predicates_of (statement_tree statement.now) ≤ max_script_bytes }
+        requires counted { HasUpTo max_script_bytes (statement_tree statement.now) }
         requires room { book.old + max_work ≤ max_account }
         ensures begins { BeginsAsDue max_work (world_of self.old) (statement_tree statement.now)
             result (world_of self.new) book.old book.new }
@@ -89,7 +89,7 @@ impl Session {
             Statement::Load(load) => self.load(load),
             Statement::Select(query) => prints(self.select(alloc, max_work, query, book)),
             Statement::Compile(compile) => prints(self.compile(alloc, compile)),
-            Statement::Run(name) => prints(self.run(alloc, max_work, name, book)),
+            Statement::Run(run) => prints(self.run(alloc, max_work, run, book)),
             Statement::Explain(name) => prints(self.explain(alloc, name)),
             Statement::SaveFile(save) => self.save_file(alloc, save),
             Statement::OpenFile(opened) => self.open_file(alloc, opened),

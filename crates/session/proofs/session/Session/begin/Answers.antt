@@ -19,7 +19,7 @@ returns-in-Compile-clause-begins c =
     rw (c.in-Compile.is, c.prints-in-Compile.ensures) (begins_free c.args.max_work (world_of c.args.self.now) (Compile compile.name compile.levels compile.threshold (query_tree compile.query)) (world_of c.compile.new.self) c.compile.result c.args.book.now (λ file. c.compile.ensures.due))
 
 pub returns-in-Run-clause-begins : goal.returns-in-Run-clause-begins
-returns-in-Run-clause-begins c = rw (c.in-Run.is, c.prints-in-Run.ensures) (begins_due c.args.max_work (world_of c.args.self.now) (Run c.in-Run.name) (world_of c.args.self.now) c.run.result c.args.book.now c.run.new.book c.run.ensures.due)
+returns-in-Run-clause-begins c = rw (c.in-Run.is, c.prints-in-Run.ensures) (begins_due c.args.max_work (world_of c.args.self.now) (Run c.in-Run.run') (world_of c.args.self.now) c.run.result c.args.book.now c.run.new.book c.run.ensures.due)
 
 pub returns-in-Explain-clause-begins : goal.returns-in-Explain-clause-begins
 returns-in-Explain-clause-begins c = rw (c.in-Explain.is, c.prints-in-Explain.ensures) (begins_free c.args.max_work (world_of c.args.self.now) (Explain c.in-Explain.name) (world_of c.args.self.now) c.explain.result c.args.book.now (λ file. c.explain.ensures))

@@ -11,7 +11,7 @@ use Rattle.session.proofs.session.Session.keep.Goals as goal
 pub invariant_of-self-2 : goal.invariant_of-self-2
 invariant_of-self-2 c =
     let kept : NamedShape = record { name = c.in_ok-name.name.items; query = c.args.query.items; bouquet = c.args.bouquet } in
-    is_with_bouquet c.self.inside.database c.self.inside.bouquets c.add.new.self kept c.in_ok-add.ensures.added (rw (← c.self.view_is) at c.requires.fits) (rw (← c.self.view_is) at c.requires.counts) c.requires.text c.self.invariant
+    is_with_bouquet c.self.inside.database c.self.inside.bouquets c.add.new.self kept c.in_ok-add.ensures.added (rw (← c.self.view_is) at c.requires.fits) (rw (← c.self.view_is) at c.requires.counts) c.requires.text c.requires.parameters c.self.invariant
 
 pub returns-clause-kept : goal.returns-clause-kept
 returns-clause-kept c =

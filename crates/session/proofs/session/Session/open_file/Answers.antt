@@ -1,19 +1,16 @@
 -- The name is taken, or the query has no block or no counts, or the file is asked for.
 use Rattle.std.proofs.Common.{◌≡◌, ◌∙◌, Option, Some, None, true, false, refl, sym, ap}
-use Rattle.std.specs.Prelude.{Err, IfSome, is_some}
+use Rattle.std.specs.Prelude.{Ok, Err, IfSome, is_some}
 use Rattle.std.proofs.lemmas.Result.{err_from_is_err_and}
 use Rattle.query_block.specs.Blocks.{block_tree}
 use Rattle.sql_parse.specs.Canonical.{canonical_query}
 use Rattle.sql_parse.specs.Trees.{query_tree}
-use Rattle.sql_bind.specs.declared.fault.BindFault.TheVariants as bind
-use Rattle.sql_bind.specs.Binding.{bind_fault, block_of}
-use Rattle.session.specs.Bouquets.{product_refusal}
+use Rattle.session.specs.Bouquets.{block_due, product_refusal}
 use Rattle.session.specs.Open.{open_outcome, open_refusal}
-use Rattle.session.specs.declared.refusal.Refusal.TheVariants as refusal
 use Rattle.session.specs.States.{world_of}
 use Rattle.session.specs.Stop.{stop_of_counts}
 use Rattle.session.specs.World.{World, NamedBouquet, named_in}
-use Rattle.session.proofs.Beginning.{returns_free, told_free}
+use Rattle.session.proofs.Beginning.{returns_free, stops_so}
 use Rattle.session.proofs.Opening.{open_taken, open_with_file, product_decides, query_decides, stops_open}
 use Rattle.session.proofs.Sizes.{counts_stop, past_product, small_product}
 use Rattle.session.proofs.session.Session.open_file.Goals as goal
@@ -40,10 +37,9 @@ returns-in_err-block c = λ max_work paid.
     let gone : is_some c.get.result ≡ false = sym c.is_some.ensures ∙ c.if-is_some.false in
     let free : named_in opened.name world.bouquets ≡ None = rw (← c.bytes.ensures) (c.get.ensures.none gone) in
     let stop = err_from_is_err_and c.from_residual.result c.from_residual.ensures.1 in
-    let fault = c.in_err-block.field-0.0 in
-    let refused = told_free (λ found. open_refusal world opened.name query ≡ Some found) bind.NoMemory refusal.NotBound fault stop.0 stop.2
-    (λ other. query_decides world opened.name opened.file query None free (Some fault) (c.in_err-block.ensures.refuses.refused other)) refl in
-    rw (← c.self.view_is, stop.1) (λ file. returns_free world (open_outcome world opened.name opened.file query file) (Err stop.0) paid (stops_open world opened.name opened.file query file stop.0 refused))
+    let refused = stops_so (λ found. block_due world.database query ≡ Err found) (λ found. open_refusal world opened.name query ≡ Some found)
+    (λ found. query_decides world opened.name opened.file query None free (Err found)) c.in_err-block.field-0.0 c.in_err-block.ensures.due in
+    rw (← c.self.view_is, stop.1, stop.2) (λ file. returns_free world (open_outcome world opened.name opened.file query file) (Err c.in_err-block.field-0.0) paid (stops_open world opened.name opened.file query file _ refused))
 
 pub returns-in_err-stats : goal.returns-in_err-stats
 returns-in_err-stats c = λ max_work paid.
@@ -53,11 +49,10 @@ returns-in_err-stats c = λ max_work paid.
     let gone : is_some c.get.result ≡ false = sym c.is_some.ensures ∙ c.if-is_some.false in
     let free : named_in opened.name world.bouquets ≡ None = rw (← c.bytes.ensures) (c.get.ensures.none gone) in
     let block = block_tree c.in_ok-block.block in
-    let none : bind_fault world.database query ≡ None = c.in_ok-block.ensures.refuses.answered in
-    let same : block ≡ block_of world.database query = c.in_ok-block.ensures.block in
+    let bound : block_due world.database query ≡ Ok block = c.in_ok-block.ensures.due in
     let stop = err_from_is_err_and c.from_residual-in_err-stats.result c.from_residual-in_err-stats.ensures.1 in
     let refused = counts_stop (λ found. open_refusal world opened.name query ≡ Some found) c.in_err-stats.field-0.0
-    (λ value is. product_decides world opened.name opened.file query None free none block same ∙ past_product world.database block value ((c.in_err-stats.ensures.product_limit value).0 (ap Err is))) in
+    (λ value is. product_decides world opened.name opened.file query None free block bound ∙ past_product world.database block value ((c.in_err-stats.ensures.product_limit value).0 (ap Err is))) in
     rw (← c.self.view_is, stop.1, stop.2) (λ file. returns_free world (open_outcome world opened.name opened.file query file) (Err (stop_of_counts c.in_err-stats.field-0.0)) paid (stops_open world opened.name opened.file query file _ refused))
 
 pub returns : goal.returns
@@ -68,15 +63,14 @@ returns c = λ max_work paid.
     let gone : is_some c.get.result ≡ false = sym c.is_some.ensures ∙ c.if-is_some.false in
     let free : named_in opened.name world.bouquets ≡ None = rw (← c.bytes.ensures) (c.get.ensures.none gone) in
     let block = block_tree c.in_ok-block.block in
-    let none : bind_fault world.database query ≡ None = c.in_ok-block.ensures.refuses.answered in
-    let same : block ≡ block_of world.database query = c.in_ok-block.ensures.block in
+    let bound : block_due world.database query ≡ Ok block = c.in_ok-block.ensures.due in
     let small : product_refusal world.database block ≡ None = small_product world.database block (λ value is. cc ((c.in_ok-stats.ensures.product_limit value).1 is)) in
     let name : c.in_ok-clone.field-0 ≡ opened.name = c.in_ok-clone.ensures.cases in
     let file_name : c.in_ok-clone-2.field-0 ≡ opened.file = c.in_ok-clone-2.ensures.cases in
     let text : c.in_ok-print_query.field-0.items ≡ canonical_query query = c.in_ok-print_query.ensures in
     rw (← c.self.view_is) (
       record {
-        asks = product_decides world opened.name opened.file query None free none block same ∙ small;
+        asks = product_decides world opened.name opened.file query None free block bound ∙ small;
         name = ap Some (sym file_name);
         text = rw file_name c.requires.text;
         pending = record {
@@ -85,8 +79,9 @@ returns c = λ max_work paid.
           fits = c.in_ok-block.ensures.fits;
           counts = c.in_ok-stats.ensures.counts;
           few = c.in_ok-stats.ensures.fits;
+          parameters = c.in_ok-block.ensures.parameters;
         };
-        due = λ file. open_with_file world opened.name opened.file query file free none block same small _ _ _ _ file_name name text c.in_ok-stats.ensures.counts;
+        due = λ file. open_with_file world opened.name opened.file query file free block bound small _ _ _ _ file_name name text c.in_ok-stats.ensures.counts;
       },
       refl,
       refl,

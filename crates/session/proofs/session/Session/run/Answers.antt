@@ -1,5 +1,5 @@
 -- The bouquet of the name answers.
-use Rattle.std.proofs.Common.{[], refl}
+use Rattle.std.proofs.Common.{refl}
 use Rattle.std.proofs.lemmas.Result.{err_from_is_err_and}
 use Rattle.sql_parse.specs.Trees.{Run}
 use Rattle.session.specs.Bouquets.{bouquet_answer}
@@ -12,14 +12,14 @@ pub returns-in_err-bouquet : goal.returns-in_err-bouquet
 returns-in_err-bouquet c =
     let world : World = world_of c.args.self.now in
     let stop = err_from_is_err_and c.from_residual.result c.from_residual.ensures.1 in
-    rw (stop.1, stop.2) (answers_unpaid c.args.max_work world (Run c.args.name.now) _ c.args.book.now (λ file. c.in_err-bouquet.ensures.refused (bouquet_answer c.args.max_work world [])))
+    rw (stop.1, stop.2) (answers_unpaid c.args.max_work world (Run c.args.run.now) _ c.args.book.now (λ file. c.in_err-bouquet.ensures.refused (bouquet_answer c.args.max_work world c.args.run.now.values)))
 
 pub returns : goal.returns
 returns c =
     let world : World = world_of (record { database = c.self.inside.database; bouquets = c.self.inside.bouquets }) in
     let present = rw (← c.self.view_is) at c.in_ok-bouquet.ensures.present in
     rw (← c.self.view_is) (record {
-      due = λ file. rw (present.due (bouquet_answer c.args.max_work world [])) (c.answer.ensures.due world refl);
-      bounded = rw present.named c.answer.ensures.bound;
+      due = λ file. rw (present.due (bouquet_answer c.args.max_work world c.args.run.now.values)) (rw c.as_slice-values.ensures at (c.answer.ensures.due world refl));
+      bounded = rw present.named (rw c.as_slice-values.ensures at c.answer.ensures.bound);
       pays = c.answer.ensures.pays;
     })

@@ -1,8 +1,9 @@
 -- There is no such bouquet, or its file is returned: the text of its query is UTF-8.
-use Rattle.std.proofs.Common.{◌≡◌, ◌∙◌, Some, None, refl, sym, ap}
+use Rattle.std.proofs.Common.{◌≡◌, ◌∙◌, ◌≤◌, length, Some, None, refl, sym, ap}
 use Rattle.std.specs.Prelude.{Err, is_some}
 use Rattle.std.specs.Str.{IsUtf8}
 use Rattle.std.proofs.lemmas.List.Elements.{All-contains}
+use Rattle.bouquet_file.specs.Limits.{max_parameters}
 use Rattle.bouquet_file.specs.Written.{file_text}
 use Rattle.session.specs.Outcome.{Saves}
 use Rattle.session.specs.Present.{at_bouquet}
@@ -16,7 +17,9 @@ pub to_bytes-requires : goal.to_bytes-requires
 to_bytes-requires c =
     let kept = named_shape c.bytes.result.now c.in-Some.kept.now in
     let text : IsUtf8 kept.query = All-contains (λ (one : NamedShape). IsUtf8 one.query) c.self.inside.bouquets kept c.self.invariant.texts c.in-Some.ensures.there in
-    record { text = rw c.deref.ensures.value text }
+    let few : length kept.bouquet.block.parameters ≤ max_parameters =
+    All-contains (λ (one : NamedShape). length one.bouquet.block.parameters ≤ max_parameters) c.self.inside.bouquets kept c.self.invariant.parameters c.in-Some.ensures.there in
+    record { text = rw c.deref.ensures.value text; parameters = few }
 
 pub returns-in_default : goal.returns-in_default
 returns-in_default c = λ max_work paid file.

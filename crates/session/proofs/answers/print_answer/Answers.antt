@@ -6,7 +6,7 @@ use Rattle.result_text.specs.Combined.{printed, printed_rows}
 use Rattle.result_text.specs.Printed.{table_text}
 use Rattle.session.specs.Printed.{header_of, report_line}
 use Rattle.session.proofs.RowsPrinted.{printed_meaning}
-use Rattle.session.proofs.bouquets.print_answer.Goals as goal
+use Rattle.session.proofs.answers.print_answer.Goals as goal
 
 pub print_rows-requires-clause-words : goal.print_rows-requires-clause-words
 print_rows-requires-clause-words c = rw c.texts.ensures.texts c.requires.rows.allowed

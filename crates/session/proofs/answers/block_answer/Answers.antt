@@ -2,7 +2,7 @@
 use Rattle.std.proofs.Common.{arith, rules}
 use Rattle.query_block.specs.Blocks.{block_tree}
 use Rattle.audit_run.proofs.Some.{put-is-block, words_some}
-use Rattle.session.proofs.bouquets.block_answer.Goals as goal
+use Rattle.session.proofs.answers.block_answer.Goals as goal
 
 pub new-space-requires : goal.new-space-requires
 new-space-requires c = record {

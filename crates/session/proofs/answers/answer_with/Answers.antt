@@ -1,10 +1,8 @@
--- The values fit, every bouquet meets the bound, and a compiled one is sound.
-use Rattle.std.proofs.Common.{◌≡◌, ◌∙◌, Option, None, ap, subst, sym}
+-- Every bouquet meets the bound, and a compiled one is sound.
+use Rattle.std.proofs.Common.{◌∙◌, ap, subst, sym}
 use Rattle.std.specs.Prelude.{Result, Ok, Err, OnOk}
 use Rattle.query_block.specs.Shape.{BlockShape}
 use Rattle.query_block.specs.Blocks.{BlockTree, block_tree, put_of}
-use Rattle.query_block.specs.Values.{value_fault}
-use Rattle.query_block.specs.declared.values.ValueFault.{ValueFault}
 use Rattle.bouquet_type.specs.Trees.{bouquet_tree}
 use Rattle.bouquet_type.proofs.Meets.{bouquet-bound}
 use Rattle.contours.proofs.Soundness.{compiled-sound}
@@ -12,11 +10,9 @@ use Rattle.bouquet_run.specs.Outcomes.{works_over}
 use Rattle.db_catalog.specs.Fits.{Fits}
 use Rattle.db_catalog.proofs.PutBlocks.{put-fits-tables}
 use Rattle.session.specs.Bounds.{RunsWithinBound}
-use Rattle.session.specs.Bouquets.{block_answer, bouquet_answer, unless_misfit}
-use Rattle.session.specs.Outcome.{Outcome}
+use Rattle.session.specs.Bouquets.{block_answer}
 use Rattle.session.specs.Returns.{ReturnsDue}
-use Rattle.session.proofs.Misfits.{fitting}
-use Rattle.session.proofs.bouquets.answer.Goals as goal
+use Rattle.session.proofs.answers.answer_with.Goals as goal
 
 -- what holds whatever is answered holds of an answer
 whatever : {A E : Type 0} (result : Result A E) (P : Type 0) → P → OnOk result P
@@ -26,21 +22,15 @@ whatever (Err e) P holds = tt
 pub block_answer-requires-clause-fits : goal.block_answer-requires-clause-fits
 block_answer-requires-clause-fits c =
     let put : BlockShape → BlockTree = λ shape. put_of c.args.values.now (block_tree shape) in
-    subst (Fits c.args.database.now) (sym (c.in_ok-block.ensures ∙ ap put c.block-2.ensures.block))
+    subst (Fits c.args.database.now) (sym (c.in_ok-block.ensures ∙ ap put c.block.ensures.block))
     (put-fits-tables c.args.database.now c.args.values.now (block_tree c.args.bouquet.now.block) c.requires.fits)
 
 pub returns-clause-due : goal.returns-clause-due
 returns-clause-due c = λ world is.
-    let values = c.args.values.now in
     let bouquet = bouquet_tree c.args.bouquet.now in
-    let put : BlockShape → BlockTree = λ shape. put_of values (block_tree shape) in
-    let answer : BlockTree → Outcome = block_answer c.args.max_work world bouquet in
-    let due : Option ValueFault → Outcome = λ found. unless_misfit found (answer (put_of values bouquet.costing.block)) in
-    let fit : value_fault bouquet.costing.block.parameters values ≡ None =
-    fitting values c.args.bouquet.now.block c.block.result.now c.block.ensures.block c.in_ok-fits_values.field-0 c.in_ok-fits_values.ensures in
-    let same : answer (block_tree c.in_ok-block.block) ≡ bouquet_answer c.args.max_work world values bouquet =
-    ap answer (c.in_ok-block.ensures ∙ ap put c.block-2.ensures.block) ∙ sym (ap due fit) in
-    subst (λ (due : Outcome). ReturnsDue due c.block_answer.result world c.args.book.now c.block_answer.new.book) same (c.block_answer.ensures.due world is)
+    let put : BlockShape → BlockTree = λ shape. put_of c.args.values.now (block_tree shape) in
+    subst (λ (block : BlockTree). ReturnsDue (block_answer c.args.max_work world bouquet block) c.block_answer.result world c.args.book.now c.block_answer.new.book)
+    (c.in_ok-block.ensures ∙ ap put c.block.ensures.block) (c.block_answer.ensures.due world is)
 
 pub returns-clause-bound : goal.returns-clause-bound
 returns-clause-bound c =
