@@ -8,7 +8,7 @@ ghost use Rattle.outside_io.specs.Count.{Rose};
 ghost use Rattle.sql_values.specs.Limits.{max_script_bytes};
 ghost use Rattle.sql_parse.specs.Trees.{statement_tree};
 ghost use Rattle.sql_parse.specs.WellFormed.{IsWellFormed};
-ghost use Rattle.sql_parse.specs.Counts.{predicates_of};
+ghost use Rattle.sql_parse.specs.Counts.{HasUpTo, HaveUpTo};
 ghost use Rattle.session.specs.Bounds.{IsAnsweredWithin};
 ghost use Rattle.session.specs.Returns.{PaysAtMost};
 ghost use Rattle.session.specs.States.{world_of};
@@ -47,7 +47,7 @@ fn carry_out<F: Folder>(
     book: &mut Book,
 ) -> Result<Result<Vec<u8>, Stop>, Status>
     requires well_formed { IsWellFormed (statement_tree statement.now) }
-    requires predicates { predicates_of (statement_tree statement.now) ≤ max_script_bytes }
+    requires counted { HasUpTo max_script_bytes (statement_tree statement.now) }
     requires room { book.old + max_work ≤ max_account }
     ensures carries { IsCarriedOut max_work (statement_tree statement.now)
         (F.state folder.old) (F.state folder.new)
@@ -83,7 +83,7 @@ fn carry_out_one<F: Folder, K: Sink>(
     book: &mut Book,
 ) -> Result<(), Status>
     requires well_formed { IsWellFormed (statement_tree statement.now) }
-    requires predicates { predicates_of (statement_tree statement.now) ≤ max_script_bytes }
+    requires counted { HasUpTo max_script_bytes (statement_tree statement.now) }
     requires room { book.old + max_work ≤ max_account }
     ensures carries { CarriesOne max_work (Rose (K.faults sink.old) (K.faults sink.new))
         (statement_tree statement.now) (F.state folder.old) (F.state folder.new)
@@ -111,8 +111,7 @@ pub(crate) fn carry_out_all<F: Folder, K: Sink>(
 ) -> Status
     requires well_formed { All (λ statement.
         IsWellFormed (statement_tree statement)) statements.now }
-    requires predicates { All (λ statement.
-        predicates_of (statement_tree statement) ≤ max_script_bytes) statements.now }
+    requires counted { HaveUpTo max_script_bytes statements.now }
     requires unpaid { book.old ≡ 0 }
     requires most { max_work ≤ 2 ^ 62 }
     ensures carries { CarriesAll max_work (Rose (K.faults sink.old) (K.faults sink.new))

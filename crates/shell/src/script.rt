@@ -5,7 +5,7 @@ ghost use Rattle.sql_values.specs.Limits.{max_script_bytes};
 ghost use Rattle.sql_lex.specs.Tokens.{IsFirstFault};
 ghost use Rattle.sql_parse.specs.Trees.{statement_tree};
 ghost use Rattle.sql_parse.specs.WellFormed.{IsWellFormed};
-ghost use Rattle.sql_parse.specs.Counts.{predicates_of};
+ghost use Rattle.sql_parse.specs.Counts.{HaveUpTo};
 ghost use Rattle.shell.specs.Serve.{IsScript};
 ghost use Rattle.shell.specs.Due.{RefusesScript};
 
@@ -42,8 +42,7 @@ pub(crate) fn read_script(alloc: Global, script: &[u8]) -> Result<Vec<Statement>
         IsScript script.now (Ok (map statement_tree statements.items))) }
     ensures well_formed { IfOk result (λ statements.
         All (λ statement. IsWellFormed (statement_tree statement)) statements.items) }
-    ensures predicates { IfOk result (λ statements. All (λ statement.
-        predicates_of (statement_tree statement) ≤ max_script_bytes) statements.items) }
+    ensures counted { IfOk result (λ statements. HaveUpTo max_script_bytes statements.items) }
     ensures refused { IfErr result (RefusesScript script.now) }
 {
     if script.len() as u64 > MAX_SCRIPT_BYTES {
