@@ -1,5 +1,5 @@
 -- Counts at a point: which of them are those of the tables, that they grow with selectivity, and that they fit the block.
-use Rattle.std.proofs.Common.{◌≡◌, ◌↔◌, ℕ, zero, suc, ◌+◌, ◌-◌, ◌*◌, ◌≤◌, ◌<◌, cond, max, List, [], ◌∷◌, All, length, map, get_or, unwrap_or, None, Some, Option, IsSome, nat_eq, eqb-true, refl, ap, ◌∙◌, le_refl, arith}
+use Rattle.std.proofs.Common.{◌≡◌, ◌↔◌, ℕ, zero, suc, ◌+◌, ◌-◌, ◌*◌, ◌≤◌, cond, max, List, [], ◌∷◌, All, map, get_or, unwrap_or, None, Some, Option, IsSome, nat_eq, eqb-true, refl, sym, ap, ◌∙◌, le_refl, arith}
 use Rattle.std.specs.Prelude.{Bool, true, false, IfSome, option_map}
 use Rattle.std.specs.List.{AllZip}
 use Rattle.std.proofs.Math.Nat.{pow-le-pow_right, mul-le-mul_left}
@@ -40,6 +40,9 @@ pub scaled_on-few : (grid : GridShape) (point : List ℕ) (axis : Option ℕ) (r
 scaled_on-few grid point None rows = le_refl rows
 scaled_on-few grid point (Some axis) rows = scaled-few rows _ (selectivity_of-le grid.levels (get_or point axis 0))
 
+scaled_on-none : (grid : GridShape) (point : List ℕ) (axis : Option ℕ) → scaled_on grid point axis 0 ≡ 0
+scaled_on-none grid point axis = omega (arith, scaled_on-few grid point axis 0)
+
 -- ---- which counts are those of the tables
 
 no_stats : RelationStats
@@ -52,10 +55,14 @@ column-chosen : (b : Bool) (here later : IndexStats) (column : ℕ) → (b ≡ t
 column-chosen true here later column first rest = first refl
 column-chosen false here later column first rest = rest
 
-pub column-on : (columns : List IndexStats) (column : ℕ) → (index_on columns column).column ≡ column
+column-on : (columns : List IndexStats) (column : ℕ) → (index_on columns column).column ≡ column
 column-on [] column = refl
 column-on (index ∷ more) column =
     column-chosen (nat_eq index.column column) index (index_on more column) column (λ same. eqb-true index.column column same) (column-on more column)
+
+mapped-none : (f : ℕ → ℕ) → f 0 ≡ 0 → (matches : Option ℕ) → unwrap_or (option_map f matches) 0 ≡ f (unwrap_or matches 0)
+mapped-none f none None = sym none
+mapped-none f none (Some n) = refl
 
 module _ (costing : CostingTree) (point : List ℕ) where
   rows-from : (number place : ℕ) (stats : List RelationStats) (none : RelationStats) → (get_or (stats_from costing point number stats) place none).rows ≡ (get_or stats place none).rows
@@ -74,22 +81,24 @@ module _ (costing : CostingTree) (point : List ℕ) where
   pub pages-at : (relation : ℕ) → (relation_stats (stats_at costing point) relation).pages ≡ (relation_stats costing.stats relation).pages
   pages-at relation = pages-from 0 relation costing.stats.relations _
 
-  kept-from : (number place : ℕ) (stats : List RelationStats) (none : RelationStats) → place < length stats
-      → (get_or (stats_from costing point number stats) place none).kept ≡ scaled_on costing.grid point (axis_of costing.block (number + place)) (get_or stats place none).kept
-  kept-from number place [] none below = absurd (omega (arith, below))
-  kept-from number zero (one ∷ more) none below =
+  -- no rows are kept of a relation that isn't there, at any point
+  kept-from : (number place : ℕ) (stats : List RelationStats)
+      → (get_or (stats_from costing point number stats) place no_stats).kept ≡ scaled_on costing.grid point (axis_of costing.block (number + place)) (get_or stats place no_stats).kept
+  unfolding no_stats
+  kept-from number place [] = sym (scaled_on-none costing.grid point (axis_of costing.block (number + place)))
+  kept-from number zero (one ∷ more) =
       let here : number ≡ number + 0 = omega arith in
       ap (λ relation. scaled_on costing.grid point (axis_of costing.block relation) one.kept) here
-  kept-from number (suc place) (one ∷ more) none below =
+  kept-from number (suc place) (one ∷ more) =
       let next : number + 1 + place ≡ number + suc place = omega arith in
-      kept-from (number + 1) place more none (omega (arith, below))
-      ∙ ap (λ relation. scaled_on costing.grid point (axis_of costing.block relation) (get_or more place none).kept) next
+      kept-from (number + 1) place more
+      ∙ ap (λ relation. scaled_on costing.grid point (axis_of costing.block relation) (get_or more place no_stats).kept) next
 
-  pub kept-at : (relation : ℕ) → relation < length costing.stats.relations
-      → (relation_stats (stats_at costing point) relation).kept ≡ scaled_on costing.grid point (axis_of costing.block relation) (relation_stats costing.stats relation).kept
-  kept-at relation below =
+  pub kept-at : (relation : ℕ) → (relation_stats (stats_at costing point) relation).kept ≡ scaled_on costing.grid point (axis_of costing.block relation) (relation_stats costing.stats relation).kept
+  unfolding no_stats
+  kept-at relation =
       let there : 0 + relation ≡ relation = omega arith in
-      kept-from 0 relation costing.stats.relations _ below
+      kept-from 0 relation costing.stats.relations
       ∙ ap (λ one. scaled_on costing.grid point (axis_of costing.block one) (relation_stats costing.stats relation).kept) there
 
   columns-from : (number place : ℕ) (stats : List RelationStats)
@@ -127,6 +136,15 @@ module _ (costing : CostingTree) (point : List ℕ) where
 
   pub height-at : (relation column : ℕ) → (index_stats (stats_at costing point) relation column).height ≡ (index_stats costing.stats relation column).height
   height-at relation column = ap (λ (index : IndexStats). index.height) (index-at relation column)
+
+  pub matches-at : (relation column : ℕ) → unwrap_or (index_stats (stats_at costing point) relation column).matches 0
+      ≡ scaled_on costing.grid point (axis_of_index costing.block relation column) (unwrap_or (index_stats costing.stats relation column).matches 0)
+  matches-at relation column =
+      let of : IndexStats → ℕ = λ index. unwrap_or index.matches 0 in
+      let index = index_stats costing.stats relation column in
+      ap of (index-at relation column)
+      ∙ mapped-none (scaled_on costing.grid point (axis_of_index costing.block relation index.column)) (scaled_on-none costing.grid point (axis_of_index costing.block relation index.column)) index.matches
+      ∙ ap (λ (one : ℕ). scaled_on costing.grid point (axis_of_index costing.block relation one) (of index)) (column-on (relation_stats costing.stats relation).columns column)
 
 -- ---- they grow with selectivity
 

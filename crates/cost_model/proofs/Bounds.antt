@@ -1,6 +1,7 @@
 -- Bounds on cards and costs: no pairs pass the limit of combinations, and a cost grows with the number of leaves alone.
-use Rattle.std.proofs.Common.{◌≡◌, ℕ, zero, suc, ◌+◌, ◌*◌, ◌^◌, ◌<◌, ◌≤◌, cond, max, List, [], ◌∷◌, All, length, get_or, unwrap_or, None, Some, Option, nat_eq, refl, ap, drop, sym, subst, ◌∙◌, inl, inr, arith}
+use Rattle.std.proofs.Common.{◌≡◌, ℕ, zero, suc, ◌+◌, ◌*◌, ◌^◌, ◌<◌, ◌≤◌, cond, max, List, [], ◌∷◌, All, length, get_or, Fits, unwrap_or, None, Some, Option, nat_eq, refl, ap, drop, sym, subst, ◌∙◌, inl, inr, arith}
 use Rattle.std.specs.Prelude.{Bool, true, false, ◌&&◌, IfSome}
+use Rattle.std.specs.Int.{w128}
 use Rattle.std.specs.List.{AllZip}
 use Rattle.std.proofs.Math.Nat.{mul-le-mul_left, mul-le-mul_right, mul_comm, mul_assoc, le-max_left, le-max_right}
 use Rattle.std.proofs.lemmas.Nat.{mul-le}
@@ -177,10 +178,22 @@ so-far-all set stats number product all so_far =
 
 -- ---- the nodes of a plan, each of which costs at most 2^108 by itself
 
+pub scan-few : (stats : RelationStats) (pages rows out : ℕ) → AreFew stats → pages ≡ stats.pages → rows ≡ stats.rows → out ≤ max_product → 1 + 8 * pages + rows + out ≤ 2 ^ 108
+scan-few stats pages rows out few pages-is rows-is out-few = omega (arith, few.rows, few.pages, pages-is, rows-is, out-few)
+
+pub index-scan-few : (height matches out : ℕ) → height ≤ 4 → matches ≤ max_rows → out ≤ max_product → 1 + 2 * height + 10 * matches + out ≤ 2 ^ 108
+index-scan-few height matches out low few out-few = omega (arith, low, few, out-few)
+
+pub three-few : (a b c : ℕ) → a ≤ max_product → b ≤ max_product → c ≤ max_product → a + b + c ≤ 2 ^ 108
+three-few a b c few few' few'' = omega (arith, few, few', few'')
+
+pub six-few : (a b c d e f : ℕ) → a ≤ 101 * max_product → b ≤ 101 * max_product → c ≤ max_product → d ≤ max_product → e ≤ max_product → f ≤ max_product → a + b + c + d + e + f ≤ 2 ^ 108
+six-few a b c d e f sort other few few' few'' last = omega (arith, sort, other, few, few', few'', last)
+
 nest-few : (l r out : ℕ) → r ≤ max_product → l * r ≤ max_product → out ≤ max_product → nest_work l r out ≤ 2 ^ 108
 nest-few l r out right pairs few = omega (arith, right, pairs, few)
 
-hash-few : (l r cand out : ℕ) → l ≤ max_product → r ≤ max_product → cand ≤ max_product → out ≤ max_product → hash_work l r cand out ≤ 2 ^ 108
+pub hash-few : (l r cand out : ℕ) → l ≤ max_product → r ≤ max_product → cand ≤ max_product → out ≤ max_product → hash_work l r cand out ≤ 2 ^ 108
 hash-few l r cand out left right pairs few = omega (arith, left, right, pairs, few)
 
 merge-few : (l r cand out : ℕ) → l ≤ max_product → r ≤ max_product → cand ≤ max_product → out ≤ max_product → merge_work l r cand out ≤ 2 ^ 108
@@ -190,6 +203,21 @@ merge-few l r cand out left right pairs few =
 pub loop-few : (height l cand out : ℕ) → height ≤ 4 → l ≤ max_product → cand ≤ max_product → out ≤ max_product → index_loop_work height l cand out ≤ 2 ^ 108
 loop-few height l cand out low left pairs few =
     omega (arith, left, pairs, few, mul-le (2 * height) l 8 max_product (omega (arith, low)) left)
+
+-- 128 bits have room for such a cost, and for its parts
+pub in-room : (cost : ℕ) → cost ≤ 2 ^ 108 → Fits w128 cost
+in-room cost few = record { fits = omega (arith, few) }
+
+pub descents-in-room : (height l : ℕ) → height ≤ 4 → l ≤ max_product → Fits w128 (2 * height * l)
+descents-in-room height l low left =
+    record { fits = omega (arith, loop-few height l 0 0 low left (omega arith) (omega arith)) }
+
+pub loop-in-room : (height l cand : ℕ) → height ≤ 4 → l ≤ max_product → cand ≤ max_product → Fits w128 (2 * height * l + 11 * cand)
+loop-in-room height l cand low left pairs =
+    record { fits = omega (arith, loop-few height l cand 0 low left pairs (omega arith)) }
+
+pub pairs-in-room : (pairs : ℕ) → pairs ≤ max_product → Fits w128 pairs
+pairs-in-room pairs few = record { fits = omega (arith, few) }
 
 -- ---- the counts of one relation
 

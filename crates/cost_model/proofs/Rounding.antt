@@ -1,6 +1,6 @@
 -- Quotients that are rounded up.
 use Rattle.std.proofs.Common.{◌≡◌, ℕ, ◌+◌, ◌*◌, ◌^◌, ◌<◌, ◌≤◌, ap, sym, ◌∙◌, arith}
-use Rattle.std.proofs.Math.Nat.{mul_comm, mul_assoc, add-mul, lt_of_mul-lt-mul_right, mul-le-mul_right}
+use Rattle.std.proofs.Math.Nat.{mul_comm, mul_assoc, add-mul, lt_of_mul-lt-mul_right, mul-le-mul_left, mul-le-mul_right}
 use Rattle.std.proofs.lemmas.Nat.{mul-le, pow_pos}
 use Rattle.std.proofs.lemmas.Grind.{div_ceil_times}
 use Rattle.std.specs.Int.{div_ceil}
@@ -15,7 +15,7 @@ pub ceiling : (n by : ℕ) → 0 < by → IsCeiling n by (div_ceil n by)
 ceiling n by some = div_ceil_times n by some
 
 one-more : (up by : ℕ) → (up + 1) * by ≡ up * by + by
-one-more up by = grind (arith, add-mul up 1 by)
+one-more up by = omega (arith, add-mul up 1 by)
 
 -- the greater number has the greater quotient
 pub ceiling-le : (n m by up other : ℕ) → n ≤ m → IsCeiling n by up → IsCeiling m by other → up ≤ other
@@ -34,7 +34,7 @@ div_ceil-le n m by some le = ceiling-le n m by _ _ le (ceiling n by some) (ceili
 -- rounded up twice is rounded up once
 pub twice : (n by also up top : ℕ) → IsCeiling n by up → IsCeiling up also top → IsCeiling n (by * also) top
 twice n by also up top is is' =
-    let whole : top * (by * also) ≡ top * also * by = grind (arith, mul_assoc top also by, mul_comm by also) in
+    let whole : top * (by * also) ≡ top * also * by = ap (λ n. top * n) (mul_comm by also) ∙ sym (mul_assoc top also by) in
     let parts : by * also ≡ also * by = mul_comm by also in
     let low : up * by ≤ top * also * by = mul-le-mul_right by is'.0 in
     let high : (top * also + 1) * by ≤ (up + also) * by = mul-le-mul_right by (omega (arith, is'.1)) in
@@ -61,7 +61,7 @@ halved rows selectivity halvings is some =
 pub scaled-few : (rows selectivity : ℕ) → selectivity ≤ full_selectivity → scaled rows selectivity ≤ rows
 scaled-few rows selectivity part =
     let at : IsCeiling (rows * selectivity) full_selectivity (scaled rows selectivity) = ceiling (rows * selectivity) full_selectivity (omega arith) in
-    let most : rows * selectivity ≤ rows * full_selectivity = grind (arith, mul_comm rows selectivity, mul_comm rows full_selectivity, mul-le-mul_right rows part) in
+    let most : rows * selectivity ≤ rows * full_selectivity = mul-le-mul_left rows part in
     let below : scaled rows selectivity * full_selectivity < (rows + 1) * full_selectivity = omega (arith, at.1, most, one-more rows full_selectivity) in
     omega (arith, lt_of_mul-lt-mul_right full_selectivity below)
 

@@ -12,13 +12,13 @@ ghost use Rattle.cost_model.specs.Cards.{kept_product, card_of, selectivity_at};
 ghost use Rattle.cost_model.specs.Costs.{relation_stats};
 ghost use Rattle.cost_model.specs.Few.{AreFew};
 
-use crate::arithmetic::scaled;
-use crate::axes::{Axes, axes_of};
+use crate::arithmetic::scaled_inside;
+use crate::axes::{open_columns, relation_axes};
 use crate::stats::{RelationStats, Stats};
 use ess_grid::{Grid, Point};
 use plan_tree::Subset;
 use query_block::{Block, axis_of_edge};
-use sql_values::MAX_COLUMNS;
+use sql_values::{MAX_COLUMNS, MAX_RELATIONS};
 use std::marker::Model;
 
 /// What plans of a block cost at the points of a grid: the block, the counts of its tables and the grid, lent.
@@ -27,7 +27,8 @@ pub struct Costing<'c> {
     block: &'c Block,
     stats: &'c Stats,
     grid: &'c Grid,
-    axes: Axes,
+    axes: [Option<u8>; MAX_RELATIONS],
+    open_columns: [[bool; MAX_COLUMNS]; MAX_RELATIONS],
 }
 
 impl<'c> Model for Costing<'c> {
@@ -44,7 +45,7 @@ impl<'c> Model for Costing<'c> {
 
     ghost invariant = { λ c. KeepsAxes (costing_tree
         (record { block = c.block.now; stats = c.stats.now; grid = c.grid.now }))
-        c.axes };
+        c.axes c.open_columns };
 }
 
 impl<'c> Costing<'c> {
@@ -56,12 +57,14 @@ impl<'c> Costing<'c> {
     {
         prove!(!block.relations().is_empty());
         prove!(grid.levels() >= 2);
-        let axes = axes_of(block);
+        let axes = relation_axes(block);
+        let open_columns = open_columns(block);
         Costing {
             block,
             stats,
             grid,
             axes,
+            open_columns,
         }
     }
 
@@ -95,7 +98,7 @@ impl<'c> Costing<'c> {
         ensures axis { result ≡ axis_of (block_tree self.now.block) relation }
         ensures of_grid { IfSome result (λ axis. axis < self.now.grid.axes) }
     {
-        self.axes.relations[relation as usize]
+        self.axes[relation as usize]
     }
 
     /// The axis of an index on a column of a relation, where the rows that it finds depend on a parameter.
@@ -104,11 +107,18 @@ impl<'c> Costing<'c> {
         ensures axis { result ≡ axis_of_index (block_tree self.now.block) relation column }
         ensures of_grid { IfSome result (λ axis. axis < self.now.grid.axes) }
     {
-        let _block = self.block;
-        if column as usize >= MAX_COLUMNS {
+        let axis = self.axis_of(relation);
+        if axis.is_none() {
             return None;
         }
-        self.axes.indexes[relation as usize][column as usize]
+        let counted = &self.block().relations()[relation as usize];
+        if column as usize >= counted.columns.as_slice().len() {
+            return None;
+        }
+        if self.open_columns[relation as usize][column as usize] {
+            return axis;
+        }
+        None
     }
 
     /// The counts of a relation.
@@ -131,9 +141,8 @@ impl<'c> Costing<'c> {
     {
         let mut card = self.kept_product(set, q);
         for (number, edge) in self.block.edges().iter().enumerate() {
-            if set.has_both(edge) {
-                card = scaled(card, self.selectivity(number as u8, q));
-            }
+            let inside = set.has_both(edge);
+            card = scaled_inside(inside, card, self.selectivity(number as u8, q));
         }
         card
     }

@@ -25,7 +25,6 @@ impl Prices<'_> {
     }
 
     /// A scan of the one relation of a set.
-    #[tactic(auto, unfolding(crate::specs::Prices::own_cost))]
     pub fn scan(&self, relation: u8, set: Subset) -> u128
         requires relation { relation < length self.now.costing.block.relations }
         requires set { IsSetOf (block_at self.now) set }
@@ -37,20 +36,22 @@ impl Prices<'_> {
     }
 
     /// A scan by the index on a column.
-    #[tactic(auto, unfolding(crate::specs::Prices::own_cost))]
     pub fn index_scan(&self, relation: u8, column: u8, set: Subset) -> u128
         requires relation { relation < length self.now.costing.block.relations }
         requires set { IsSetOf (block_at self.now) set }
         ensures { IsPrice self.now (IndexScan relation column) set result }
     {
-        let index = self.index_at(relation, column);
+        let index = self.index(relation, column);
+        let axis = self.costing.axis_of_index(relation, column);
+        let matches = self
+            .costing
+            .scaled_on(axis, index.matches.unwrap_or(0), self.point());
         let descent = charge::NODE * u128::from(index.height);
-        let matches = u128::from(index.matches.unwrap_or(0));
-        charge::OPEN + descent + (charge::ENTRY + charge::FETCH) * matches + self.card(set)
+        let fetches = (charge::ENTRY + charge::FETCH) * u128::from(matches);
+        charge::OPEN + descent + fetches + self.card(set)
     }
 
     /// A nested loop.
-    #[tactic(auto, unfolding(crate::specs::Prices::own_cost))]
     pub fn nest(&self, left: Subset, set: Subset) -> u128
         requires { IsSplitOf (block_at self.now) left set }
         ensures { IsPrice self.now (Nest left) set result }
@@ -68,7 +69,6 @@ impl Prices<'_> {
     }
 
     /// A hash join that has so many candidates.
-    #[tactic(auto, unfolding(crate::specs::Prices::own_cost))]
     pub fn hash(&self, edge: u8, left: Subset, set: Subset, candidates: u128) -> u128
         requires split { IsSplitOf (block_at self.now) left set }
         requires candidates { IsCandidateCount self.now edge left set candidates }
@@ -81,7 +81,6 @@ impl Prices<'_> {
     }
 
     /// A merge join that has so many candidates.
-    #[tactic(auto, unfolding(crate::specs::Prices::own_cost))]
     pub fn merge(&self, edge: u8, left: Subset, set: Subset, candidates: u128) -> u128
         requires split { IsSplitOf (block_at self.now) left set }
         requires candidates { IsCandidateCount self.now edge left set candidates }
@@ -93,7 +92,6 @@ impl Prices<'_> {
     }
 
     /// An index loop, by the index of the relation on the right on its column of the edge.
-    #[tactic(auto, unfolding(crate::specs::Prices::own_cost))]
     pub fn index_loop(&self, edge: u8, left: Subset, relation: u8, set: Subset) -> u128
         requires edge { edge < length self.now.costing.block.edges }
         requires split { IsSplitOf (block_at self.now) left set }

@@ -6,8 +6,7 @@ ghost use Rattle.ess_grid.specs.Points.{IsPoint};
 ghost use Rattle.plan_tree.specs.Work.{bits};
 ghost use Rattle.query_block.specs.Blocks.{block_tree};
 ghost use Rattle.cost_model.specs.Costing.{costing_tree, IsCosting};
-ghost use Rattle.cost_model.specs.AtPoint.{stats_at};
-ghost use Rattle.cost_model.specs.Costs.{index_stats, candidate_card};
+ghost use Rattle.cost_model.specs.Costs.{index_on, index_stats, candidate_card};
 ghost use Rattle.cost_model.specs.Few.{IsFewIndex};
 ghost use Rattle.cost_model.specs.Prices.{IsSetOf, AreFewCards, AreSorts, block_at, card_at};
 
@@ -71,6 +70,22 @@ fn fill_sorts(costing: &Costing<'_>, cards: &[u128; 64], sorts: &mut [u128; 64])
 {
     for set in 0..set_count(costing.block()) as usize {
         sorts[set] = times_bits(cards[set]);
+    }
+}
+
+// The counts of the index on a column, among these. A column without one has one level and no matches.
+fn index_on(columns: &[IndexStats], column: u8) -> IndexStats
+    ensures { result ≡ index_on columns.now column }
+{
+    for index in columns {
+        if index.column == column {
+            return *index;
+        }
+    }
+    IndexStats {
+        column,
+        height: 1,
+        matches: None,
     }
 }
 
@@ -141,22 +156,12 @@ impl<'a> Prices<'a> {
         scaled(pairs, self.costing.selectivity(edge, self.q))
     }
 
-    /// The counts of the index on a column at the point.
-    pub(crate) fn index_at(&self, relation: u8, column: u8) -> IndexStats
-        requires { relation < length self.now.costing.block.relations }
-        ensures stats { let stats = stats_at (costing_tree self.now.costing) self.now.point in
-            result ≡ index_stats stats relation column }
-        ensures few { IsFewIndex result }
-    {
-        self.costing.index_at(relation, column, self.q)
-    }
-
     /// The counts of the index on a column, those of the block's tables.
     pub fn index(&self, relation: u8, column: u8) -> IndexStats
         requires { relation < length self.now.costing.block.relations }
         ensures stats { result ≡ index_stats self.now.costing.stats relation column }
         ensures few { IsFewIndex result }
     {
-        self.costing.index(relation, column)
+        index_on(self.costing.relation(relation).columns.as_slice(), column)
     }
 }

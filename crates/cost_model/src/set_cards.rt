@@ -9,7 +9,7 @@ ghost use Rattle.cost_model.specs.AtPoint.{scaled};
 ghost use Rattle.cost_model.specs.Prices.{AreCards, AreFewCards};
 ghost use Rattle.cost_model.specs.SetCards.{AreProducts, AreScaled};
 
-use crate::arithmetic::scaled;
+use crate::arithmetic::scaled_inside;
 use crate::costing::Costing;
 use crate::set::set_count;
 use ess_grid::Point;
@@ -41,20 +41,6 @@ fn fill_products(costing: &Costing<'_>, q: &Point, products: &mut [u128; 64])
     products[0] = 1;
     for relation in 0..costing.block().relations().len() {
         add_relation(costing, q, products, relation as u8);
-    }
-}
-
-// A card, scaled by an edge where it is inside the set.
-fn scaled_inside(inside: bool, card: u128, selectivity: u32) -> u128
-    requires card { card ≤ max_product }
-    requires part { selectivity ≤ full_selectivity }
-    ensures scaled { result ≡ (if inside then scaled card selectivity else card) }
-    ensures few { result ≤ card }
-{
-    if inside {
-        scaled(card, selectivity)
-    } else {
-        card
     }
 }
 

@@ -1,4 +1,4 @@
-use Rattle.std.proofs.Common.{◌≤◌, ◌^◌, length, ap, arith}
+use Rattle.std.proofs.Common.{◌∙◌, sym, ◌≤◌, ◌^◌, length, ap, arith}
 use Rattle.std.proofs.Math.ListN.{length-map}
 use Rattle.query_block.specs.Blocks.{relation_tree}
 use Rattle.cost_model.proofs.Sets.{power-to}
@@ -19,3 +19,8 @@ returns-clause-few c =
     let block = c.relations-count.ensures.block in
     let few : 2 ^ count ≤ 2 ^ 6 = power-to count 6 (omega (arith, many, block.few, ap length c.relations-count.ensures.relations)) in
     omega (arith, few, c.number.ensures, c.one.ensures)
+
+pub returns-clause-count : goal.returns-clause-count
+returns-clause-count c =
+    c.number.ensures ∙ c.one.ensures
+    ∙ ap (λ n. 2 ^ n) (ap length c.relations-count.ensures.relations ∙ sym (length-map c.args.block.now.relations relation_tree))

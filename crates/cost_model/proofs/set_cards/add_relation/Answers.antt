@@ -1,9 +1,10 @@
-use Rattle.std.proofs.Common.{◌+◌, ◌^◌, ◌<◌, sym, ap, ◌∙◌, arith}
+use Rattle.std.proofs.Common.{refl, ◌+◌, ◌^◌, ◌<◌, sym, ap, ◌∙◌, arith}
 use Rattle.plan_tree.specs.Sets.{set_of}
 use Rattle.cost_model.specs.Costing.{costing_tree}
 use Rattle.cost_model.specs.AtPoint.{stats_at}
 use Rattle.cost_model.specs.Pricing.{Pricing}
 use Rattle.cost_model.specs.Cards.{kept_product}
+use Rattle.cost_model.proofs.Sets.{relation-small, in-eight, up-to}
 use Rattle.cost_model.proofs.SetCards.{highest-small, more-product, add-product}
 use Rattle.cost_model.proofs.set_cards.add_relation.Goals as goal
 
@@ -43,3 +44,10 @@ loop-rest-preserved c =
     (c.loop-rest.invariant.0 rest (omega (arith, c.loop-rest-test.true))) in
     add-product at c.loop-rest.products (alone + rest) _ _ c.loop-rest.invariant.1 (omega (arith, small, (c.number-alone.ensures ∙ c.one.ensures))) (omega arith) c.loop-rest.invariant.0
     (next.0 ∙ ap (λ highest. kept_product (set_of (highest + rest)) 0 (stats_at (costing_tree costing) c.args.q.now).relations) (sym (c.number-alone.ensures ∙ c.one.ensures)))
+
+pub one-requires : goal.one-requires
+one-requires c = in-eight _ (relation-small c.args.costing.now.block _ _ c.block-block.ensures.costing.block refl c.requires.relation)
+
+pub returns : goal.returns
+returns c = λ set below.
+    c.loop-rest.invariant.0 set (up-to c.args.relation _ _ set (c.number-alone.ensures ∙ c.one.ensures) c.loop-rest-test.false below)

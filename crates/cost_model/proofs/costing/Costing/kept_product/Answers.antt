@@ -7,6 +7,7 @@ use Rattle.cost_model.specs.AtPoint.{stats_at}
 use Rattle.cost_model.specs.Costs.{relation_stats}
 use Rattle.cost_model.proofs.AtPoint.{fits-at}
 use Rattle.cost_model.proofs.Bounds.{fits-kept, stats-at-long, times-one, IsSoFar, so-far-none, so-far-more, so-far-few, so-far-all}
+use Rattle.cost_model.proofs.Sets.{relation-small, in-eight, in-byte}
 use Rattle.cost_model.proofs.costing.Costing.kept_product.Goals as goal
 use Rattle.cost_model.proofs.costing.Costing.kept_product.Goals.{then-has, else-has}
 
@@ -62,3 +63,15 @@ returns-clause-product c =
 
 pub returns-clause-few : goal.returns-clause-few
 returns-clause-few c = so-far-few _ _ _ _ c.loop-relation.invariant
+
+pub overflow_cast-relation : goal.overflow_cast-relation
+overflow_cast-relation c =
+    in-byte _ (relation-small c.block.result.now _ _ c.relations-relation-end.ensures.block c.relations-relation-end.ensures.relations c.loop-relation-test.true)
+
+pub has-requires : goal.has-requires
+has-requires c =
+    in-eight _ (relation-small c.block.result.now _ _ c.relations-relation-end.ensures.block c.relations-relation-end.ensures.relations c.loop-relation-test.true)
+
+pub overflow_cast-relation-then-has : goal.overflow_cast-relation-then-has
+overflow_cast-relation-then-has c =
+    in-byte _ (relation-small c.block.result.now _ _ c.relations-relation-end.ensures.block c.relations-relation-end.ensures.relations c.loop-relation-test.true)

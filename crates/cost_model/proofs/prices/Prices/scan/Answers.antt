@@ -1,9 +1,10 @@
-use Rattle.std.proofs.Common.{◌∙◌, ◌+◌, ◌*◌, ap, sym, arith}
+use Rattle.std.proofs.Common.{◌∙◌, ◌+◌, ◌*◌, ap, sym}
 use Rattle.cost_model.specs.declared.stats.RelationStats.{RelationStats}
 use Rattle.cost_model.specs.Costing.{costing_tree}
 use Rattle.cost_model.specs.Pricing.{Pricing}
 use Rattle.cost_model.specs.Costs.{relation_stats}
 use Rattle.cost_model.specs.Prices.{own_cost}
+use Rattle.cost_model.proofs.Bounds.{scan-few}
 use Rattle.cost_model.proofs.AtPoint.{rows-at, pages-at}
 use Rattle.cost_model.proofs.prices.Prices.scan.Goals as goal
 
@@ -17,5 +18,5 @@ returns c =
     let pages = c.from-pages.ensures ∙ ap (λ (one : RelationStats). one.pages) stats ∙ sym (pages-at tree c.args.self.now.point relation) in
     record {
       own = λ i. 1 + 8 * pages i + rows i + c.card.ensures.card i;
-      bound = omega (arith, c.from.ensures, c.from-pages.ensures, c.relation-stats.ensures.few.rows, c.relation-stats.ensures.few.pages, c.card.ensures.few);
+      bound = scan-few c.relation-stats.result.now c.from-pages.result c.from.result c.card.result c.relation-stats.ensures.few c.from-pages.ensures c.from.ensures c.card.ensures.few;
     }

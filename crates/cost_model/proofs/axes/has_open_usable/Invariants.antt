@@ -3,7 +3,7 @@ use Rattle.std.specs.List.{list_any}
 use Rattle.query_block.specs.Parameters.{is_open}
 use Rattle.query_block.specs.Conditions.{filter_tree}
 use Rattle.plan_tree.specs.Usable.{is_usable}
-use Rattle.cost_model.proofs.axes.axis_of_index.Given as goal
+use Rattle.cost_model.proofs.axes.has_open_usable.Given as goal
 
 abbrev pub invariant-loop-conjunct : goal.invariant-loop-conjunct
 invariant-loop-conjunct l =

@@ -2,7 +2,7 @@ use Rattle.std.proofs.Common.{◌∙◌, ap, sym, subst}
 use Rattle.cost_model.specs.Costs.{index_on}
 use Rattle.cost_model.specs.Few.{IsFewIndex}
 use Rattle.cost_model.proofs.Bounds.{index-on-few}
-use Rattle.cost_model.proofs.costing.Costing.index.Goals as goal
+use Rattle.cost_model.proofs.prices.Prices.index.Goals as goal
 
 pub returns-clause-few : goal.returns-clause-few
 returns-clause-few c =
