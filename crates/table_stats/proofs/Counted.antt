@@ -1,5 +1,5 @@
 -- Rows that are counted one after another, page after page, or by the entries of an index.
-use Rattle.std.proofs.Common.{◌≡◌, ℕ, ℤ, ◌+◌, ◌*◌, ◌<◌, ◌≤◌, Bool, true, false, List, [], ◌++◌, length, map, filter, count_by, get_or, take, drop, cond, sym, ap, ap₂, ◌∙◌, inl, inr, refl, arith}
+use Rattle.std.proofs.Common.{◌≡◌, ℕ, ℤ, ◌+◌, ◌*◌, ◌^◌, ◌<◌, ◌≤◌, Bool, true, false, List, [], ◌++◌, length, map, filter, count_by, get_or, take, drop, cond, Fits, w64, sym, ap, ap₂, ◌∙◌, inl, inr, refl, arith}
 use mir.Val.{bool_byte}
 use Rattle.std.specs.Prelude.{IsTrue, min}
 use Rattle.std.proofs.Math.Nat.{mul-le-mul_right}
@@ -57,6 +57,16 @@ one-more test xs i d b kept more below so_far is same =
           let none : more ≡ 0 = one ∙ ap (λ t. cond t 1 0) out in
           omega (arith, so_far, none, count_by_more_no test xs i d below out)
     ]
+
+byte-few : (b : Bool) → bool_byte b ≤ 1
+byte-few true = omega arith
+byte-few false = omega arith
+
+-- a count of some of the first rows stays below a word's end
+pub step-fits : {X : Type 0} (test : X → Bool) (xs : List X) (i most : ℕ) (b : Bool) (kept more : ℕ) → kept ≡ count_by test (take i xs) → more ≡ bool_byte b → i < most → most < 2 ^ 64
+    → Fits w64 (kept + more)
+step-fits test xs i most b kept more so_far is below few =
+    record { fits = omega (arith, so_far, is, byte-few b, count_by-le-length test (take i xs), length-take i xs, below, few) }
 
 -- ---- the slots of a page
 

@@ -1,5 +1,6 @@
 -- The fixed conjuncts of a filter: found one after another, and what an index can use of them.
-use Rattle.std.proofs.Common.{◌≡◌, ℕ, ◌+◌, ◌<◌, Bool, true, false, not, cond, All, List, [], ◌∷◌, ◌++◌, filter, get_or, length, map, take, vec_len, append-nil, refl, sym, ap, subst, ◌∙◌, arith}
+use Rattle.std.proofs.Common.{◌≡◌, ℕ, ◌+◌, ◌<◌, ◌≤◌, ◌&&◌, Bool, true, false, not, cond, All, List, [], ◌∷◌, ◌++◌, filter, get_or, length, map, take, vec_len, eqb, append-nil, refl, sym, ap, subst, ◌∙◌, arith}
+use Rattle.std.proofs.lemmas.Bool.Decides.{nat_tests}
 use Rattle.std.proofs.lemmas.List.{length-map, map_more, map-append}
 use Rattle.std.proofs.lemmas.List.Elements.{All-append, All-cons, All-nil, filter-append}
 use Rattle.sql_values.specs.declared.column.ColumnType.{ColumnType}
@@ -18,10 +19,24 @@ use Rattle.table_stats.specs.declared.filter.ReadyConjunct.{ReadyConjunct}
 use Rattle.table_stats.specs.declared.filter.ReadyFilter.{ReadyFilter}
 use Rattle.table_stats.specs.Ready.{AreFixed, IsReadyConjunct, IsReadyFilter, own, own_tree}
 
+-- a conjunct is kept by both tests, or by the second of those that the first keeps
+kept-by-both : (usable opened : Bool) (one : FilterTree) (rest : List FilterTree) → cond (usable && not opened) (one ∷ rest) rest ≡ cond (not opened) (cond usable (one ∷ rest) rest) rest
+kept-by-both true true one rest = refl
+kept-by-both true false one rest = refl
+kept-by-both false true one rest = refl
+kept-by-both false false one rest = refl
+
+filter-if : (test : FilterTree → Bool) (b : Bool) (one : FilterTree) (more : List FilterTree) → cond b (cond (test one) (one ∷ filter test more) (filter test more)) (filter test more) ≡ filter test (cond b (one ∷ more) more)
+filter-if test true one more = refl
+filter-if test false one more = refl
+
 -- what an index can use of the fixed conjuncts is what it can use without a parameter
 pub fixed-usable : (columns : List ColumnType) (column : ℕ) (conjuncts : List FilterTree) → filter (is_fixed_usable columns column) conjuncts ≡ filter (is_usable columns column) (fixed_of conjuncts)
 fixed-usable columns column [] = refl
-fixed-usable columns column (conjunct ∷ more) = grind (arith, fixed-usable columns column more)
+fixed-usable columns column (conjunct ∷ more) =
+    ap (λ (rest : List FilterTree). cond (is_fixed_usable columns column conjunct) (conjunct ∷ rest) rest) (fixed-usable columns column more)
+    ∙ kept-by-both (is_usable columns column conjunct) (is_open conjunct) conjunct (filter (is_usable columns column) (fixed_of more))
+    ∙ filter-if (is_usable columns column) (not (is_open conjunct)) conjunct (fixed_of more)
 
 -- a row that meets each fixed conjunct meets these
 pub fixed-part : (columns : List ColumnType) (column : ℕ) (conjuncts : List FilterTree) (row : ValueRow) → meets_filter (fixed_of conjuncts) row ≡ true
@@ -38,7 +53,12 @@ fixed-fit kinds columns conditions lent i one same below is fixed fit =
 
 -- so many fixed conjuncts are ready
 pub fixed-count : (ready : ReadyFilter) → IsReadyFilter ready → length (fixed_of (own ready).filter) ≡ vec_len ready.conjuncts
-fixed-count ready is = omega (arith, ap length is.fixed.trees, length-map ready.conjuncts.items own_tree, ready.conjuncts.ok.0)
+fixed-count ready is = sym (ap length is.fixed.trees) ∙ length-map ready.conjuncts.items own_tree ∙ sym ready.conjuncts.ok.0
+
+pub some-fixed : (ready : ReadyFilter) → IsReadyFilter ready → eqb (vec_len ready.conjuncts) 0 ≡ false → 1 ≤ length (fixed_of (own ready).filter)
+some-fixed ready is other =
+    let count = fixed-count ready is in
+    grind (arith, nat_tests, count, other)
 
 -- ---- one conjunct more
 

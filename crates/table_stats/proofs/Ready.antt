@@ -1,9 +1,10 @@
 -- A row has a word of the range of a condition where the condition is true.
-use Rattle.std.proofs.Common.{◌≡◌, ℕ, zero, suc, ℤ, get_or, ◌&&◌, ◌<◌, Bool, true, false, not, cond, List, [], ◌∷◌, length, map, Option, Some, None, FitsSigned, w64, refl, sym, ap, subst, ◌∙◌, arith}
+use Rattle.std.proofs.Common.{◌≡◌, ℕ, zero, suc, ℤ, get_or, ◌+◌, ◌&&◌, ◌||◌, ◌<◌, Bool, true, false, not, cond, List, [], ◌∷◌, drop, length, map, Option, Some, None, FitsSigned, w64, refl, sym, ap, subst, ◌∙◌, arith}
 use Rattle.std.specs.Prelude.{Contains, slice_index_or}
 use Rattle.std.specs.Ordering.{int_eq}
 use Rattle.std.proofs.lemmas.Bool.{false_from_ne_true, true≢false}
-use Rattle.std.proofs.lemmas.List.{get_or-map, length-map}
+use Rattle.std.specs.List.{list_all, list_any}
+use Rattle.std.proofs.lemmas.List.{at_drop_more, get_or-map, length-map}
 use Rattle.sql_values.specs.declared.column.ColumnType.{ColumnType}
 use Rattle.sql_values.specs.declared.column.ColumnType.TheVariants.{Integer, Varchar}
 use Rattle.sql_values.specs.declared.value.Value.TheVariants as value
@@ -89,6 +90,26 @@ of-conjunct filter i conjunct ready below is =
     let fit : IsReadyConjunct filter.texts.now filter.relation.now.columns conjunct =
     subst (IsReadyConjunct filter.texts.now filter.relation.now.columns) (sym is) (ready.fixed.ready i conjunct below) in
     known-of filter tree conjunct.words (subst (λ (trees : List FilterTree). Contains trees tree) ready.fixed.trees here) fit.known
+
+-- ---- the conjuncts from one on, where this one is tried
+
+module _ (lent : List ReadyConjunct) (i : ℕ) (one : ReadyConjunct) (below : i < length lent) (is : one ≡ get_or lent i one) where
+  pub any-next : (test : FilterTree → Bool) (b : Bool) → b ≡ test (own_tree one) → list_any test (map own_tree (drop i lent)) ≡ (b || list_any test (map own_tree (drop (i + 1) lent)))
+  any-next test b tried =
+      at_drop_more (λ (all : List ReadyConjunct). list_any test (map own_tree all)) lent i one below
+      ∙ ap (λ (here : Bool). here || list_any test (map own_tree (drop (i + 1) lent))) (ap (λ (here : ReadyConjunct). test (own_tree here)) (sym is) ∙ sym tried)
+
+  pub all-next : (test : FilterTree → Bool) (b : Bool) → b ≡ test (own_tree one) → list_all test (map own_tree (drop i lent)) ≡ (b && list_all test (map own_tree (drop (i + 1) lent)))
+  all-next test b tried =
+      at_drop_more (λ (all : List ReadyConjunct). list_all test (map own_tree all)) lent i one below
+      ∙ ap (λ (here : Bool). here && list_all test (map own_tree (drop (i + 1) lent))) (ap (λ (here : ReadyConjunct). test (own_tree here)) (sym is) ∙ sym tried)
+
+  pub met-next : (row : ValueRow) (b : Bool) → b ≡ is_true (truth_of (own_tree one) row)
+      → meets_filter (map own_tree (drop i lent)) row ≡ (b && meets_filter (map own_tree (drop (i + 1) lent)) row)
+  met-next row b tried =
+      at_drop_more (λ (all : List ReadyConjunct). meets_filter (map own_tree all) row) lent i one below
+      ∙ ap (λ (here : Bool). here && meets_filter (map own_tree (drop (i + 1) lent)) row)
+      (ap (λ (here : ReadyConjunct). is_true (truth_of (own_tree here) row)) (sym is) ∙ sym tried)
 
 -- it is true where each is
 true-at : (trees : List FilterTree) (place : ℕ) (d : FilterTree) (row : ValueRow) → place < length trees → meets_filter trees row ≡ true → is_true (truth_of (get_or trees place d) row) ≡ true

@@ -1,9 +1,9 @@
--- What holds of each relation of a block holds of the one at a place.
-use Rattle.std.proofs.Common.{◌≡◌, ℕ, ◌+◌, ◌*◌, ◌<◌, ◌≤◌, max, ltb, Some, List, ◌∷◌, length, map, drop, get_or, ap, sym, ◌∙◌, arith}
+-- Loops over the relations of a block: one item more, products of counts, and counts that aren't what they were.
+use Rattle.std.proofs.Common.{◌≡◌, ℕ, ◌+◌, ◌*◌, ◌<◌, ◌≤◌, max, ltb, Some, List, [], ◌∷◌, ◌++◌, length, map, drop, take, get_or, ap, sym, ◌∙◌, arith}
 use Rattle.std.specs.Prelude.{true, false, Option, Result, Ok, Err, IsErrAnd}
 use Rattle.std.specs.Option.{option_or}
 use Rattle.std.proofs.lemmas.Bool.Decides.{nat_tests}
-use Rattle.std.proofs.lemmas.List.{at_drop_more}
+use Rattle.std.proofs.lemmas.List.{at_drop_more, map_more}
 use Rattle.sql_values.specs.Limits.{max_product}
 use Rattle.sql_values.specs.Stored.{StoredTable}
 use Rattle.query_block.specs.declared.block.Relation.{Relation}
@@ -15,6 +15,13 @@ use Rattle.table_stats.specs.Product.{first_past, row_counts}
 use Rattle.cost_model.specs.declared.stale.Stale.{Stale}
 use Rattle.cost_model.specs.Staleness.{RefusesFirst}
 use Rattle.table_stats.specs.Fresh.{first_stale, stale_in}
+
+-- ---- one item more
+
+pub one-pushed : {X Y : Type 0} (f : X → Y) (xs : List X) (i : ℕ) (d : X) (made more : List Y) (one : Y) → i < length xs → made ≡ map f (take i xs) → more ≡ made ++ one ∷ []
+    → one ≡ f (get_or xs i d) → more ≡ map f (take (i + 1) xs)
+one-pushed f xs i d made more one below so_far is last =
+    is ∙ (λ k. so_far k ++ last k ∷ []) ∙ sym (map_more f xs i d below)
 
 -- ---- products
 

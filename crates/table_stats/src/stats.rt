@@ -1,10 +1,11 @@
 // The counts of a block's tables.
 ghost use Rattle.std.specs.Prelude.{◌≡◌, ◌↔◌, ℕ, map, Err, IfOk, Some};
 ghost use Rattle.query_block.specs.Blocks.{block_tree, relation_tree};
-ghost use Rattle.db_catalog.specs.Fits.{Fits};
+ghost use Rattle.db_catalog.specs.Fits.{Fits, FitsTable};
 ghost use Rattle.cost_model.specs.Counts.{relation_stats_of, stats_of};
 ghost use Rattle.cost_model.specs.Fits.{FitsBlock};
 ghost use Rattle.table_stats.specs.Kept.{StandsIn};
+ghost use Rattle.table_stats.specs.Ready.{IsReadyFilter, own};
 ghost use Rattle.table_stats.specs.Product.{first_past, row_counts};
 
 use crate::fault::StatsFault;
@@ -23,28 +24,23 @@ const WIDE: u64 = 4;
 
 // How many rows of its table the fixed conjuncts of a relation's filter keep. Without one these are all; where they ask for
 // nothing that an index can't use, its matches; else the rows that a narrow range of an index leads to are tried, or all.
-fn kept_rows(
-    alloc: Global,
-    db: &Database,
-    relation: &Relation,
-    columns: &[IndexStats],
-) -> Result<u64, AllocError>
-    requires stands { StandsIn db.now (relation_tree relation.now) }
-    requires columns { columns.now ≡ (relation_stats_of db.now.tables (relation_tree relation.now)).columns }
-    ensures { IfOk result
-        (λ kept. kept ≡ (relation_stats_of db.now.tables (relation_tree relation.now)).kept) }
+fn kept_rows(db: &Database, filter: &ReadyFilter<'_>, columns: &[IndexStats]) -> u64
+    requires ready { IsReadyFilter filter.now }
+    requires fits { FitsTable db.now (own filter.now) }
+    requires texts { filter.now.texts.now ≡ db.now.texts }
+    requires columns { columns.now ≡ (relation_stats_of db.now.tables (own filter.now)).columns }
+    ensures { result ≡ (relation_stats_of db.now.tables (own filter.now)).kept }
 {
-    let rows = db.rows(relation.table);
-    let filter = ReadyFilter::new(alloc, relation, db.texts())?;
+    let rows = db.rows(filter.relation.table);
     if filter.conjuncts.is_empty() {
-        return Ok(rows);
+        return rows;
     }
-    if let Some(matches) = matches_of_all(&filter, columns) {
-        return Ok(matches);
+    if let Some(matches) = matches_of_all(filter, columns) {
+        return matches;
     }
-    match narrowest(&filter, columns, rows / WIDE) {
-        Some(index) => Ok(kept_within(db, &filter, index.column)),
-        None => Ok(kept_in_pages(db, &filter)),
+    match narrowest(filter, columns, rows / WIDE) {
+        Some(index) => kept_within(db, filter, index.column),
+        None => kept_in_pages(db, filter),
     }
 }
 
@@ -59,7 +55,8 @@ fn relation_stats(
         ≡ relation_stats_of db.now.tables (relation_tree relation.now)) }
 {
     let columns = index_stats(alloc, db, relation)?;
-    let kept = kept_rows(alloc, db, relation, &columns)?;
+    let filter = ReadyFilter::new(alloc, relation, db.texts())?;
+    let kept = kept_rows(db, &filter, &columns);
     Ok(RelationStats {
         rows: db.rows(relation.table),
         pages: db.pages(relation.table),

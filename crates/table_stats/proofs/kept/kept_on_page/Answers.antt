@@ -7,7 +7,7 @@ use Rattle.db_catalog.specs.Database.{table_at, row_at}
 use Rattle.db_catalog.specs.Meter.{page_rows}
 use Rattle.db_catalog.proofs.OfRelations.{relation_values}
 use Rattle.table_stats.specs.Ready.{is_kept, own}
-use Rattle.table_stats.proofs.Counted.{one-more, own-row, slot-ends, slot-row, slot-there}
+use Rattle.table_stats.proofs.Counted.{one-more, step-fits, own-row, slot-ends, slot-row, slot-there}
 use Rattle.table_stats.proofs.kept.kept_on_page.Goals as goal
 
 pub row_in-requires : goal.row_in-requires
@@ -52,3 +52,9 @@ loop-slot-preserved c =
     ∙ sym (slot-row (length table.columns) c.args.no slot table.rows below) in
     one-more test (drop begin table.rows) slot [] c.keeps.result c.loop-slot.kept c.from-kept.result
     (slot-there (length table.columns) c.args.no slot table.rows below) c.loop-slot.invariant c.from-kept.ensures (c.keeps.ensures ∙ ap test values)
+
+pub overflow_add-kept : goal.overflow_add-kept
+overflow_add-kept c =
+    let table = table_at c.args.db.now (own c.args.filter.now).table in
+    step-fits (is_kept c.args.filter.now) (drop (row_number (length table.columns) c.args.no 0) table.rows) c.loop-slot.slot c.rows_on_page-slot-end.result c.keeps.result c.loop-slot.kept
+    c.from-kept.result c.loop-slot.invariant c.from-kept.ensures c.loop-slot-test.true c.rows_on_page-slot-end.type_inv

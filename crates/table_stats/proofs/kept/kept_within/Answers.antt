@@ -10,7 +10,7 @@ use Rattle.db_catalog.specs.Indexes.{index_at, row_of_entry}
 use Rattle.db_catalog.proofs.OfIndexes.{index_at-below}
 use Rattle.db_catalog.proofs.OfRelations.{relation_values}
 use Rattle.table_stats.specs.Ready.{is_kept, own}
-use Rattle.table_stats.proofs.Counted.{found-all, one-more, own-row}
+use Rattle.table_stats.proofs.Counted.{found-all, one-more, step-fits, own-row}
 use Rattle.table_stats.proofs.kept.kept_within.Goals as goal
 
 pub entries_within-entry-items-requires : goal.entries_within-entry-items-requires
@@ -67,3 +67,9 @@ returns c =
     ∙ ap (count_by test) (all ∙ ap (map row) are)
     ∙ found-all database relation c.requires.over.fits c.args.column range c.requires.usable (finds c.requires.over.ready.relation.is.filter)
     c.entries_within-entry-items.ensures.words c.entries_within-entry-items.ensures.rows
+
+pub overflow_add-kept : goal.overflow_add-kept
+overflow_add-kept c =
+    let entries = c.entries_within-entry-items.result.now in
+    step-fits (is_kept c.args.filter.now) (map (row_of_entry c.args.db.now (own c.args.filter.now).table) entries) c.loop-entry.entry-index (length entries) c.keeps.result c.loop-entry.kept
+    c.from-kept.result c.loop-entry.invariant c.from-kept.ensures c.loop-entry-test.true c.entries_within-entry-items.type_inv.0

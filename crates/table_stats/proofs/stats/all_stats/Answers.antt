@@ -6,6 +6,7 @@ use Rattle.db_catalog.specs.Fits.{FitsTable}
 use Rattle.cost_model.specs.declared.stats.RelationStats.{RelationStats}
 use Rattle.cost_model.specs.Counts.{relation_stats_of}
 use Rattle.query_block.proofs.Relations.{of_each}
+use Rattle.table_stats.proofs.Relations.{one-pushed}
 use Rattle.table_stats.proofs.stats.all_stats.Goals as goal
 
 pub relation_stats-requires : goal.relation_stats-requires
@@ -34,3 +35,13 @@ returns c =
     ∙ ap each (take_all c.loop-relation.relation-index lent c.loop-relation-test.false)
     ∙ ap each c.relations-relation-items.ensures.relations
     ∙ twice f c.args.block.now.relations
+
+pub loop-relation-preserved : goal.loop-relation-preserved
+loop-relation-preserved c =
+    let f : RelationTree → RelationStats = relation_stats_of c.args.db.now.tables in
+    let each : Relation → RelationStats = λ relation. f (relation_tree relation) in
+    let lent = c.relations-relation-items.result.now in
+    let i = c.loop-relation.relation-index in
+    let item = c.relation-item.result in
+    one-pushed each lent i item c.loop-relation.stats.items c.push.new.self.items c.in_ok-relation_stats.field-0 c.loop-relation-test.true c.loop-relation.invariant
+    c.in_ok-push.ensures.items (c.in_ok-relation_stats.ensures ∙ ap each c.relation-item.is)

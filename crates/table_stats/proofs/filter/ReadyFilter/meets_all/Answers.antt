@@ -1,0 +1,34 @@
+use Rattle.std.proofs.Common.{◌≡◌, ◌∙◌, true, false, List, map, ap, sym}
+use Rattle.std.proofs.lemmas.List.{at_drop_all}
+use Rattle.sql_values.specs.Stored.{values_of}
+use Rattle.sql_values.specs.declared.column.ColumnType.{ColumnType}
+use Rattle.query_block.specs.Meaning.{is_true, meets_filter}
+use Rattle.query_block.specs.Truth.{truth_of}
+use Rattle.table_stats.specs.declared.filter.ReadyConjunct.{ReadyConjunct}
+use Rattle.table_stats.specs.Ready.{own_tree, own_values}
+use Rattle.table_stats.proofs.Ready.{met-next}
+use Rattle.table_stats.proofs.filter.ReadyFilter.meets_all.Goals as goal
+
+pub returns-then-not-is_met : goal.returns-then-not-is_met
+returns-then-not-is_met c =
+    let row = own_values c.args.self.now c.args.row.now in
+    let item = c.conjunct-item.result in
+    let tried : c.is_met.result ≡ is_true (truth_of (own_tree item) row) =
+    c.is_met.ensures ∙ ap (λ (columns : List ColumnType). is_true (truth_of (own_tree item) (values_of c.args.self.now.texts.now columns c.args.row.now))) c.as_slice-columns.ensures in
+    sym (c.loop-conjunct.invariant
+    ∙ met-next c.deref-conjunct-items.result.now c.loop-conjunct.conjunct-index item c.loop-conjunct-test.true c.conjunct-item.is row false (sym c.if-not-is_met.true ∙ tried))
+
+pub loop-conjunct-preserved : goal.loop-conjunct-preserved
+loop-conjunct-preserved c =
+    let row = own_values c.args.self.now c.args.row.now in
+    let item = c.conjunct-item.result in
+    let tried : c.is_met.result ≡ is_true (truth_of (own_tree item) row) =
+    c.is_met.ensures ∙ ap (λ (columns : List ColumnType). is_true (truth_of (own_tree item) (values_of c.args.self.now.texts.now columns c.args.row.now))) c.as_slice-columns.ensures in
+    c.loop-conjunct.invariant
+    ∙ met-next c.deref-conjunct-items.result.now c.loop-conjunct.conjunct-index item c.loop-conjunct-test.true c.conjunct-item.is row true (sym c.if-not-is_met.false ∙ tried)
+
+pub returns : goal.returns
+returns c =
+    let row = own_values c.args.self.now c.args.row.now in
+    sym (c.loop-conjunct.invariant
+    ∙ at_drop_all (λ (all : List ReadyConjunct). meets_filter (map own_tree all) row) c.deref-conjunct-items.result.now c.loop-conjunct.conjunct-index c.loop-conjunct-test.false)
