@@ -1,7 +1,5 @@
 // Compiled bouquets: of each contour its cost, its budget and its plans.
-ghost use Rattle.std.specs.Prelude.{◌≤◌, ◌<◌, IfOk};
-ghost use Rattle.query_block.specs.Blocks.{block_tree};
-ghost use Rattle.db_catalog.specs.Fits.{Fits};
+ghost use Rattle.std.specs.Prelude.{◌≤◌, ◌<◌};
 
 use crate::fixture::block_of;
 use crate::wrong::Wrong;
@@ -23,15 +21,13 @@ fn levels_of(written: &str) -> Result<Option<u64>, Wrong> {
 }
 
 // The bouquet of a block over the tables.
-pub(crate) fn compiled(
+fn compiled(
     alloc: Global,
     db: &Database,
     block: Block,
     levels: Option<u64>,
     threshold: u32,
-) -> Result<Bouquet, Wrong>
-    ensures { IfOk result (λ bouquet. Fits db.now (block_tree bouquet.block)) }
-{
+) -> Result<Bouquet, Wrong> {
     if !db.fits(&block) || block.axes() > 6 || threshold > 1000 {
         return Err("a block over the tables, and a threshold".into());
     }

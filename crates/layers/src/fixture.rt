@@ -3,7 +3,7 @@
 ghost use Rattle.std.specs.Prelude.{◌<◌, ◌≤◌, ◌^◌};
 ghost use Rattle.sql_parse.specs.Trees.{statement_tree, query_tree};
 ghost use Rattle.sql_parse.specs.WellFormed.{IsWellFormed, IsWellFormedQuery};
-ghost use Rattle.sql_parse.specs.Counts.{predicates_of, of_condition, predicates_in};
+ghost use Rattle.sql_parse.specs.Counts.{HasUpTo, of_condition, predicates_in};
 
 use crate::wrong::Wrong;
 use db_catalog::Database;
@@ -91,7 +91,7 @@ fn carry_out(
     statement: &Statement,
 ) -> Result<Option<Block>, Wrong>
     requires well_formed { IsWellFormed (statement_tree statement.now) }
-    requires predicates { predicates_of (statement_tree statement.now) ≤ 1000000 }
+    requires counted { HasUpTo 1000000 (statement_tree statement.now) }
 {
     match statement {
         Statement::CreateTable(table) => {

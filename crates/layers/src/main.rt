@@ -1,7 +1,7 @@
 //! What runs through several crates and no script shows: a line of a file of `data/` has what is asked and the answer, and
 //! the program works the answer out by the crates' own calls, from scripts and texts of plans.
 //! It prints the lines whose answer is another, and how many agree; where one differs, or can't be worked out, its status
-//! is 1. It builds a block by hand only where no script gives one: with a parameter.
+//! is 1.
 #![tactic(auto)]
 
 mod appends;
@@ -10,7 +10,6 @@ mod bouquets;
 mod canonical;
 mod costs;
 mod fixture;
-mod open;
 mod rules;
 mod runs;
 mod stores;
@@ -31,8 +30,6 @@ enum Question {
     Counts,
     Change,
     Cost,
-    OpenCost,
-    OpenRun,
     Tree,
     UsableIndex,
     Bouquet,
@@ -43,15 +40,13 @@ enum Question {
     Append,
 }
 
-const FILES: [(&str, Question); 16] = [
+const FILES: [(&str, Question); 14] = [
     ("canonical.txt", Question::CanonicalText),
     ("runs.txt", Question::Run),
     ("large.txt", Question::Run),
     ("counts.txt", Question::Counts),
     ("changes.txt", Question::Change),
     ("costs.txt", Question::Cost),
-    ("open_costs.txt", Question::OpenCost),
-    ("open_runs.txt", Question::OpenRun),
     ("trees.txt", Question::Tree),
     ("conditions.txt", Question::UsableIndex),
     ("bouquets.txt", Question::Bouquet),
@@ -82,8 +77,6 @@ fn answered(
         Question::Counts => costs::count_line(alloc, db, line),
         Question::Change => costs::change_line(alloc, db, line),
         Question::Cost => costs::cost_line(alloc, db, line),
-        Question::OpenCost => open::open_cost_line(alloc, db, line),
-        Question::OpenRun => open::open_run_line(alloc, db, line),
         Question::Tree => rules::tree_line(alloc, db, line),
         Question::UsableIndex => rules::usable_line(alloc, db, line),
         Question::Bouquet => bouquets::bouquet_line(alloc, db, line),

@@ -1,3 +1,4 @@
+use Rattle.std.specs.Prelude.{[]}
 use Rattle.std.proofs.Common.{sym, subst}
 use Rattle.query_block.specs.Shape.{BlockShape}
 use Rattle.query_block.specs.Blocks.{BlockTree, block_tree}
@@ -5,15 +6,15 @@ use Rattle.db_catalog.specs.Fits.{Fits}
 use Rattle.db_catalog.proofs.PutBlocks.{put-fits-tables}
 use Rattle.layers.proofs.bouquet_runs.ran_twice.Goals as goal
 
--- the block with the values stands over the tables, as the bouquet's block does
+-- the block that is run stands over the tables, as the bouquet's block does
 pub ran-requires-clause-fits : goal.ran-requires-clause-fits
 ran-requires-clause-fits c =
     subst (Fits c.args.db.now) (sym {A = BlockTree} c.in_ok-block.ensures)
-    (put-fits-tables c.args.db.now c.args.values.now (block_tree c.block-2.result.now)
+    (put-fits-tables c.args.db.now [] (block_tree c.block-2.result.now)
     (subst (λ (block : BlockShape). Fits c.args.db.now (block_tree block)) (sym {A = BlockShape} c.block-2.ensures.block) c.requires))
 
 pub ran-requires-2-clause-fits : goal.ran-requires-2-clause-fits
 ran-requires-2-clause-fits c =
     subst (Fits c.args.db.now) (sym {A = BlockTree} c.in_ok-block.ensures)
-    (put-fits-tables c.args.db.now c.args.values.now (block_tree c.block-2.result.now)
+    (put-fits-tables c.args.db.now [] (block_tree c.block-2.result.now)
     (subst (λ (block : BlockShape). Fits c.args.db.now (block_tree block)) (sym {A = BlockShape} c.block-2.ensures.block) c.requires))
