@@ -70,7 +70,7 @@ RULES = {
     "rows": "It is printed where the condition of WHERE is true on it, and not where it is false or, by NULL, unknown",
     "kinds": "predicate P of WHERE compares a number with a text",
     "conjunct": "conjunct C of WHERE is neither on columns of one table nor an equality of columns of two",
-    "axes": "how many conjuncts are equalities of columns of two tables, more than 6",
+    "axes": "how many axes the grid would have, more than 6",
     "relations": "how many tables are in FROM, more than 6",
     "projection": "how many columns are named, more than 256",
     "columns": "how many columns are written",
