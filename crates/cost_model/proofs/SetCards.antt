@@ -169,11 +169,7 @@ add-scaled at cards end edge card long small before after here =
       omega (arith, length-set {A = ℕ}, long),
     )
 
-module _ (at : Pricing) (cards : List ℕ) (end : ℕ) (all : length (block_at at).edges ≤ end) (scaled-all : AreScaled at cards end) where
-  pub all-scaled : AreCards at cards
-  all-scaled set below =
-      let here = scaled-all set below in
-      sym (ap (λ rest. scaled_by_edges at.costing.grid at.point (set_of set) end rest (get_or cards set 0)) (drop_all end (block_at at).edges all)) ∙ here.card
-
-  pub all-few : (set : ℕ) → IsSetOf (block_at at) set → get_or cards set 0 ≤ max_product
-  all-few set below = let here = scaled-all set below in here.few
+pub all-scaled : (at : Pricing) (cards : List ℕ) (end : ℕ) → length (block_at at).edges ≤ end → AreScaled at cards end → AreCards at cards
+all-scaled at cards end all scaled-all set below =
+    let here = scaled-all set below in
+    sym (ap (λ rest. scaled_by_edges at.costing.grid at.point (set_of set) end rest (get_or cards set 0)) (drop_all end (block_at at).edges all)) ∙ here.card

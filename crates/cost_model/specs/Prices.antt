@@ -5,7 +5,7 @@ use Rattle.plan_tree.specs.Enumerated.{edge_at, column_on}
 use Rattle.plan_tree.specs.Work.{bits, nest_work, hash_work, merge_work, index_loop_work}
 use Rattle.query_block.specs.Blocks.{BlockTree, block_tree}
 use Rattle.ess_grid.specs.Points.{IsPoint}
-use Rattle.cost_model.specs.Costing.{CostingTree, costing_tree}
+use Rattle.cost_model.specs.Costing.{CostingTree, IsCosting, costing_tree}
 use Rattle.cost_model.specs.AtPoint.{stats_at}
 use Rattle.cost_model.specs.Cards.{card_of}
 use Rattle.plan_tree.specs.Sets.{set_of}
@@ -102,8 +102,9 @@ AreFewCards block cards = (set : ℕ) → IsSetOf block set → slice_index card
 abbrev pub AreSorts : BlockTree → (cards sorts : List ℕ) → Type 0
 AreSorts block cards sorts = (set : ℕ) → IsSetOf block set → slice_index sorts set ≡ slice_index cards set * bits (slice_index cards set)
 
--- the cards are kept, and beside them these works
+-- at a point of a costing's grid the cards are kept, and beside them these works
 pub record ArePrices (at : Pricing) (cards sorts : List ℕ) : Type 0 where
+  pub is_costing : IsCosting (costing_tree at.costing)
   pub of_grid : IsPoint at.costing.grid at.point
   pub are_cards : AreCards at cards
   pub are_sorts : AreSorts (block_at at) cards sorts

@@ -1,7 +1,7 @@
 // The axes on which the counts of a block's tables depend. They are found once for a costing, so that no filter is
 // walked for a card or an index scan.
 ghost use Rattle.std.specs.Prelude.{◌≡◌, ◌<◌, ◌≤◌, length};
-ghost use Rattle.query_block.specs.Blocks.{block_tree, relation_tree};
+ghost use Rattle.query_block.specs.Blocks.{block_tree, relation_tree, IsBlock};
 ghost use Rattle.sql_values.specs.Limits.{max_columns};
 ghost use Rattle.cost_model.specs.AtPoint.{has_open_usable};
 ghost use Rattle.cost_model.specs.Axes.{AreAxes, AreOpen, AreOpenColumns};
@@ -12,7 +12,8 @@ use sql_values::{MAX_COLUMNS, MAX_RELATIONS};
 
 /// The axis of each relation.
 pub(crate) fn relation_axes(block: &Block) -> [Option<u8>; MAX_RELATIONS]
-    ensures { AreAxes (block_tree block.now) result }
+    ensures block { IsBlock (block_tree block.now) }
+    ensures axes { AreAxes (block_tree block.now) result }
 {
     let mut axes = [None; MAX_RELATIONS];
     for relation in 0..block.relations().len() {

@@ -3,7 +3,7 @@ use ess_grid::Point;
 use plan_tree::Plan;
 
 /// A point of a contour's frontier, with the best plan there and its cost.
-#[derive(Debug, Drop)]
+#[derive(Drop)]
 pub struct FrontierPoint {
     /// The point.
     pub point: Point,

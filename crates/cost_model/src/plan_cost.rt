@@ -36,6 +36,7 @@ fn root_of(p: &Plan) -> Root
 // What the outermost node of a plan costs by itself.
 fn root_cost(prices: &Prices<'_>, p: &Plan) -> u128
     requires { IsSubPlan (block_at prices.now) (plan_tree p.now) }
+    ensures costing { IsCosting (costing_tree prices.now.costing) }
     ensures own { result
         ≡ own_at prices.now (root_of (plan_tree p.now)) (covers_of (plan_tree p.now)) }
     ensures bound { result ≤ 2 ^ 108 }
@@ -47,8 +48,7 @@ fn root_cost(prices: &Prices<'_>, p: &Plan) -> u128
 // What all nodes of a plan cost.
 #[cycle(sum)]
 fn sum(prices: &Prices<'_>, p: &Plan) -> u128
-    requires costing { IsCosting (costing_tree prices.now.costing) }
-    requires plan { IsSubPlan (block_at prices.now) (plan_tree p.now) }
+    requires { IsSubPlan (block_at prices.now) (plan_tree p.now) }
     ensures sum { result ≡ sum_of (own_at prices.now) (plan_tree p.now) }
     ensures bound { result < cost_bound }
 {
@@ -71,7 +71,6 @@ impl Costing<'_> {
         ensures cost { result ≡ cost_of (costing_tree self.now) (plan_tree p.now) q.now }
         ensures bound { result < cost_bound }
     {
-        let _block = self.block();
         sum(&Prices::new(self, q, &mut PriceRoom::new()), p)
     }
 }

@@ -130,7 +130,6 @@ impl<'a> Prices<'a> {
         ensures card { result ≡ card_at self.now set }
         ensures few { result ≤ max_product }
     {
-        let _block = self.block();
         self.room.cards[set.number() as usize]
     }
 
@@ -140,8 +139,6 @@ impl<'a> Prices<'a> {
         ensures product { result ≡ card_at self.now set * bits (card_at self.now set) }
         ensures few { result ≤ 101 * max_product }
     {
-        let _block = self.block();
-        let _card = self.card(set);
         self.room.sorts[set.number() as usize]
     }
 

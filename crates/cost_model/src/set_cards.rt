@@ -5,6 +5,7 @@ ghost use Rattle.sql_values.specs.Limits.{max_product};
 ghost use Rattle.ess_grid.specs.Levels.{full_selectivity};
 ghost use Rattle.ess_grid.specs.Points.{IsPoint};
 ghost use Rattle.query_block.specs.Blocks.{block_tree};
+ghost use Rattle.cost_model.specs.Costing.{costing_tree, IsCosting};
 ghost use Rattle.cost_model.specs.AtPoint.{scaled};
 ghost use Rattle.cost_model.specs.Prices.{AreCards, AreFewCards};
 ghost use Rattle.cost_model.specs.SetCards.{AreProducts, AreScaled};
@@ -17,6 +18,7 @@ use plan_tree::Subset;
 
 // The products of the sets whose highest relation this is.
 fn add_relation(costing: &Costing<'_>, q: &Point, products: &mut [u128; 64], relation: u8)
+    requires costing { IsCosting (costing_tree costing.now) }
     requires relation { relation < length costing.now.block.relations }
     requires point { IsPoint costing.now.grid q.now }
     requires smaller { AreProducts (record { costing = costing.now; point = q.now }) products.old
@@ -24,7 +26,6 @@ fn add_relation(costing: &Costing<'_>, q: &Point, products: &mut [u128; 64], rel
     ensures { AreProducts (record { costing = costing.now; point = q.now }) products.new
         (2 ^ (relation + 1)) }
 {
-    let _block = costing.block();
     let alone = Subset::one(relation).number();
     let kept = u128::from(costing.kept(relation, q));
     for rest in 0..alone {
@@ -63,6 +64,7 @@ fn scale_by_edge(costing: &Costing<'_>, q: &Point, cards: &mut [u128; 64], edge:
 /// Works out the cards of all sets of the block's relations.
 pub(crate) fn fill_cards(costing: &Costing<'_>, q: &Point, cards: &mut [u128; 64])
     requires { IsPoint costing.now.grid q.now }
+    ensures costing { IsCosting (costing_tree costing.now) }
     ensures cards { AreCards (record { costing = costing.now; point = q.now }) cards.new }
     ensures few { AreFewCards (block_tree costing.now.block) cards.new }
 {

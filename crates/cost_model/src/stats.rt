@@ -22,7 +22,7 @@ pub struct RelationStats {
 }
 
 /// What is counted of an indexed column.
-#[derive(Clone, Copy, Debug, PartialEq, Eq)]
+#[derive(Clone, Copy, Debug)]
 pub struct IndexStats {
     /// The column's number in its table, from 0.
     pub column: u8,

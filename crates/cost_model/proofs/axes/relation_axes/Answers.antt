@@ -18,6 +18,6 @@ loop-relation-preserved c =
     (relation-small c.args.block.now _ _ c.relations-relation-end.ensures.block c.relations-relation-end.ensures.relations c.loop-relation-test.true)
     c.axis_of.ensures c.loop-relation.invariant
 
-pub returns : goal.returns
-returns c =
+pub returns-clause-axes : goal.returns-clause-axes
+returns-clause-axes c =
     all-axes c.args.block.now _ c.loop-relation.axes c.loop-relation.relation c.relations-relation-end.ensures.relations c.loop-relation-test.false c.loop-relation.invariant.0

@@ -25,3 +25,15 @@ loop-set-preserved c =
     (c.scaled_inside.ensures.scaled ∙ (λ i. cond (inside i) (scaled card (c.selectivity-selectivity.ensures.selectivity i)) card)) c.scaled_inside.ensures.few in
     add-scaled at c.loop-set.cards set edge c.scaled_inside.result c.loop-set.invariant.2 (omega (arith, c.loop-set-test.true, c.set_count-set-end.ensures.few))
     c.loop-set.invariant.0 c.loop-set.invariant.1 next
+
+pub scaled_inside-requires-clause-card : goal.scaled_inside-requires-clause-card
+scaled_inside-requires-clause-card c =
+    let set = c.loop-set.set in
+    let count = c.set_count-set-end.ensures.count ∙ ap (λ block. 2 ^ length (block_tree block).relations) c.block-block.ensures.block in
+    let here = c.loop-set.invariant.1 set (omega arith) (omega (arith, c.loop-set-test.true, count)) in
+    here.few
+
+pub returns : goal.returns
+returns c = λ set below.
+    let count = c.set_count-set-end.ensures.count ∙ ap (λ block. 2 ^ length (block_tree block).relations) c.block-block.ensures.block in
+    c.loop-set.invariant.0 set (omega (arith, below, c.loop-set-test.false, count))

@@ -7,7 +7,9 @@ use Rattle.cost_model.proofs.SetCards.{set-small}
 use Rattle.cost_model.proofs.prices.Prices.card.Goals as goal
 
 pub bounds-self-inside-number : goal.bounds-self-inside-number
-bounds-self-inside-number c = omega (arith, c.number.ensures, set-small (costing_tree c.args.self.now.costing) c.args.set c.block-block.ensures.costing c.requires)
+bounds-self-inside-number c =
+    let prices = subst (λ at. ArePrices at c.self.inside.room.now.cards c.self.inside.room.now.sorts) c.self.view_is c.self.invariant in
+    omega (arith, c.number.ensures, set-small (costing_tree c.args.self.now.costing) c.args.set prices.is_costing c.requires)
 
 pub returns-clause-card : goal.returns-clause-card
 returns-clause-card c =
@@ -18,4 +20,4 @@ pub returns-clause-few : goal.returns-clause-few
 returns-clause-few c =
     let prices = subst (λ at. ArePrices at c.self.inside.room.now.cards c.self.inside.room.now.sorts) c.self.view_is c.self.invariant in
     let card = ap (λ set. get_or c.self.inside.room.now.cards set 0) c.number.ensures ∙ prices.are_cards c.args.set c.requires in
-    omega (arith, card, card-below (costing_tree c.args.self.now.costing) (set_of c.args.set) c.args.self.now.point c.block-block.ensures.costing)
+    omega (arith, card, card-below (costing_tree c.args.self.now.costing) (set_of c.args.set) c.args.self.now.point prices.is_costing)
