@@ -1,7 +1,7 @@
 pub mod Most
-pub mod Lasts
-pub mod Members
 pub mod Ends
 pub mod Bound
 pub mod Meets
 pub mod OneCompiled
+pub mod Climbing
+pub mod NextAttempt

@@ -1,36 +1,90 @@
--- What is left of a bouquet's schedule while it is gone through.
-use Rattle.std.specs.Prelude.{ℕ, ◌+◌, ◌≤◌, ◌++◌, All, List, length, map}
+-- Where a run stands in the schedule of a bouquet.
+use Rattle.std.specs.Prelude.{◌≡◌, ℕ, ◌+◌, ◌-◌, ◌^◌, ◌≤◌, ◌++◌, ⊤, List, [], ◌∷◌, drop, length, slice_index_or, Option, Some, None}
 use Rattle.sql_values.specs.Limits.{max_contours}
-use Rattle.query_block.specs.Blocks.{block_tree}
-use Rattle.plan_tree.specs.declared.plan.Plan.{Plan}
-use Rattle.plan_tree.specs.Plans.{plan_tree}
-use Rattle.plan_tree.specs.Enumerated.{IsPlan}
-use Rattle.bouquet_type.specs.declared.contour.Contour.{Contour}
+use Rattle.plan_tree.specs.Plans.{PlanTree, Scan, plan_tree}
 use Rattle.bouquet_type.specs.declared.schedule.Attempt.{Attempt}
-use Rattle.bouquet_type.specs.Shapes.{BouquetShape}
-use Rattle.bouquet_type.specs.Trees.{IsBouquet, IsContour, contour_tree}
-use Rattle.bouquet_type.specs.Schedule.{Member, members_on, members_from}
+use Rattle.bouquet_type.specs.declared.schedule.Schedule.{Schedule}
+use Rattle.bouquet_type.specs.Trees.{BouquetTree}
+use Rattle.bouquet_type.specs.Ladders.{LadderState, IsLadder}
+use Rattle.bouquet_type.specs.Schedule.{Member, members_on, members_from, final_plan, schedule}
 
--- an execution as the definitions see it
-abbrev pub attempt_member : Attempt → Member
-attempt_member attempt = record { plan = plan_tree attempt.plan.now; budget = attempt.budget; contour = attempt.contour }
-
--- the contours behind the one at hand; and of that one the plans that are left, the budget and the number
+-- the contours; of that at hand how many plans were given, the budget, and the number, from 1. The number is 0 at the foot.
+-- There is no budget where all executions under one were given
 pub record ScheduleState : Type 0 where
-  pub bouquet : BouquetShape
-  pub contours : List Contour
-  pub plans : List Plan
-  pub budget : ℕ
+  pub ladder : LadderState
+  pub given : ℕ
+  pub budget : Option ℕ
   pub number : ℕ
 
--- the executions under budgets that are left, in order
-abbrev pub members_left : ScheduleState → List Member
-members_left s =
-    members_on s.budget s.number (map plan_tree s.plans) ++ members_from s.bouquet.threshold (s.number + 1) (map contour_tree s.contours)
+abbrev pub schedule_of : {L : Type 0} → (state : L → LadderState) → Schedule L → ScheduleState
+schedule_of state s = record { ladder = state s.ladder; given = s.given; budget = s.budget; number = s.number }
 
--- what always holds while a schedule is gone through
+-- an execution: its plan, the budget, and the number of its contour. The last one has no budget, and its contour is 0
+pub record AttemptTree : Type 0 where
+  pub plan : PlanTree
+  pub budget : Option ℕ
+  pub contour : ℕ
+
+abbrev pub attempt_tree : Attempt → AttemptTree
+attempt_tree attempt = record { plan = plan_tree attempt.plan.now; budget = attempt.budget; contour = attempt.contour }
+
+-- the executions under budgets that are left, in order
+abbrev pub members_at : (budget : Option ℕ) → ScheduleState → List Member
+members_at None s = []
+members_at (Some budget) s =
+    members_on budget s.number (drop s.given s.ladder.hand.plans) ++ members_from s.ladder.whole.threshold (s.number + 1) s.ladder.ahead
+
+abbrev pub members_left : ScheduleState → List Member
+members_left s = members_at s.budget s
+
+-- the first of some executions under budgets, and the others; the final plan where there is none
+abbrev pub first_attempt : List Member → (final : PlanTree) → AttemptTree
+first_attempt [] final = record { plan = final; budget = None; contour = 0 }
+first_attempt (member ∷ more) final = record { plan = member.plan; budget = Some member.budget; contour = member.contour }
+
+abbrev pub members_behind : List Member → List Member
+members_behind [] = []
+members_behind (member ∷ more) = more
+
+-- the execution at which a run stands: the plan that was given last, the final plan where no budget is left
+abbrev pub tried_contour : Option ℕ → (number : ℕ) → ℕ
+tried_contour None number = 0
+tried_contour (Some budget) number = number
+
+abbrev pub attempt_at : ScheduleState → AttemptTree
+attempt_at s = record {
+  plan = slice_index_or s.ladder.hand.plans (s.given - 1) (Scan 0);
+  budget = s.budget;
+  contour = tried_contour s.budget s.number;
+}
+
+-- without a budget the last plan of the last contour was given
+abbrev pub IsAtLast : Option ℕ → ScheduleState → Type 0
+IsAtLast None s = (s.ladder.ahead ≡ []) × (s.given ≡ length s.ladder.hand.plans)
+IsAtLast (Some budget) s = ⊤
+
+-- what always holds of a schedule
 pub record IsSchedule (s : ScheduleState) : Type 0 where
-  pub bouquet : IsBouquet s.bouquet
-  pub contours : All (IsContour (block_tree s.bouquet.block)) s.contours
-  pub plans : All (λ p. IsPlan (block_tree s.bouquet.block) (plan_tree p)) s.plans
-  pub few : s.number + length s.contours ≤ max_contours
+  pub ladder : IsLadder s.ladder
+  pub given : s.given ≤ length s.ladder.hand.plans
+  pub few : s.number + length s.ladder.ahead ≤ max_contours
+  pub ended : IsAtLast s.budget s
+
+-- and it stands at an execution
+pub record IsAtAttempt (s : ScheduleState) : Type 0 where
+  pub is : IsSchedule s
+  pub some : 1 ≤ s.given
+
+-- the schedule of the same bouquet stands at the next execution, and those behind it are left
+pub record TakesNext (old new : ScheduleState) : Type 0 where
+  pub at : IsAtAttempt new
+  pub step : attempt_at new ≡ first_attempt (members_left old) (final_plan old.ladder.whole)
+  pub left : members_left new ≡ members_behind (members_left old)
+  pub whole : new.ladder.whole ≡ old.ladder.whole
+
+-- the schedule of a bouquet before its first execution
+pub record IsWholeSchedule (bouquet : BouquetTree) (s : ScheduleState) : Type 0 where
+  pub is : IsSchedule s
+  pub members : members_left s ≡ schedule bouquet
+  pub few : length (members_left s) ≤ 2 ^ 19
+  pub whole : s.ladder.whole ≡ bouquet

@@ -4,6 +4,8 @@ pub mod Budgets
 pub mod Compiled
 pub mod Sound
 pub mod Schedule
+pub mod Ladders
+pub mod Kept
 pub mod Cursor
 pub mod Runs
 pub mod Bounded

@@ -1,5 +1,5 @@
 -- Bouquets as plain data, and what holds of each.
-use Rattle.std.specs.Prelude.{ℕ, ◌^◌, ◌≤◌, All, List, length, map}
+use Rattle.std.specs.Prelude.{ℕ, ◌≤◌, All, List, length, map}
 use Rattle.sql_values.specs.Limits.{max_points, max_threshold, max_contours, max_contour_cost}
 use Rattle.query_block.specs.Blocks.{BlockTree}
 use Rattle.plan_tree.specs.Plans.{PlanTree, plan_tree}

@@ -1,18 +1,13 @@
 // A bouquet. Its parts never change.
 ghost use Rattle.std.specs.Prelude.{◌≡◌, ◌^◌, ◌<◌, ◌≤◌, length};
 ghost use Rattle.sql_values.specs.Limits.{max_points, max_threshold, max_contour_cost};
-ghost use Rattle.query_block.specs.Blocks.{block_tree};
-ghost use Rattle.plan_tree.specs.Plans.{plan_tree};
-ghost use Rattle.plan_tree.specs.Enumerated.{IsPlan};
 ghost use Rattle.bouquet_type.specs.Shapes.{bouquet_shape, cost_on};
 ghost use Rattle.bouquet_type.specs.Trees.{IsBouquet, bouquet_tree};
 ghost use Rattle.bouquet_type.specs.Budgets.{budget_of, most_plans};
-ghost use Rattle.bouquet_type.specs.Schedule.{final_plan};
 
 use crate::contour::Contour;
 use cost_model::{Costing, Stats};
 use ess_grid::Grid;
-use plan_tree::Plan;
 use query_block::Block;
 use std::marker::Model;
 
@@ -142,16 +137,6 @@ impl Bouquet {
         ensures bound { result < 2 ^ 118 }
     {
         budget_on(self.threshold, self.contours[k - 1].cost)
-    }
-
-    /// The last plan of the last contour: it is executed without a budget, where no execution under one is done.
-    pub fn final_plan(&self) -> &Plan
-        ensures plan { plan_tree result.now ≡ final_plan (bouquet_tree self.now) }
-        ensures is_plan { IsPlan (block_tree self.now.block) (plan_tree result.now) }
-    {
-        let contours = self.contours();
-        let plans = contours[contours.len() - 1].plans.as_slice();
-        &plans[plans.len() - 1]
     }
 
     /// The most plans that one of its contours has: 1 to 4096.

@@ -1,121 +1,111 @@
-// The executions of a bouquet under budgets, one after another.
-ghost use Rattle.std.specs.Prelude.{◌≡◌, ◌∷◌, ◌≤◌, ◌^◌, [], IfSome, IsNone, length};
+// The executions of a bouquet, one after another.
+ghost use Rattle.std.specs.Prelude.{◌≡◌, OnErr, OnOk, length};
 ghost use Rattle.plan_tree.specs.Plans.{plan_tree};
 ghost use Rattle.plan_tree.specs.Enumerated.{IsPlan};
-ghost use Rattle.query_block.specs.Blocks.{block_tree};
-ghost use Rattle.bouquet_type.specs.Cursor.{attempt_member, members_left};
-ghost use Rattle.bouquet_type.specs.Schedule.{schedule};
-ghost use Rattle.bouquet_type.specs.Trees.{bouquet_tree, IsBouquet};
+ghost use Rattle.bouquet_type.specs.Cursor.{TakesNext, IsAtAttempt, IsWholeSchedule, IsSchedule};
+ghost use Rattle.bouquet_type.specs.Cursor.{schedule_of, attempt_at, attempt_tree};
+ghost use Rattle.bouquet_type.specs.Ladders.{StandsAtFoot};
 
-use crate::bouquet::{Bouquet, budget_on};
-use crate::contour::Contour;
+use crate::bouquet::budget_on;
+use crate::ladder::Ladder;
 use plan_tree::Plan;
-use std::marker::Model;
+use std::alloc::{AllocError, Global};
 
-/// An execution under a budget.
+/// An execution.
 #[derive(Clone, Copy, Debug)]
 pub struct Attempt<'b> {
     /// The plan that is executed.
     pub plan: &'b Plan,
-    /// The most that it may spend, in units of work.
-    pub budget: u128,
-    /// The number of its contour, from 1.
+    /// The most that it may spend, in units of work. None for the last execution, which has no budget.
+    pub budget: Option<u128>,
+    /// The number of its contour, from 1; 0 for the last execution.
     pub contour: u32,
+    /// The place of the plan among those of its contour, from 1. The last execution has that of the last plan.
+    pub place: usize,
+    /// What its contour costs, in units of work.
+    pub cost: u128,
 }
 
-/// The executions of a bouquet under budgets that are still to come: the plans of the first contour in order, then those of
-/// the next one. Each contour's budget is worked out once.
+/// The executions of a bouquet: the plans of the first contour in order, each under the contour's budget, then those of the
+/// next one; last the last plan of the last contour, without a budget. A budget is worked out once a contour.
 #[derive(Debug, Drop)]
-pub struct Schedule<'b> {
-    bouquet: &'b Bouquet,
-    // The contours behind the one at hand.
-    contours: &'b [Contour],
-    // Of the contour at hand the plans that are left, the budget, and the number, from 1; 0 before the first one.
-    plans: &'b [Plan],
-    budget: u128,
+pub struct Schedule<L> {
+    ladder: L,
+    // Of the contour at hand how many plans were given, the budget, and the number, from 1; 0 at the foot. No budget where the
+    // last execution is at hand.
+    given: usize,
+    budget: Option<u128>,
     number: u32,
 }
 
-impl<'b> Model for Schedule<'b> {
-    ghost use Rattle.query_block.specs.contracts.condition.Condition as condition;
-    ghost use Rattle.plan_tree.specs.contracts.plan.Plan as plan;
-    ghost use Rattle.std.specs.Coded.{codes};
-    ghost use Rattle.bouquet_type.specs.Cursor.{ScheduleState, IsSchedule};
-
-    ghost Value = { ScheduleState };
-
-    ghost coded = { Prim.hlevel (codes, condition.the_row.coded, plan.the_row.coded) };
-
-    ghost view = { λ s. record {
-      bouquet = s.bouquet.now;
-      contours = s.contours.now;
-      plans = s.plans.now;
-      budget = s.budget;
-      number = s.number;
-    } };
-
-    ghost invariant = { λ s. IsSchedule (record {
-      bouquet = s.bouquet.now;
-      contours = s.contours.now;
-      plans = s.plans.now;
-      budget = s.budget;
-      number = s.number;
-    }) };
-}
-
-impl<'b> Schedule<'b> {
-    /// All executions of a bouquet under budgets.
-    pub fn new(bouquet: &'b Bouquet) -> Schedule<'b>
-        ensures members { members_left result ≡ schedule (bouquet_tree bouquet.now) }
-        ensures few { length (members_left result) ≤ 2 ^ 19 }
-        ensures bouquet { result.bouquet ≡ bouquet.now }
-        ensures well_formed { IsBouquet bouquet.now }
+impl<L: Ladder> Schedule<L> {
+    /// All executions of a bouquet that stands at its foot.
+    pub fn new(ladder: L) -> Schedule<L>
+        requires { StandsAtFoot (L.state ladder) }
+        ensures { IsWholeSchedule (L.state ladder).whole (schedule_of L.state result) }
     {
         Schedule {
-            bouquet,
-            contours: bouquet.contours(),
-            plans: &[],
-            budget: 0,
+            ladder,
+            given: 0,
+            budget: Some(0),
             number: 0,
         }
     }
 
-    // Goes on to the next contour, where no plan of the one at hand is left and there is a next one.
-    fn go_on(&mut self)
-        ensures same { members_left self.new ≡ members_left self.old }
-        ensures none { self.new.plans ≡ [] → members_left self.new ≡ [] }
-        ensures bouquet { self.new.bouquet ≡ self.old.bouquet }
+    // Goes on where all plans of the contour at hand were given: to the first of the next one; where there is none, the last
+    // execution is at hand.
+    fn climb(&mut self, alloc: Global) -> Result<(), AllocError>
+        requires is { IsSchedule (schedule_of L.state self.old) }
+        requires given { self.old.given ≡ length (schedule_of L.state self.old).ladder.hand.plans }
+        ensures goes_on { OnOk result
+            (TakesNext (schedule_of L.state self.old) (schedule_of L.state self.new)) }
+        ensures stays { OnErr result
+            (schedule_of L.state self.new ≡ schedule_of L.state self.old) }
     {
-        if !self.plans.is_empty() {
-            return;
+        if self.ladder.climb(alloc)? {
+            self.budget = Some(budget_on(self.ladder.threshold(), self.ladder.cost()));
+            self.number += 1;
+            self.given = 1;
+        } else {
+            self.budget = None;
         }
-        let [contour, contours @ ..] = self.contours else {
-            return;
-        };
-        self.contours = contours;
-        self.plans = contour.plans.as_slice();
-        self.budget = budget_on(self.bouquet.threshold(), contour.cost);
-        self.number += 1;
+        Ok(())
     }
 
-    /// The next execution, or None where all were given.
-    pub fn next(&mut self) -> Option<Attempt<'b>>
-        ensures first { IfSome result (λ next.
-            members_left self.old ≡ attempt_member next ∷ members_left self.new) }
-        ensures none { IsNone result → members_left self.old ≡ [] }
-        ensures plan { IfSome result (λ next.
-            IsPlan (block_tree self.old.bouquet.block) (plan_tree next.plan.now)) }
-        ensures bouquet { self.new.bouquet ≡ self.old.bouquet }
+    /// Goes on to the next execution. The last one stays, as does the one at hand where memory is wanting.
+    pub fn next(&mut self, alloc: Global) -> Result<(), AllocError>
+        requires { IsSchedule (schedule_of L.state self.old) }
+        ensures goes_on { OnOk result
+            (TakesNext (schedule_of L.state self.old) (schedule_of L.state self.new)) }
+        ensures stays { OnErr result
+            (schedule_of L.state self.new ≡ schedule_of L.state self.old) }
     {
-        self.go_on();
-        let [plan, plans @ ..] = self.plans else {
-            return None;
-        };
-        self.plans = plans;
-        Some(Attempt {
-            plan,
+        if self.given < self.ladder.plans().len() {
+            self.given += 1;
+            return Ok(());
+        }
+        self.climb(alloc)
+    }
+
+    /// The execution at hand.
+    pub fn attempt(&self) -> Attempt<'_>
+        requires { IsAtAttempt (schedule_of L.state self.now) }
+        ensures step { attempt_tree result ≡ attempt_at (schedule_of L.state self.now) }
+        ensures place { result.place ≡ (schedule_of L.state self.now).given }
+        ensures cost { result.cost ≡ (schedule_of L.state self.now).ladder.hand.cost }
+        ensures plan { IsPlan (L.state self.now.ladder).whole.costing.block (plan_tree result.plan.now) }
+    {
+        let plans = self.ladder.plans();
+        Attempt {
+            plan: &plans[self.given - 1],
             budget: self.budget,
-            contour: self.number,
-        })
+            contour: if self.budget.is_some() {
+                self.number
+            } else {
+                0
+            },
+            place: self.given,
+            cost: self.ladder.cost(),
+        }
     }
 }
