@@ -1,6 +1,5 @@
 -- How a run of a bouquet ends, over a database.
 use Rattle.std.specs.Prelude.{◌≡◌, ℕ, ℤ, ◌<◌, ◌≤◌, ⊤, List, [], length, Result, Ok, Err}
-use Rattle.row_stack.specs.declared.space.Space.{Space}
 use Rattle.query_block.specs.Blocks.{BlockTree}
 use Rattle.query_block.specs.Meaning.{meaning_of}
 use Rattle.plan_tree.specs.Plans.{PlanTree}
@@ -8,7 +7,7 @@ use Rattle.plan_tree.specs.Work.{work_of}
 use Rattle.db_catalog.specs.Database.{DatabaseState}
 use Rattle.bouquet_type.specs.Trees.{BouquetTree}
 use Rattle.exec_pipe.specs.Executions.{AreRowsOf}
-use Rattle.bouquet_type.specs.Runs.{RunEnd, run_end, total_work}
+use Rattle.bouquet_type.specs.Runs.{run_end, total_work}
 use Rattle.bouquet_type.specs.Bounded.{MeetsBound}
 use Rattle.bouquet_type.specs.Reports.{told_end}
 use Rattle.bouquet_type.specs.declared.report.Report.{Report}
@@ -39,9 +38,3 @@ abbrev pub AnswersRun : BouquetTree → BlockTree → DatabaseState → (most sp
 AnswersRun bouquet block database most spent results (Ok report) =
     ReportsRun bouquet block database most spent report × AreRowsOf database block results
 AnswersRun bouquet block database most spent results (Err fault) = RefusesRun bouquet block database most spent fault × (results ≡ [])
-
--- this end is told of rows that are there, and they stay; or memory ran out, and they are released
-abbrev pub TellsEnd : RunEnd → (before after : Space) → Result Report RunFault → Type 0
-TellsEnd end before after (Ok report) =
-    (told_end report ≡ end) × (report.rows ≡ length before.result.rows) × (after.result.rows ≡ before.result.rows)
-TellsEnd end before after (Err fault) = (fault ≡ NoMemory) × (after.result.rows ≡ [])

@@ -10,5 +10,5 @@
 mod attempts;
 mod book;
 
-pub use attempts::run;
+pub use attempts::{run, run_ladder};
 pub use book::Book;

@@ -1,46 +1,57 @@
-use Rattle.std.proofs.Common.{rules, ◌≡◌, ◌+◌, refl}
+use Rattle.std.proofs.Common.{rules, ◌≡◌, ◌∙◌, ap, subst, sym}
+use Rattle.std.specs.Prelude.{◌+◌, ◌≤◌, Option, Some, Ok}
 use Rattle.query_block.specs.Blocks.{block_tree}
 use Rattle.plan_tree.specs.Plans.{plan_tree}
-use Rattle.exec_pipe.specs.Executions.{AreRowsOf}
-use Rattle.bouquet_type.specs.Trees.{bouquet_tree}
+use Rattle.plan_tree.specs.Enumerated.{IsPlan}
+use Rattle.bouquet_type.specs.Trees.{BouquetTree}
+use Rattle.bouquet_type.specs.Bounded.{MeetsBound}
+use Rattle.bouquet_type.specs.Cursor.{attempt_tree, schedule_of}
+use Rattle.bouquet_type.specs.Reports.{told_end}
 use Rattle.bouquet_type.specs.Runs.{RunEnd, run_end}
+use Rattle.bouquet_type.proofs.Bound.{bound}
+use Rattle.bouquet_type.specs.declared.report.Report.{Report}
+use Rattle.db_catalog.specs.Database.{DatabaseState}
+use Rattle.run_step.specs.Coming.{TellsStep, coming}
 use Rattle.bouquet_run.specs.Outcomes.{works_over}
-use Rattle.bouquet_run.proofs.Between.{plan-of-put}
-use Rattle.bouquet_run.proofs.Told.{answers}
+use Rattle.bouquet_run.proofs.Between.{ends, plan-of-put}
 use Rattle.bouquet_run.proofs.attempts.run_schedule.Goals as goal
 
-pub returns-in-Ok-Done-clause-answers : goal.returns-in-Ok-Done-clause-answers
-returns-in-Ok-Done-clause-answers c =
-    let database = c.args.meter.now.database in
-    let bouquet = bouquet_tree c.args.b.now in
+pub execute-requires-clause-runs : goal.execute-requires-clause-runs
+execute-requires-clause-runs g c =
+    let whole = (g.L.Ladder.state c.args.ladder).whole in
+    let plan = plan_tree c.attempt-step.result.plan.now in
+    let same : (schedule_of g.L.Ladder.state c.next.new.self).ladder.whole ≡ whole = c.in_ok-next.ensures.goes_on.whole ∙ c.steps.invariant.of ∙ c.new-schedule.ensures.whole in
+    record {
+      plan = plan-of-put whole.costing.block (block_tree c.args.block.now) plan c.requires.block (subst (λ (w : BouquetTree). IsPlan w.costing.block plan) same c.attempt-step.ensures.plan);
+      context = search rules;
+    }
+
+pub returns-in-Some-clause-answers : goal.returns-in-Some-clause-answers
+returns-in-Some-clause-answers g c =
+    let state = schedule_of g.L.Ladder.state in
+    let begun = (state c.new-schedule.result).ladder.whole in
+    let whole = (g.L.Ladder.state c.args.ladder).whole in
     let block = block_tree c.args.block.now in
-    let at = c.run_within.new in
-    let are : AreRowsOf database block at.space.result.rows = search rules in
-    let end : RunEnd = record { plan = plan_tree c.in-Some.attempt.plan.now; total = at.meter.account.spent; runs = c.members.runs + 1; contour = c.in-Some.attempt.contour } in
-    let ends : end ≡ run_end bouquet (works_over database block) = search rules in
-    answers c.args.b.now block database c.args.max_work at.meter.account.spent at.space c.report.new.space end c.new-schedule.ensures.well_formed c.report.result c.report.ensures.tells are ends refl
-    c.run_within.ensures.leaves.within
-
-pub returns-in-Ok-clause-answers : goal.returns-in-Ok-clause-answers
-returns-in-Ok-clause-answers c =
-    let database = c.args.meter.now.database in
-    let bouquet = bouquet_tree c.args.b.now in
-    let block = block_tree c.args.block.now in
-    let at = c.run_within-2.new in
-    let are : AreRowsOf database block at.space.result.rows = search rules in
-    let end : RunEnd = record { plan = plan_tree c.final_plan-plan.result.now; total = at.meter.account.spent; runs = c.members.runs + 1; contour = 0 } in
-    let ends : end ≡ run_end bouquet (works_over database block) = search rules in
-    answers c.args.b.now block database c.args.max_work at.meter.account.spent at.space c.report-in-Ok.new.space end c.new-schedule.ensures.well_formed c.report-in-Ok.result c.report-in-Ok.ensures.tells are ends refl
-    c.run_within-2.ensures.leaves.within
-
-pub run_within-requires-clause-runs : goal.run_within-requires-clause-runs
-run_within-requires-clause-runs c = record {
-  plan = plan-of-put (block_tree c.args.b.now.block) (block_tree c.args.block.now) (plan_tree c.in-Some.attempt.plan.now) c.requires.block (search rules);
-  context = search rules;
-}
-
-pub run_within-requires-2-clause-runs : goal.run_within-requires-2-clause-runs
-run_within-requires-2-clause-runs c = record {
-  plan = plan-of-put (block_tree c.args.b.now.block) (block_tree c.args.block.now) (plan_tree c.final_plan-plan.result.now) c.requires.block c.final_plan-plan.ensures.is_plan;
-  context = search rules;
-}
+    let first = c.args.meter.now in
+    let step = attempt_tree c.attempt-step.result in
+    let report = c.in-Some.report in
+    let most = c.args.max_work in
+    let spent = c.execute.new.meter.account.spent in
+    let results = c.execute.new.space.result.rows in
+    let Tells : DatabaseState → Option Report → Type 0 = λ database told.
+    TellsStep database block most (coming most c.steps.meter.account.spent (c.steps.runs + 1) (works_over database block step.plan) step) spent results (Ok told) in
+    let tells : Tells first.database (Some report) =
+    subst (λ (database : DatabaseState). Tells database (Some report)) c.steps.invariant.leaves.database (subst (Tells c.steps.meter.database) c.in-Some.is c.in_ok-report.ensures.tells) in
+    let works = works_over first.database block in
+    let end : told_end report ≡ run_end whole works =
+    ends begun block first c.steps.meter most c.steps.runs (state c.steps.schedule) (state c.next.new.self) c.args.space.now c.steps.space step c.steps.invariant c.in_ok-next.ensures.goes_on c.attempt-step.ensures.step
+    (told_end report) tells.0 ∙ ap (λ (bouquet : BouquetTree). run_end bouquet works) c.new-schedule.ensures.whole in (
+      record {
+        rows = tells.2;
+        end = end;
+        paid = tells.1;
+        fits = subst (λ n. n ≤ most) tells.1 c.execute.ensures.leaves.within;
+        bound = subst (MeetsBound whole works) (sym (ap (λ (one : RunEnd). one.total) end)) (bound whole works c.requires.foot.ladder.plans);
+      },
+      tells.3,
+    )
