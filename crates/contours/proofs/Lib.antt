@@ -2,5 +2,7 @@ pub mod SomePlan
 pub mod Extremes
 pub mod Reduced
 pub mod Doubling
+pub mod Count
 pub mod Soundness
-pub mod InOrder
+pub mod Foot
+pub mod Collected

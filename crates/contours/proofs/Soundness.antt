@@ -15,9 +15,10 @@ use Rattle.cost_model.proofs.Frontiers.{frontier-above}
 use Rattle.cost_model.proofs.Covers.{greedy-covers}
 use Rattle.bouquet_type.specs.Trees.{ContourTree, BouquetTree}
 use Rattle.bouquet_type.specs.Budgets.{budget_of, contour_cost}
-use Rattle.bouquet_type.specs.Compiled.{IsCompiled}
+use Rattle.bouquet_type.specs.Compiled.{IsCompiled, compiled}
 use Rattle.bouquet_type.specs.Sound.{FitsAt, IsSound}
 use Rattle.contours.proofs.SomePlan.{some-plan}
+use Rattle.contours.proofs.Count.{compiled-is}
 use Rattle.contours.proofs.Doubling.{first-numbered, doubled-numbered, last-numbered}
 
 -- at a point of the frontier the optimal cost is within the contour's
@@ -51,8 +52,8 @@ fits-at costing threshold plan point contour is is_plan is_point plans within =
       omega (arith, cost, fits),
     )
 
-pub compiled-sound : (bouquet : BouquetTree) → IsCosting bouquet.costing → IsCompiled bouquet → IsSound bouquet
-compiled-sound bouquet is compiled =
+pub are-sound : (bouquet : BouquetTree) → IsCosting bouquet.costing → IsCompiled bouquet → IsSound bouquet
+are-sound bouquet is compiled =
     let plan = some-plan bouquet.costing.block is.block in
     let contours = bouquet.contours in
     let last = last-numbered bouquet.costing 1 contours (omega arith) compiled.some compiled.costs in
@@ -64,3 +65,7 @@ compiled-sound bouquet is compiled =
       covered = λ point is_point k d there within.
           fits-at bouquet.costing bouquet.threshold plan.0 point (get_or contours k d) is plan.1 is_point (compiled.plans k d there) within;
     }
+
+pub compiled-sound : (costing : CostingTree) (threshold : ℕ) → IsCosting costing → IsSound (compiled costing threshold)
+unfolding compiled
+compiled-sound costing threshold is = are-sound (compiled costing threshold) is (compiled-is costing threshold is)

@@ -1,20 +1,12 @@
 -- The contours of a compiled bouquet.
 use Rattle.std.specs.Prelude.{◌≡◌, ℕ, ◌≤◌, All, List, length, map}
 use Rattle.sql_values.specs.Limits.{max_contours}
-use Rattle.plan_tree.specs.Plans.{plan_tree}
 use Rattle.cost_model.specs.Costing.{CostingShape, CostingTree, costing_tree}
-use Rattle.cost_model.specs.Frontier.{frontier}
-use Rattle.cost_model.specs.Greedy.{greedy}
 use Rattle.bouquet_type.specs.declared.contour.Contour.{Contour}
 use Rattle.bouquet_type.specs.Shapes.{BouquetShape}
 use Rattle.bouquet_type.specs.Trees.{BouquetTree, IsContour, bouquet_tree, contour_tree}
 use Rattle.bouquet_type.specs.Compiled.{IsCompiled, compiled}
 use Rattle.bouquet_type.specs.Sound.{IsSound}
-
--- a contour with the plans that greedy reduction takes for its frontier
-pub record IsReduced (costing : CostingTree) (threshold : ℕ) (contour : Contour) : Type 0 where
-  pub shape : IsContour costing.block contour
-  pub plans : map plan_tree contour.plans.items ≡ greedy costing threshold (frontier costing contour.cost)
 
 -- a bouquet by its contours
 abbrev pub bouquet_of : CostingTree → (threshold : ℕ) → List Contour → BouquetTree
@@ -22,6 +14,7 @@ bouquet_of costing threshold contours = record { costing = costing; threshold = 
 
 -- contours that make the compiled bouquet
 pub record AreContours (costing : CostingTree) (threshold : ℕ) (contours : List Contour) : Type 0 where
+  pub whole : bouquet_of costing threshold contours ≡ compiled costing threshold
   pub compiled : IsCompiled (bouquet_of costing threshold contours)
   pub sound : IsSound (bouquet_of costing threshold contours)
   pub few : length contours ≤ max_contours

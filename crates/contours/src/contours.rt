@@ -1,34 +1,14 @@
-// The contours of a compiled bouquet.
-ghost use Rattle.std.specs.Prelude.{◌≡◌, ◌≤◌, IfOk};
-ghost use Rattle.sql_values.specs.Limits.{max_threshold, max_contour_cost};
-ghost use Rattle.ess_grid.specs.Points.{bottom_of};
+// All contours of a compiled bouquet.
+ghost use Rattle.std.specs.Prelude.{◌≤◌, IfOk};
+ghost use Rattle.sql_values.specs.Limits.{max_threshold};
 ghost use Rattle.cost_model.specs.Costing.{costing_tree};
-ghost use Rattle.cost_model.specs.Optimal.{optimal_cost};
-ghost use Rattle.contours.specs.Contours.{AreContours, IsReduced};
+ghost use Rattle.contours.specs.Contours.{AreContours};
 
-use anorexic::reduce;
+use crate::maker::Maker;
 use bouquet_type::Contour;
 use cost_model::Costing;
 use plan_space::Outlook;
 use std::alloc::{AllocError, Global};
-
-// The contour of this cost.
-fn contour(
-    alloc: Global,
-    outlook: &Outlook<'_>,
-    threshold: u32,
-    cost: u128,
-) -> Result<Contour, AllocError>
-    requires threshold { threshold ≤ max_threshold }
-    requires some { optimal_cost (costing_tree outlook.now) (bottom_of outlook.now.grid) ≤ cost }
-    requires few { cost ≤ max_contour_cost }
-    ensures cost { IfOk result (λ contour. contour.cost ≡ cost) }
-    ensures reduced { IfOk result (IsReduced (costing_tree outlook.now) threshold) }
-{
-    let points = outlook.frontier(alloc, cost)?;
-    let plans = reduce(alloc, outlook.costing(), &points, threshold)?;
-    Ok(Contour { cost, plans })
-}
 
 // The contours by an outlook.
 fn contours_by(
@@ -41,16 +21,11 @@ fn contours_by(
         AreContours (costing_tree outlook.now) threshold contours.items) }
 {
     let _costing = outlook.costing();
-    let top = outlook.top_cost();
-    let bottom = outlook.bottom_cost();
-    let mut cost = bottom;
+    let mut maker = Maker::new(outlook, threshold);
     let mut contours = Vec::new(alloc);
-    while cost < top {
-        contours.push(contour(alloc, outlook, threshold, cost)?)?;
-        cost *= 2;
+    while let Some(contour) = maker.next(alloc)? {
+        contours.push(contour)?;
     }
-    let last = contour(alloc, outlook, threshold, cost)?;
-    contours.push(last)?;
     Ok(contours)
 }
 

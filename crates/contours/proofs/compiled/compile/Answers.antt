@@ -1,11 +1,9 @@
-use Rattle.std.proofs.Common.{◌≤◌, ◌≡◌, ◌∙◌, length, map, ap, arith, subst, sym}
-use Rattle.std.proofs.lemmas.List.{length-map}
+use Rattle.std.proofs.Common.{◌≡◌, ◌∙◌, ap, subst, sym}
 use Rattle.cost_model.specs.Costing.{CostingShape, costing_tree}
 use Rattle.bouquet_type.specs.Shapes.{BouquetShape}
-use Rattle.bouquet_type.specs.Trees.{bouquet_tree, contour_tree}
+use Rattle.bouquet_type.specs.Trees.{bouquet_tree}
 use Rattle.bouquet_type.specs.Compiled.{IsCompiled}
 use Rattle.bouquet_type.specs.Sound.{IsSound}
-use Rattle.bouquet_type.proofs.OneCompiled.{compiled-one}
 use Rattle.contours.specs.Contours.{AreContours, bouquet_of}
 use Rattle.contours.proofs.compiled.compile.Goals as goal
 
@@ -16,13 +14,12 @@ returns c =
     let costing : CostingShape = record { block = c.args.block; stats = c.args.stats; grid = c.args.grid } in
     let are = subst (λ (one : CostingShape). AreContours (costing_tree one) c.args.threshold contours) c.new.ensures c.in_ok-contours.ensures in
     let tree : bouquet_tree c.new-2.result ≡ bouquet_of (costing_tree costing) c.args.threshold contours = ap bouquet_tree made in
-    let few : length (map contour_tree contours) ≤ 128 = omega (arith, length-map contours contour_tree, are.few) in
     record {
       block = ap (λ (b : BouquetShape). b.block) made;
       stats = ap (λ (b : BouquetShape). b.stats) made;
       grid = ap (λ (b : BouquetShape). b.grid) made;
       threshold = ap (λ (b : BouquetShape). b.threshold) made;
-      whole = tree ∙ compiled-one (bouquet_of (costing_tree costing) c.args.threshold contours) are.compiled few;
+      whole = tree ∙ are.whole;
       compiled = subst IsCompiled (sym tree) are.compiled;
       sound = subst IsSound (sym tree) are.sound;
     }

@@ -1,5 +1,5 @@
-use Rattle.contours.proofs.Soundness.{compiled-sound}
+use Rattle.contours.proofs.Soundness.{are-sound}
 use Rattle.contours.proofs.law.compiled_bouquets_are_sound.Goals as goal
 
 pub returns : goal.returns
-returns c = compiled-sound
+returns c = are-sound

@@ -1,0 +1,53 @@
+use Rattle.std.proofs.Common.{◌≡◌, ◌∙◌, ◌+◌, ◌<◌, ◌≤◌, [], ◌∷◌, drop, refl, ap, sym, subst, arith}
+use Rattle.cost_model.specs.Costing.{CostingTree, costing_tree}
+use Rattle.bouquet_type.specs.Trees.{ContourTree}
+use Rattle.bouquet_type.specs.Compiled.{compiled, compiled_contour, contour_count}
+use Rattle.contours.specs.Lazy.{MakerState, whole_of, ahead_of}
+use Rattle.contours.proofs.Doubling.{next-cost}
+use Rattle.contours.proofs.Count.{cost-few}
+use Rattle.contours.proofs.Foot.{next-ahead, none-ahead}
+use Rattle.contours.proofs.maker.Maker.next.Goals as goal
+
+pub returns-then-self-clause-made : goal.returns-then-self-clause-made
+returns-then-self-clause-made c =
+    let m = c.self.inside in
+    let all : contour_count (costing_tree m.outlook.now) ≤ m.made = omega (arith, c.self.invariant.counted, c.if-self.true) in (
+      subst (λ (one : MakerState). ahead_of one ≡ []) c.self.view_is (none-ahead (costing_tree m.outlook.now) m.threshold m.made all),
+      refl,
+    )
+
+pub contour-requires-clause-cost : goal.contour-requires-clause-cost
+contour-requires-clause-cost c =
+    let m = c.self.inside in
+    let is = c.self.invariant in
+    omega (arith, is.next, cost-few (costing_tree m.outlook.now) (m.made + 1) is.costing (omega arith) (omega (arith, is.made, is.counted, c.if-self.false)))
+
+pub overflow_mul-self : goal.overflow_mul-self
+overflow_mul-self c =
+    let m = c.self.inside in
+    let is = c.self.invariant in
+    omega (arith, is.next, cost-few (costing_tree m.outlook.now) (m.made + 1) is.costing (omega arith) (omega (arith, is.made, is.counted, c.if-self.false)))
+
+pub invariant_of-self : goal.invariant_of-self
+invariant_of-self c =
+    let m = c.self.inside in
+    let is = c.self.invariant in
+    record {
+      costing = is.costing;
+      threshold = is.threshold;
+      counted = is.counted;
+      made = omega (arith, is.made, c.if-self.false);
+      next = omega (arith, is.next, next-cost (costing_tree m.outlook.now) (m.made + 1) (omega arith));
+    }
+
+pub returns-clause-made : goal.returns-clause-made
+returns-clause-made c =
+    let m = c.self.inside in
+    let is = c.self.invariant in
+    let costing : CostingTree = costing_tree m.outlook.now in
+    let more : m.made < contour_count costing = omega (arith, is.made, is.counted, c.if-self.false) in
+    let behind = drop (m.made + 1) (compiled costing m.threshold).contours in (
+      ap whole_of c.self.view_is,
+      sym (ap ahead_of c.self.view_is) ∙ next-ahead costing m.threshold m.made more
+          ∙ ap (λ (one : ContourTree). one ∷ behind) (sym (c.in_ok-contour.ensures ∙ ap (compiled_contour costing m.threshold) is.next)),
+    )

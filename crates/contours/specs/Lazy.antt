@@ -1,0 +1,47 @@
+-- The contours of a compiled bouquet, made one after another.
+use Rattle.std.specs.Prelude.{◌≡◌, ℕ, ◌+◌, ◌≤◌, List, [], ◌∷◌, drop, Option, Some, None}
+use Rattle.sql_values.specs.Limits.{max_threshold}
+use Rattle.cost_model.specs.Costing.{CostingShape, IsCosting, costing_tree}
+use Rattle.bouquet_type.specs.declared.contour.Contour.{Contour}
+use Rattle.bouquet_type.specs.Trees.{BouquetTree, ContourTree, contour_tree}
+use Rattle.bouquet_type.specs.Budgets.{contour_cost}
+use Rattle.bouquet_type.specs.Compiled.{compiled, contour_count}
+use Rattle.bouquet_type.specs.Ladders.{LadderState}
+
+-- what the contours are made by, and how many were made
+pub record MakerState : Type 0 where
+  pub costing : CostingShape
+  pub threshold : ℕ
+  pub made : ℕ
+
+-- the compiled bouquet, and those of its contours that aren't made yet
+abbrev pub whole_of : MakerState → BouquetTree
+whole_of m = compiled (costing_tree m.costing) m.threshold
+
+abbrev pub ahead_of : MakerState → List ContourTree
+ahead_of m = drop m.made (whole_of m).contours
+
+-- the next contour was made; or all were, and nothing changed
+abbrev pub Makes : (old new : MakerState) → Option Contour → Type 0
+Makes old new (Some contour) = (whole_of new ≡ whole_of old) × (ahead_of old ≡ contour_tree contour ∷ ahead_of new)
+Makes old new None = (ahead_of old ≡ []) × (new ≡ old)
+
+-- the maker knows how many contours there are, and the cost of the next one
+pub record IsMaker (m : MakerState) (count cost : ℕ) : Type 0 where
+  pub costing : IsCosting (costing_tree m.costing)
+  pub threshold : m.threshold ≤ max_threshold
+  pub counted : count ≡ contour_count (costing_tree m.costing)
+  pub made : m.made ≤ count
+  pub next : cost ≡ contour_cost (costing_tree m.costing) (m.made + 1)
+
+-- a maker, and the contour at hand: none at the foot
+pub record LazyState : Type 0 where
+  pub maker : MakerState
+  pub hand : Option Contour
+
+abbrev pub tree_at : Option Contour → ContourTree
+tree_at None = record { cost = 0; plans = [] }
+tree_at (Some contour) = contour_tree contour
+
+abbrev pub lazy_ladder : LazyState → LadderState
+lazy_ladder l = record { whole = whole_of l.maker; hand = tree_at l.hand; ahead = ahead_of l.maker }

@@ -1,0 +1,111 @@
+// Makes the contours of a compiled bouquet, one after another. No contour is made anywhere else.
+ghost use Rattle.std.specs.Prelude.{◌≡◌, ◌≤◌, IfOk, OnErr};
+ghost use Rattle.sql_values.specs.Limits.{max_threshold, max_contour_cost};
+ghost use Rattle.cost_model.specs.Costing.{costing_tree};
+ghost use Rattle.bouquet_type.specs.Trees.{contour_tree};
+ghost use Rattle.bouquet_type.specs.Compiled.{compiled_contour, contour_count};
+ghost use Rattle.contours.specs.Lazy.{Makes};
+
+use anorexic::reduce;
+use bouquet_type::Contour;
+use plan_space::Outlook;
+use std::alloc::{AllocError, Global};
+use std::marker::Model;
+
+/// Makes the contours of the compiled bouquet of an outlook, the cheapest first.
+#[derive(Drop)]
+pub(crate) struct Maker<'o> {
+    outlook: &'o Outlook<'o>,
+    threshold: u32,
+    // How many contours there are, and how many were made.
+    count: u32,
+    made: u32,
+    // The cost of the next one.
+    cost: u128,
+}
+
+impl<'o> Model for Maker<'o> {
+    ghost use Rattle.query_block.specs.contracts.condition.Condition as condition;
+    ghost use Rattle.std.specs.Coded.{codes};
+    ghost use Rattle.contours.specs.Lazy.{MakerState, IsMaker};
+
+    ghost Value = { MakerState };
+
+    ghost coded = { Prim.hlevel (codes, condition.the_row.coded) };
+
+    ghost view = { λ m. record { costing = m.outlook.now; threshold = m.threshold; made = m.made } };
+
+    ghost invariant = { λ m. IsMaker
+        (record { costing = m.outlook.now; threshold = m.threshold; made = m.made })
+        m.count m.cost };
+}
+
+// How many contours there are.
+fn count(outlook: &Outlook<'_>) -> u32
+    ensures { result ≡ contour_count (costing_tree outlook.now) }
+{
+    let _costing = outlook.costing();
+    let top = outlook.top_cost();
+    let mut last = outlook.bottom_cost();
+    let mut count = 1;
+    while last < top {
+        last *= 2;
+        count += 1;
+    }
+    count
+}
+
+// The contour of this cost.
+fn contour(
+    alloc: Global,
+    outlook: &Outlook<'_>,
+    threshold: u32,
+    cost: u128,
+) -> Result<Contour, AllocError>
+    requires threshold { threshold ≤ max_threshold }
+    requires cost { cost ≤ max_contour_cost }
+    ensures { IfOk result (λ contour.
+        contour_tree contour ≡ compiled_contour (costing_tree outlook.now) threshold cost) }
+{
+    let points = outlook.frontier(alloc, cost)?;
+    let plans = reduce(alloc, outlook.costing(), &points, threshold)?;
+    Ok(Contour { cost, plans })
+}
+
+impl<'o> Maker<'o> {
+    /// Before the first contour, by a threshold in percent. It takes no memory.
+    pub(crate) fn new(outlook: &'o Outlook<'o>, threshold: u32) -> Maker<'o>
+        requires { threshold ≤ max_threshold }
+        ensures { result ≡ record { costing = outlook.now; threshold = threshold; made = 0 } }
+    {
+        let _costing = outlook.costing();
+        Maker {
+            outlook,
+            threshold,
+            count: count(outlook),
+            made: 0,
+            cost: outlook.bottom_cost(),
+        }
+    }
+
+    /// The threshold, in percent.
+    pub(crate) fn threshold(&self) -> u32
+        ensures { result ≡ self.now.threshold }
+    {
+        self.threshold
+    }
+
+    /// Makes the next contour. None where all were made. An error is want of memory, and the contour is the next one still.
+    pub(crate) fn next(&mut self, alloc: Global) -> Result<Option<Contour>, AllocError>
+        ensures made { IfOk result (Makes self.old self.new) }
+        ensures stays { OnErr result (self.new ≡ self.old) }
+    {
+        if self.made == self.count {
+            return Ok(None);
+        }
+        let contour = contour(alloc, self.outlook, self.threshold, self.cost)?;
+        self.made += 1;
+        self.cost *= 2;
+        Ok(Some(contour))
+    }
+}
