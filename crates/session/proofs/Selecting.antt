@@ -1,29 +1,68 @@
--- What is due to SELECT, by the block of its query.
-use Rattle.std.proofs.Common.{◌≡◌, ◌∙◌, ℕ, [], Option, Some, None, ap}
-use Rattle.std.specs.Prelude.{Ok}
+-- What is due to SELECT, by the block of its query, and how the compiled bouquet of a block without parameters answers.
+use Rattle.std.proofs.Common.{◌≡◌, ◌∙◌, ℕ, [], Option, Some, None, refl, ap}
+use Rattle.std.specs.Prelude.{All, Ok}
 use Rattle.sql_values.specs.Limits.{default_threshold}
-use Rattle.query_block.specs.Blocks.{BlockTree}
-use Rattle.query_block.specs.Values.{value_fault}
+use Rattle.query_block.specs.Blocks.{BlockTree, IsBlock, IsPutOf, put_of}
+use Rattle.query_block.specs.Values.{FitValues, value_fault}
 use Rattle.query_block.specs.declared.values.ValueFault.{ValueFault}
+use Rattle.query_block.proofs.PutIn.{no-parameters, own-put, put-none}
 use Rattle.sql_parse.specs.Trees.{QueryTree}
-use Rattle.session.specs.Bouquets.{answer_with, block_due, compiled_due, unless_misfit, with_due}
+use Rattle.plan_tree.specs.Enumerated.{IsPlan}
+use Rattle.db_catalog.specs.Database.{DatabaseState}
+use Rattle.bouquet_type.specs.Trees.{BouquetTree}
+use Rattle.bouquet_type.specs.Compiled.{compiled}
+use Rattle.bouquet_type.specs.Sound.{IsSound}
+use Rattle.bouquet_type.proofs.Bound.{bound}
+use Rattle.bouquet_run.specs.Outcomes.{works_over}
+use Rattle.session.specs.Bouquets.{answer_with, block_answer, block_due, compiled_over, costing_over, size_refusal, unless_misfit, with_due}
+use Rattle.session.specs.Bounds.{RunsWithinBound}
+use Rattle.session.specs.Counted.{HasCountsOf}
 use Rattle.session.specs.Outcome.{Outcome, Refuses}
 use Rattle.session.specs.Select.{select_outcome, selected}
 use Rattle.session.specs.World.{World}
+use Rattle.session.specs.declared.refusal.Refusal.{Refusal}
 use Rattle.session.specs.declared.refusal.Refusal.TheVariants as refusal
 
-module _ (max_work : ℕ) (world : World) (query : QueryTree) (block : BlockTree) (bound : block_due world.database query ≡ Ok block) where
-  -- what comes of its bouquet
-  abbrev pub compiled : Outcome
-  compiled = with_due (compiled_due world.database None default_threshold block) (answer_with max_work world [])
+module _ (max_work : ℕ) (world : World) (query : QueryTree) (block : BlockTree) (has : block_due world.database query ≡ Ok block) where
+  -- what comes of its bouquet, by what refuses its size
+  abbrev pub by_size : Option Refusal → Outcome
+  by_size size = with_due (compiled_over world.database None default_threshold block size) (answer_with max_work world [])
 
-  decided : (found : Option ValueFault) → value_fault block.parameters [] ≡ found → select_outcome max_work world query ≡ unless_misfit found compiled
-  decided found is = ap (λ due. with_due due (selected max_work world)) bound ∙ ap (λ (fault : Option ValueFault). unless_misfit fault compiled) is
+  decided : (found : Option ValueFault) (size : Option Refusal) → value_fault block.parameters [] ≡ found → size_refusal world.database block None ≡ size
+      → select_outcome max_work world query ≡ unless_misfit found (by_size size)
+  decided found size is sized = ap (λ due. with_due due (selected max_work world)) has ∙ (λ i. unless_misfit (is i) (by_size (sized i)))
 
   -- it has a parameter
   pub misfit_due : (fault : ValueFault) → value_fault block.parameters [] ≡ Some fault → select_outcome max_work world query ≡ Refuses (refusal.NotFitting fault)
-  misfit_due fault is = decided (Some fault) is
+  misfit_due fault is = decided (Some fault) (size_refusal world.database block None) is refl
 
   -- it has none
-  pub fitting_due : value_fault block.parameters [] ≡ None → select_outcome max_work world query ≡ compiled
-  fitting_due is = decided None is
+  pub fitting_due : value_fault block.parameters [] ≡ None → (size : Option Refusal) → size_refusal world.database block None ≡ size → select_outcome max_work world query ≡ by_size size
+  fitting_due is size sized = decided None size is sized
+
+module _ (database : DatabaseState) (block : BlockTree) (is : IsBlock block) (fit : FitValues block.parameters []) where
+  abbrev pub tree : BouquetTree
+  tree = compiled (costing_over database block None) default_threshold
+
+  -- the bouquet's block is the block itself
+  pub own : IsPutOf tree.costing.block block
+  unfolding compiled
+  own = own-put block is (no-parameters block.parameters fit)
+
+  stays : put_of [] tree.costing.block ≡ block
+  unfolding compiled
+  stays = put-none block is (no-parameters block.parameters fit)
+
+  pub on_block : (max_work : ℕ) (world : World) → answer_with max_work world [] tree ≡ block_answer max_work world tree block
+  on_block max_work world = ap (block_answer max_work world tree) stays
+
+  counts : HasCountsOf database.tables tree
+  unfolding compiled
+  counts = refl
+
+  pub within : All (λ contour. All (IsPlan tree.costing.block) contour.plans) tree.contours → IsSound tree → RunsWithinBound database [] tree
+  within plans sound = record {
+    counts = counts;
+    bound = bound tree (works_over database (put_of [] tree.costing.block)) plans;
+    sound = λ _. sound;
+  }

@@ -1,4 +1,4 @@
--- Which bouquet a block has, by what its grid and its counts say.
+-- What refuses the size of a block, by what its grid and its counts say.
 use Rattle.std.proofs.Common.{◌≡◌, ℕ, ◌^◌, ◌<◌, ◌≤◌, Bool, true, false, Option, Some, None, inl, inr, refl, sym, ap, subst, nat_lt, if◌then◌else◌, arith}
 use Rattle.std.specs.Prelude.{option_map}
 use Rattle.std.specs.Option.{option_or}
@@ -7,13 +7,16 @@ use Rattle.sql_values.specs.Limits.{min_levels, max_levels, max_points}
 use Rattle.sql_values.specs.declared.limit.LimitName.TheVariants as limit
 use Rattle.query_block.specs.Blocks.{BlockTree, axes_of}
 use Rattle.db_catalog.specs.Database.{DatabaseState}
+use Rattle.cost_model.specs.Costing.{CostingTree}
+use Rattle.cost_model.specs.declared.stats.Stats.{Stats}
+use Rattle.ess_grid.specs.Points.{GridShape}
 use Rattle.ess_grid.specs.declared.fault.GridFault.{GridFault}
 use Rattle.ess_grid.specs.declared.fault.GridFault.TheVariants as grid
 use Rattle.ess_grid.specs.Refused.{HasBadLevels, HasTooManyPoints}
 use Rattle.table_stats.specs.declared.fault.StatsFault.{StatsFault}
 use Rattle.table_stats.specs.declared.fault.StatsFault.TheVariants as counts
 use Rattle.table_stats.specs.Product.{first_past, row_counts}
-use Rattle.session.specs.Bouquets.{AreGridLevels, compiled_due, compiled_over, points_refusal, product_refusal}
+use Rattle.session.specs.Bouquets.{AreGridLevels, AreSizes, costing_over, points_refusal, product_refusal, size_refusal}
 use Rattle.session.specs.Stop.{StopsWhere, stop_of_counts, stop_of_grid}
 use Rattle.session.specs.declared.refusal.Refusal.{Refusal}
 use Rattle.session.specs.declared.refusal.Refusal.TheVariants as refusal
@@ -46,6 +49,9 @@ pub counts_stop : (holds : Refusal → Type 0) (fault : StatsFault) → ((value 
 counts_stop holds (counts.ProductLimit value) past = (past value refl, refl)
 counts_stop holds counts.NoMemory past = tt
 
+abbrev pub costing_by : BlockTree → GridShape → Stats → CostingTree
+costing_by block grid stats = record { block = block; stats = stats; grid = grid }
+
 module _ (database : DatabaseState) (block : BlockTree) where
   -- the first product past the limit
   abbrev product_past : Option ℕ
@@ -61,7 +67,12 @@ module _ (database : DatabaseState) (block : BlockTree) where
       by None is = refl
       by (Some value) is = absurd (small value is)
 
+-- the costs by the grid of a block and its counts
+pub costs : (database : DatabaseState) (levels : Option ℕ) (block : BlockTree) (grid : GridShape) (stats : Stats) → AreSizes database block levels (grid, stats)
+    → costing_by block grid stats ≡ costing_over database block levels
+costs database levels block grid stats are = λ i. costing_by block (are.grid i) (are.stats i)
+
 -- the points of a block's grid decide, then the combinations of its tables' rows
-pub decided : (database : DatabaseState) (levels : Option ℕ) (threshold : ℕ) (block : BlockTree) (points product : Option Refusal) → points_refusal (axes_of block) levels ≡ points → product_refusal database block ≡ product
-    → compiled_due database levels threshold block ≡ compiled_over database levels threshold block (option_or points product)
-decided database levels threshold block points product are is = λ i. compiled_over database levels threshold block (option_or (are i) (is i))
+pub decided : (database : DatabaseState) (levels : Option ℕ) (block : BlockTree) (points product : Option Refusal) → points_refusal (axes_of block) levels ≡ points → product_refusal database block ≡ product
+    → size_refusal database block levels ≡ option_or points product
+decided database levels block points product are is = λ i. option_or (are i) (is i)

@@ -15,8 +15,11 @@ use Rattle.db_catalog.specs.Database.{DatabaseState}
 use Rattle.sql_bind.specs.declared.fault.BindFault.{BindFault}
 use Rattle.sql_bind.specs.Binding.{bind_fault, block_of}
 use Rattle.ess_grid.specs.Levels.{levels_of}
+use Rattle.ess_grid.specs.Points.{GridShape}
 use Rattle.cost_model.specs.Costing.{CostingTree}
 use Rattle.cost_model.specs.Counts.{stats_of}
+use Rattle.cost_model.specs.Fits.{FitsBlock}
+use Rattle.cost_model.specs.declared.stats.Stats.{Stats}
 use Rattle.table_stats.specs.Product.{first_past, row_counts}
 use Rattle.bouquet_type.specs.Trees.{BouquetTree}
 use Rattle.bouquet_type.specs.Compiled.{compiled}
@@ -60,6 +63,18 @@ product_refusal database block = option_map (λ value. refusal.PastLimit limit.P
 -- the first of the two that comes
 abbrev pub size_refusal : DatabaseState → BlockTree → (levels : Option ℕ) → Option Refusal
 size_refusal database block levels = option_or (points_refusal (axes_of block) levels) (product_refusal database block)
+
+-- the grid of a block and the counts of its tables, where nothing refuses their size
+pub record AreSizes (database : DatabaseState) (block : BlockTree) (levels : Option ℕ) (sizes : GridShape × Stats) : Type 0 where
+  pub unrefused : size_refusal database block levels ≡ None
+  pub grid : sizes.0 ≡ (costing_over database block levels).grid
+  pub stats : sizes.1 ≡ (costing_over database block levels).stats
+  pub fits : FitsBlock block sizes.1
+
+-- they are returned, or why there are none, which costs nothing
+abbrev pub GivesSizes : DatabaseState → BlockTree → (levels : Option ℕ) → Result (GridShape × Stats) Stop → Type 0
+GivesSizes database block levels (Ok sizes) = AreSizes database block levels sizes
+GivesSizes database block levels (Err why) = StopsWhere (λ found. size_refusal database block levels ≡ Some found) why
 
 -- the compiled bouquet of a block, or why it has none
 abbrev pub compiled_over : DatabaseState → (levels : Option ℕ) → (threshold : ℕ) → BlockTree → Option Refusal → Result BouquetTree Refusal

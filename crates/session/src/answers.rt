@@ -1,5 +1,5 @@
-// The answer of a bouquet: its run over the tables, with its rows sorted and printed, and how it ended. It reaches rows by the
-// meter of the run alone, and never prints a work that wasn't paid into the book.
+// The answer of a bouquet: its run over the tables, with its rows sorted and printed, and how it ended. It reaches rows by
+// the meter of the run alone, and never prints a work that wasn't paid into the book. Any ladder may give it the contours.
 ghost use Rattle.std.specs.Prelude.{◌≡◌, ◌+◌, ◌≤◌, IfOk, OnOk, length};
 ghost use Rattle.work_ledger.specs.Account.{max_account};
 ghost use Rattle.query_block.specs.Blocks.{block_tree, IsPutOf, width_of};
@@ -7,7 +7,8 @@ ghost use Rattle.query_block.specs.Meaning.{meaning_of};
 ghost use Rattle.query_block.specs.Values.{FitValues};
 ghost use Rattle.db_catalog.specs.Fits.{Fits};
 ghost use Rattle.exec_pipe.specs.Executions.{AreRowsOf};
-ghost use Rattle.bouquet_type.specs.Trees.{bouquet_tree, IsBouquet};
+ghost use Rattle.bouquet_type.specs.Trees.{bouquet_tree};
+ghost use Rattle.bouquet_type.specs.Ladders.{StandsAtFoot};
 ghost use Rattle.bouquet_type.specs.Reports.{told_end};
 ghost use Rattle.session.specs.Bouquets.{answer_with, block_answer, bouquet_answer};
 ghost use Rattle.session.specs.Bounds.{RunsWithinBound};
@@ -20,8 +21,8 @@ use crate::columns::header_of;
 use crate::lines;
 use crate::refusal::Refusal;
 use crate::stop::Stop;
-use bouquet_run::{Book, run};
-use bouquet_type::{Bouquet, Report, RunFault};
+use bouquet_run::{Book, run_ladder};
+use bouquet_type::{Bouquet, Kept, Ladder, Report, RunFault};
 use db_catalog::{Database, Metered};
 use query_block::Block;
 use result_text::print_rows;
@@ -52,31 +53,31 @@ fn print_answer(
     Ok(text)
 }
 
-// What a block prints, which is the bouquet's with some values put in, by a run of the bouquet that may spend `max_work` units.
-// What it paid is entered in the book, whatever the answer.
-fn block_answer(
+/// What a block prints, by a run of the bouquet whose contours a ladder gives, which stands at its foot. The block is the
+/// bouquet's own, with some values in place of its parameters. The run may spend `max_work` units, and what it paid is
+/// entered in the book, whatever the answer.
+pub(crate) fn block_answer<L: Ladder + Drop>(
     alloc: Global,
     max_work: u64,
     database: &Database,
-    bouquet: &Bouquet,
+    ladder: L,
     block: &Block,
     book: &mut Book,
 ) -> Result<Vec<u8>, Stop>
-    requires bouquet { IsBouquet bouquet.now }
-    requires put { IsPutOf (block_tree bouquet.now.block) (block_tree block.now) }
+    requires foot { StandsAtFoot (L.state ladder) }
+    requires put { IsPutOf (L.state ladder).whole.costing.block (block_tree block.now) }
     requires fits { Fits database.now (block_tree block.now) }
     requires room { book.old + max_work ≤ max_account }
     ensures due { (world : World) → world.database ≡ database.now → ReturnsDue
-        (block_answer max_work world (bouquet_tree bouquet.now) (block_tree block.now))
+        (block_answer max_work world (L.state ladder).whole (block_tree block.now))
         result world book.old book.new }
     ensures pays { PaysAtMost max_work book.old book.new }
 {
+    let _relations = block.relations();
     let names = header_of(alloc, database, block)?;
     let mut meter = Metered::new(database);
     let mut space = Space::new(alloc, block.width());
-    match run(
-        alloc, bouquet, block, &mut meter, &mut space, book, max_work,
-    ) {
+    match run_ladder(alloc, ladder, block, &mut meter, &mut space, book, max_work) {
         Ok(report) => Ok(print_answer(alloc, database, block, &names, &space.result, &report)?),
         Err(RunFault::WorkLimit { spent }) => Err(Stop::Refused(Refusal::PastWork {
             spent,
@@ -107,7 +108,7 @@ pub(crate) fn answer_with(
     ensures pays { PaysAtMost max_work book.old book.new }
 {
     let block = bouquet.block().put(alloc, values)?;
-    block_answer(alloc, max_work, database, bouquet, &block, book)
+    block_answer(alloc, max_work, database, Kept::new(bouquet), &block, book)
 }
 
 /// What a bouquet's block prints with these values in place of its parameters. It is refused where they don't fit.

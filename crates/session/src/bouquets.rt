@@ -7,12 +7,13 @@ ghost use Rattle.db_catalog.specs.Fits.{Fits};
 ghost use Rattle.bouquet_type.specs.Trees.{bouquet_tree};
 ghost use Rattle.bouquet_type.specs.Sound.{IsSound};
 ghost use Rattle.bouquet_file.specs.Limits.{max_parameters};
-ghost use Rattle.session.specs.Bouquets.{AreGridLevels, GivesDue, IsScriptQuery, block_due, compiled_due};
+ghost use Rattle.session.specs.Bouquets.{AreGridLevels, GivesDue, GivesSizes, IsScriptQuery, block_due, compiled_due};
 ghost use Rattle.session.specs.Counted.{HasCountsOf};
 
 use crate::stop::Stop;
 use bouquet_type::Bouquet;
 use contours::compile;
+use cost_model::Stats;
 use db_catalog::Database;
 use ess_grid::Grid;
 use query_block::Block;
@@ -31,8 +32,25 @@ pub(crate) fn block_of(alloc: Global, database: &Database, query: &Query) -> Res
     Ok(bind(alloc, database, query)?)
 }
 
+/// The grid of a block, by levels that an axis may have, and the counts of its tables. They are refused where the grid
+/// would have too many points, then where the tables have too many combinations of rows.
+pub(crate) fn sizes_of(
+    alloc: Global,
+    database: &Database,
+    block: &Block,
+    levels: Option<u64>,
+) -> Result<(Grid, Stats), Stop>
+    requires fits { Fits database.now (block_tree block.now) }
+    requires levels { AreGridLevels levels }
+    ensures { GivesSizes database.now (block_tree block.now) levels result }
+{
+    let grid = Grid::new(block.axes(), levels)?;
+    let stats = stats_of(alloc, database, block)?;
+    Ok((grid, stats))
+}
+
 /// The compiled bouquet of a block over the tables, by levels that an axis may have and a threshold in percent, at most 1000.
-/// It is refused where its grid would have too many points, then where its tables have too many combinations of rows.
+/// It is refused where `sizes_of` refuses its grid or its counts.
 pub(crate) fn compiled_of(
     alloc: Global,
     database: &Database,
@@ -50,7 +68,6 @@ pub(crate) fn compiled_of(
     ensures counts { IfOk result
         (λ bouquet. HasCountsOf database.now.tables (bouquet_tree bouquet)) }
 {
-    let grid = Grid::new(block.axes(), levels)?;
-    let stats = stats_of(alloc, database, &block)?;
+    let (grid, stats) = sizes_of(alloc, database, &block, levels)?;
     Ok(compile(alloc, block, stats, grid, threshold)?)
 }

@@ -1,5 +1,5 @@
-// SELECT: a query is bound before anything else is asked of it; it has no values, so none of its block's parameters may be left;
-// then it is compiled, and answered by a run of its bouquet.
+// SELECT: a query is bound before anything else is asked of it; it has no values, so none of its block's parameters may be
+// left; then its compiled bouquet is run, each contour of which is made when the run comes to it.
 ghost use Rattle.std.specs.Prelude.{◌+◌, ◌≤◌};
 ghost use Rattle.work_ledger.specs.Account.{max_account};
 ghost use Rattle.sql_parse.specs.Trees.{Select, query_tree};
@@ -7,11 +7,14 @@ ghost use Rattle.session.specs.Bouquets.{IsScriptQuery};
 ghost use Rattle.session.specs.Bounds.{Answers};
 ghost use Rattle.session.specs.States.{world_of};
 
-use crate::answers::answer_with;
-use crate::bouquets::{block_of, compiled_of};
+use crate::answers::block_answer;
+use crate::bouquets::{block_of, sizes_of};
 use crate::session::Session;
 use crate::stop::Stop;
 use bouquet_run::Book;
+use contours::Lazy;
+use cost_model::Costing;
+use plan_space::Outlook;
 use sql_parse::Query;
 use sql_values::DEFAULT_THRESHOLD;
 use std::alloc::Global;
@@ -32,8 +35,10 @@ impl Session {
     {
         let block = block_of(alloc, &self.database, query)?;
         block.fits_values(&[])?;
-        let threshold = DEFAULT_THRESHOLD as u32;
-        let bouquet = compiled_of(alloc, &self.database, block, None, threshold)?;
-        answer_with(alloc, max_work, &self.database, &bouquet, &[], book)
+        let (grid, stats) = sizes_of(alloc, &self.database, &block, None)?;
+        let costing = Costing::new(&block, &stats, &grid);
+        let outlook = Outlook::new(alloc, &costing)?;
+        let ladder = Lazy::new(&outlook, DEFAULT_THRESHOLD as u32);
+        block_answer(alloc, max_work, &self.database, ladder, &block, book)
     }
 }

@@ -1,27 +1,30 @@
--- The query has no block, or its block has a parameter, or it has no bouquet, or its bouquet answers.
-use Rattle.std.proofs.Common.{◌≡◌, ◌∙◌, [], Some, None, refl, ap}
-use Rattle.std.specs.Prelude.{Result, Ok, Err, OnOk}
+-- The query has no block, or its block has a parameter, or its size is refused, or its compiled bouquet answers.
+use Rattle.std.proofs.Common.{◌≡◌, ◌∙◌, [], Some, None, refl, ap, subst, sym}
+use Rattle.std.specs.Prelude.{All, Ok}
 use Rattle.std.proofs.lemmas.Result.{err_from_is_err_and}
 use Rattle.sql_parse.specs.Trees.{Select, query_tree}
 use Rattle.sql_values.specs.Limits.{default_threshold}
-use Rattle.query_block.specs.Blocks.{block_tree}
+use Rattle.query_block.specs.Shape.{BlockShape}
+use Rattle.query_block.specs.Blocks.{IsBlock, IsPutOf, block_tree}
 use Rattle.query_block.specs.Values.{value_fault}
+use Rattle.plan_tree.specs.Enumerated.{IsPlan}
+use Rattle.cost_model.specs.Costing.{costing_tree}
+use Rattle.exec_pipe.proofs.Joins.{on-ok}
+use Rattle.bouquet_type.specs.Compiled.{compiled}
 use Rattle.bouquet_type.specs.Sound.{IsSound}
-use Rattle.bouquet_type.specs.Trees.{bouquet_tree}
-use Rattle.session.specs.Bouquets.{answer_with, block_due, bouquet_due, bouquet_over, compiled_due, with_due}
-use Rattle.session.specs.Bounds.{RunsWithinBound}
-use Rattle.session.specs.Select.{selected}
+use Rattle.bouquet_type.specs.Trees.{BouquetTree}
+use Rattle.session.specs.Bouquets.{block_answer, block_due, bouquet_over, compiled_over, size_refusal}
+use Rattle.session.specs.Outcome.{Refuses}
+use Rattle.session.specs.Returns.{ReturnsDue}
+use Rattle.session.specs.Select.{select_outcome, selected}
 use Rattle.session.specs.States.{world_of}
 use Rattle.session.specs.World.{World}
-use Rattle.session.proofs.Beginning.{answers_unpaid}
+use Rattle.session.proofs.Beginning.{answers_unpaid, stops_so}
 use Rattle.session.proofs.Compiling.{stops}
 use Rattle.session.proofs.Misfits.{fits, misfits}
-use Rattle.session.proofs.Selecting.{fitting_due, misfit_due}
+use Rattle.session.proofs.Selecting.{fitting_due, misfit_due, on_block, own, within}
+use Rattle.session.proofs.Sizes.{costs}
 use Rattle.session.proofs.session.Session.select.Goals as goal
-
-both : {A E : Type 0} (result : Result A E) (P Q : Type 0) → P → OnOk result Q → OnOk result (P × Q)
-both (Ok a) P Q first second = (first, second)
-both (Err e) P Q first second = tt
 
 pub returns-in_err-block : goal.returns-in_err-block
 returns-in_err-block c =
@@ -42,30 +45,46 @@ returns-in_err-fits_values c =
     let stop = err_from_is_err_and c.from_residual-in_err-fits_values.result c.from_residual-in_err-fits_values.ensures.1 in
     rw (← c.self.view_is, stop.1, stop.2) (answers_unpaid c.args.max_work world (Select query) _ c.args.book.now (λ file. (misfit_due c.args.max_work world query block bound fault misfit, refl)))
 
-pub returns-in_err-bouquet : goal.returns-in_err-bouquet
-returns-in_err-bouquet c =
+pub returns-in_err-grid : goal.returns-in_err-grid
+returns-in_err-grid c =
     let world : World = world_of (record { database = c.self.inside.database; bouquets = c.self.inside.bouquets }) in
     let query = query_tree c.args.query.now in
     let block = block_tree c.in_ok-block.block in
     let bound : block_due world.database query ≡ Ok block = c.in_ok-block.ensures.due in
     let fit : value_fault block.parameters [] ≡ None = fits (value_fault block.parameters []) c.in_ok-fits_values.field-0 c.in_ok-fits_values.ensures in
-    let due = fitting_due c.args.max_work world query block bound fit in
-    let stop = err_from_is_err_and c.from_residual-in_err-bouquet.result c.from_residual-in_err-bouquet.ensures.1 in
+    let stop = err_from_is_err_and c.from_residual-in_err-grid.result c.from_residual-in_err-grid.ensures.1 in
     rw (← c.self.view_is, stop.1, stop.2) (answers_unpaid c.args.max_work world (Select query) _ c.args.book.now
-    (λ file. rw due (stops bouquet_tree (compiled_due world.database None default_threshold block) (answer_with c.args.max_work world []) _ c.in_err-bouquet.ensures.due)))
+    (λ file. stops_so (λ found. size_refusal world.database block None ≡ Some found) (λ found. select_outcome c.args.max_work world query ≡ Refuses found)
+    (λ found. fitting_due c.args.max_work world query block bound fit (Some found)) _ c.in_err-grid.ensures))
+
+pub block_answer-requires-clause-put : goal.block_answer-requires-clause-put
+block_answer-requires-clause-put c =
+    let database = c.self.inside.database in
+    let block = block_tree c.in_ok-block.block in
+    let is : IsBlock block = subst (λ (shape : BlockShape). IsBlock (block_tree shape)) c.block.view_is c.block.invariant in
+    let fit : value_fault block.parameters [] ≡ None = fits (value_fault block.parameters []) c.in_ok-fits_values.field-0 c.in_ok-fits_values.ensures in
+    let same = ap costing_tree (c.in_ok-outlook.ensures ∙ c.new-costing.ensures) ∙ costs database None block c.in_ok-grid.grid c.in_ok-grid.stats c.in_ok-grid.ensures in
+    let whole = c.new-ladder.ensures.whole ∙ ap (λ costing. compiled costing default_threshold) same in
+    subst (λ (bouquet : BouquetTree). IsPutOf bouquet.costing.block block) (sym whole) (own database block is fit)
 
 pub returns : goal.returns
 returns c =
     let world : World = world_of (record { database = c.self.inside.database; bouquets = c.self.inside.bouquets }) in
     let query = query_tree c.args.query.now in
     let block = block_tree c.in_ok-block.block in
-    let tree = bouquet_tree c.in_ok-bouquet.bouquet in
     let bound : block_due world.database query ≡ Ok block = c.in_ok-block.ensures.due in
+    let is : IsBlock block = subst (λ (shape : BlockShape). IsBlock (block_tree shape)) c.block.view_is c.block.invariant in
     let fit : value_fault block.parameters [] ≡ None = fits (value_fault block.parameters []) c.in_ok-fits_values.field-0 c.in_ok-fits_values.ensures in
-    let is : compiled_due world.database None default_threshold block ≡ Ok tree = c.in_ok-bouquet.ensures.due in
-    let compiled : bouquet_due world.database query None default_threshold ≡ Ok tree = ap (bouquet_over world.database None default_threshold) bound ∙ is in
+    let sizes = c.in_ok-grid.ensures in
+    let same = ap costing_tree (c.in_ok-outlook.ensures ∙ c.new-costing.ensures) ∙ costs world.database None block c.in_ok-grid.grid c.in_ok-grid.stats sizes in
+    let whole = c.new-ladder.ensures.whole ∙ ap (λ costing. compiled costing default_threshold) same in
+    let plans = subst (λ (bouquet : BouquetTree). All (λ contour. All (IsPlan bouquet.costing.block) contour.plans) bouquet.contours) whole c.new-ladder.ensures.foot.ladder.plans in
+    let sound = subst (λ costing. IsSound (compiled costing default_threshold)) same c.new-ladder.ensures.sound in
+    let due = fitting_due c.args.max_work world query block bound fit None sizes.unrefused ∙ on_block world.database block is fit c.args.max_work world in
+    let made = ap (bouquet_over world.database None default_threshold) bound ∙ ap (compiled_over world.database None default_threshold block) sizes.unrefused in
     rw (← c.self.view_is) (record {
-      due = λ file. rw (fitting_due c.args.max_work world query block bound fit ∙ ap (λ due. with_due due (answer_with c.args.max_work world [])) is) (c.answer_with.ensures.due world refl);
-      bounded = rw compiled (both c.answer_with.result (IsSound tree) (RunsWithinBound world.database [] tree) c.in_ok-bouquet.ensures.sound c.answer_with.ensures.bound);
-      pays = c.answer_with.ensures.pays;
+      due = λ file. rw due (subst (λ (bouquet : BouquetTree). ReturnsDue (block_answer c.args.max_work world bouquet block) c.block_answer.result world c.args.book.now c.block_answer.new.book)
+          whole (c.block_answer.ensures.due world refl));
+      bounded = rw made (on-ok c.block_answer.result (sound, within world.database block is fit plans sound));
+      pays = c.block_answer.ensures.pays;
     })
