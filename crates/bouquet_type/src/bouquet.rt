@@ -22,7 +22,7 @@ pub(crate) fn budget_on(threshold: u32, cost: u128) -> u128
 }
 
 /// A few plans of a block on each of its contours: with the counts, the grid and the threshold by which they were chosen.
-#[derive(Debug, Drop)]
+#[derive(Drop)]
 pub struct Bouquet {
     block: Block,
     stats: Stats,

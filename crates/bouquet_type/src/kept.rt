@@ -13,7 +13,7 @@ use std::alloc::{AllocError, Global};
 use std::marker::Model;
 
 /// The contours of a bouquet, which holds them all. Climbing takes no memory.
-#[derive(Debug, Drop)]
+#[derive(Drop)]
 pub struct Kept<'b> {
     bouquet: &'b Bouquet,
     // The contours behind the one at hand.

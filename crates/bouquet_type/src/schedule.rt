@@ -28,7 +28,7 @@ pub struct Attempt<'b> {
 
 /// The executions of a bouquet: the plans of the first contour in order, each under the contour's budget, then those of the
 /// next one; last the last plan of the last contour, without a budget. A budget is worked out once a contour.
-#[derive(Debug, Drop)]
+#[derive(Drop)]
 pub struct Schedule<L> {
     ladder: L,
     // Of the contour at hand how many plans were given, the budget, and the number, from 1; 0 at the foot. No budget where the

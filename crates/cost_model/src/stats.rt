@@ -2,14 +2,14 @@
 use sql_values::Sequence;
 
 /// What is counted of the tables of a block.
-#[derive(Debug, Drop)]
+#[derive(Drop)]
 pub struct Stats {
     /// One for each relation of the block, in FROM order.
     pub relations: Sequence<RelationStats>,
 }
 
 /// What is counted of a relation's table.
-#[derive(Debug, Drop)]
+#[derive(Drop)]
 pub struct RelationStats {
     /// The rows of the table.
     pub rows: u64,
@@ -22,7 +22,7 @@ pub struct RelationStats {
 }
 
 /// What is counted of an indexed column.
-#[derive(Clone, Copy, Debug)]
+#[derive(Clone, Copy)]
 pub struct IndexStats {
     /// The column's number in its table, from 0.
     pub column: u8,
