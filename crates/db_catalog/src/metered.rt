@@ -104,6 +104,14 @@ impl<'d> Metered<'d> {
         self.database.pages(table)
     }
 
+    /// How many levels the index of a column has.
+    pub fn height(&self, table: u32, column: u8) -> u32
+        requires { Contains (table_at self.now.database table).indexed column }
+        ensures { result ≡ index_height self.now.database table column }
+    {
+        self.database.height(table, column)
+    }
+
     /// How many rows stand on page `no` of a table, from 0.
     pub fn rows_on_page(&self, table: u32, no: u64) -> usize
         requires { no < table_pages self.now.database table }
