@@ -163,7 +163,7 @@ all-of total optimal work most threshold a b spent near =
 
 pub bound : (bouquet : BouquetTree) (work : PlanTree → ℕ)
     → All (λ contour. All (IsPlan bouquet.costing.block) contour.plans) bouquet.contours → MeetsBound bouquet work (total_work bouquet work)
-bound bouquet work plans = λ point a b p sound is_point premise plan.
+bound bouquet work plans = λ sound point a b p is_point premise plan.
     let costing = bouquet.costing in
     let optimal = optimal_cost costing point in
     let most = most_plans bouquet.contours in

@@ -1,6 +1,7 @@
 pub mod Most
 pub mod Ends
 pub mod Bound
+pub mod FitsBelow
 pub mod Meets
 pub mod OneCompiled
 pub mod Climbing
