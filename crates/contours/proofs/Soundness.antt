@@ -1,35 +1,23 @@
 -- Compiled bouquets are sound.
-use Rattle.std.proofs.Common.{◌≡◌, ◌∙◌, ℕ, ◌+◌, ◌-◌, ◌*◌, ◌≤◌, List, Contains, length, get_or, true, ap, sym, subst, arith}
+use Rattle.std.proofs.Common.{◌≡◌, ◌∙◌, ℕ, ◌+◌, ◌-◌, ◌*◌, ◌≤◌, List, Contains, length, get_or, ap, sym, subst, arith}
 use Rattle.std.proofs.Math.Nat.{mul-le-mul_left}
-use Rattle.std.proofs.lemmas.List.Elements.{filter_passes, All-contains}
-use Rattle.ess_grid.specs.Points.{IsPoint, points_of}
+use Rattle.ess_grid.specs.Points.{IsPoint}
 use Rattle.plan_tree.specs.Plans.{PlanTree}
 use Rattle.plan_tree.specs.Enumerated.{IsPlan}
 use Rattle.cost_model.specs.Costing.{CostingTree, IsCosting}
 use Rattle.cost_model.specs.Costs.{cost_of}
 use Rattle.cost_model.specs.Optimal.{optimal_cost}
-use Rattle.cost_model.specs.Frontier.{is_on_frontier, frontier}
+use Rattle.cost_model.specs.Frontier.{frontier}
 use Rattle.cost_model.specs.Greedy.{greedy, CoversAt}
-use Rattle.cost_model.proofs.Monotone.{cost-le}
-use Rattle.cost_model.proofs.Frontiers.{frontier-above}
 use Rattle.cost_model.proofs.Covers.{greedy-covers}
 use Rattle.bouquet_type.specs.Trees.{ContourTree, BouquetTree}
 use Rattle.bouquet_type.specs.Budgets.{budget_of, contour_cost}
 use Rattle.bouquet_type.specs.Compiled.{IsCompiled, compiled}
 use Rattle.bouquet_type.specs.Sound.{FitsAt, IsSound}
+use Rattle.bouquet_type.proofs.FitsBelow.{fits-below, frontier-within}
 use Rattle.contours.proofs.SomePlan.{some-plan}
 use Rattle.contours.proofs.Count.{compiled-is}
 use Rattle.contours.proofs.Doubling.{first-numbered, doubled-numbered, last-numbered}
-
--- at a point of the frontier the optimal cost is within the contour's
-within-passes : (costing : CostingTree) (cost : ℕ) (point : List ℕ) → is_on_frontier costing cost point ≡ true → optimal_cost costing point ≤ cost
-within-passes costing cost point passes = grind (arith, passes)
-
-frontier-within : (costing : CostingTree) (cost : ℕ) (point : List ℕ) → Contains (frontier costing cost) point → optimal_cost costing point ≤ cost
-unfolding frontier
-frontier-within costing cost point is =
-    let on = filter_passes (is_on_frontier costing cost) (points_of costing.grid) in
-    within-passes costing cost point (All-contains (λ other. is_on_frontier costing cost other ≡ true) (frontier costing cost) point on is)
 
 covered-within : (costing : CostingTree) (threshold cost : ℕ) (p : PlanTree) (other : List ℕ) → CoversAt costing threshold p other → optimal_cost costing other ≤ cost
     → cost_of costing p other ≤ budget_of threshold cost
@@ -42,14 +30,14 @@ covered-within costing threshold cost p other covers within =
 fits-at : (costing : CostingTree) (threshold : ℕ) (plan : PlanTree) (point : List ℕ) (contour : ContourTree) → IsCosting costing → IsPlan costing.block plan
     → IsPoint costing.grid point → contour.plans ≡ greedy costing threshold (frontier costing contour.cost) → optimal_cost costing point ≤ contour.cost
     → FitsAt costing threshold point contour
-fits-at costing threshold plan point contour is is_plan is_point plans within =
-    let other = frontier-above costing contour.cost point is.grid is_point within in
-    let taken = greedy-covers costing plan threshold (frontier costing contour.cost) other.0 is_plan other.1 in
-    let cost = cost-le costing taken.0 point other.0 other.2 in
-    let fits = covered-within costing threshold contour.cost taken.0 other.0 taken.2 (frontier-within costing contour.cost other.0 other.1) in (
+fits-at costing threshold plan point contour is is_plan is_point plans =
+    fits-below costing threshold point contour is.grid is_point (
+    λ other on.
+    let taken = greedy-covers costing plan threshold (frontier costing contour.cost) other is_plan on in (
       taken.0,
       subst (λ all. Contains all taken.0) (sym plans) taken.1,
-      omega (arith, cost, fits),
+      covered-within costing threshold contour.cost taken.0 other taken.2 (frontier-within costing contour.cost other on),
+    )
     )
 
 pub are-sound : (bouquet : BouquetTree) → IsCosting bouquet.costing → IsCompiled bouquet → IsSound bouquet
