@@ -1,6 +1,7 @@
 -- What is written by the grammar, what is read and what is printed are the same: each production's part of that, in a file
 -- of its name, and the whole.
 pub mod Audit
+pub mod Check
 pub mod Compile
 pub mod CreateIndex
 pub mod CreateTable
@@ -35,6 +36,7 @@ use Rattle.sql_parse.proofs.SoundForms.{IsWritable, select-writable}
 use Rattle.sql_parse.proofs.Operands.{Holds, terms_of_condition, select-held}
 use Rattle.sql_parse.proofs.WellFormedQueries.{AreNumbered, query-well_formed}
 use Rattle.sql_parse.proofs.Statements.Audit.{audit-reads, audit-again, audit-printed, audit-writable, audit-held}
+use Rattle.sql_parse.proofs.Statements.Check.{check-reads, check-again, check-printed, check-writable, check-held}
 use Rattle.sql_parse.proofs.Statements.Compile.{compile-reads, compile-again, compile-printed, compile-writable, compile-held, compile-well_formed}
 use Rattle.sql_parse.proofs.Statements.CreateIndex.{create_index-reads, create_index-again, create_index-printed, create_index-writable, create_index-held}
 use Rattle.sql_parse.proofs.Statements.CreateTable.{create_table-reads, create_table-again, create_table-printed, create_table-writable, create_table-held, create_table-some}
@@ -77,6 +79,7 @@ each-read =
     & save_file-reads
     & open_file-reads
     & audit-reads
+    & check-reads
     & tt
 
 after_keyword : (word : List ℕ) (tokens rest : List Lexeme) (read : Option (StatementTree × List Lexeme)) → tokens ≡ Word word ∷ rest
@@ -127,6 +130,7 @@ statement-again tokens (tree.Explain name) form = explain-again tokens name form
 statement-again tokens (tree.SaveFile save) form = save_file-again tokens save form
 statement-again tokens (tree.OpenFile name file query) form = open_file-again name file query tokens form
 statement-again tokens (tree.Audit audit) form = audit-again tokens audit form
+statement-again tokens (tree.Check name) form = check-again tokens name form
 
 -- the statement of the tokens is the one that reading gives
 pub statement_of-again : (tokens : List Lexeme) (statement : StatementTree) → IsStatement tokens statement → statement_of tokens ≡ Some statement
@@ -149,6 +153,7 @@ statement-printed tokens (tree.Explain name) form = explain-printed tokens name 
 statement-printed tokens (tree.SaveFile save) form = save_file-printed tokens save form
 statement-printed tokens (tree.OpenFile name file query) form = open_file-printed name file tokens query form
 statement-printed tokens (tree.Audit audit) form = audit-printed tokens audit form
+statement-printed tokens (tree.Check name) form = check-printed tokens name form
 
 pub statement-writable : IsWritable IsStatement statement_parts
 statement-writable tokens (tree.CreateTable table) sound form = create_table-writable tokens table sound form
@@ -161,6 +166,7 @@ statement-writable tokens (tree.Explain name) sound form = explain-writable toke
 statement-writable tokens (tree.SaveFile save) sound form = save_file-writable tokens save sound form
 statement-writable tokens (tree.OpenFile name file query) sound form = open_file-writable name file tokens query sound form
 statement-writable tokens (tree.Audit audit) sound form = audit-writable tokens audit sound form
+statement-writable tokens (tree.Check name) sound form = check-writable tokens name sound form
 
 -- the operands of a statement
 abbrev pub terms_of : StatementTree → List Term
@@ -177,6 +183,7 @@ statement-held tokens (tree.Explain name) form = explain-held tokens name form
 statement-held tokens (tree.SaveFile save) form = save_file-held tokens save form
 statement-held tokens (tree.OpenFile name file query) form = open_file-held name file tokens query form
 statement-held tokens (tree.Audit audit) form = audit-held tokens audit form
+statement-held tokens (tree.Check name) form = check-held tokens name form
 
 -- a statement has the parts that the layers above rely on
 pub statement-well_formed : (tokens : List Lexeme) (statement : StatementTree) → EachSound tokens → AreNumbered (condition_of statement) → IsStatement tokens statement

@@ -1,6 +1,7 @@
 -- The statements of the language. Each has a production, in a file of its name: which tokens are written for it, how it
 -- is read, and how it is printed. Here they are put together.
 pub mod Audit
+pub mod Check
 pub mod Compile
 pub mod CreateIndex
 pub mod CreateTable
@@ -20,6 +21,7 @@ use Rattle.sql_parse.specs.Grammar.{Rule, IsSelect}
 use Rattle.sql_parse.specs.Reading.{after_word, Reader, ◌>>=◌, choose, after_mark, select_at}
 use Rattle.sql_parse.specs.Canonical.{Part, query_parts, parts_text}
 use Rattle.sql_parse.specs.Statements.Audit.{IsAudit, audit_at, audit_parts}
+use Rattle.sql_parse.specs.Statements.Check.{IsCheck, check_at, check_parts}
 use Rattle.sql_parse.specs.Statements.Compile.{IsCompile, compile_at, compile_parts}
 use Rattle.sql_parse.specs.Statements.CreateIndex.{IsCreateIndex, create_index_at, create_index_parts}
 use Rattle.sql_parse.specs.Statements.CreateTable.{IsCreateTable, create_table_at, create_table_parts}
@@ -41,6 +43,7 @@ IsStatement tokens (tree.Explain name) = IsExplain tokens name
 IsStatement tokens (tree.SaveFile save) = IsSaveFile tokens save
 IsStatement tokens (tree.OpenFile name file query) = IsOpenFile name file tokens query
 IsStatement tokens (tree.Audit audit) = IsAudit tokens audit
+IsStatement tokens (tree.Check name) = IsCheck tokens name
 
 unfoldable pub create_at : Reader StatementTree
 create_at tokens =
@@ -61,6 +64,7 @@ productions =
     ∷ (codes "SAVE", save_file_at)
     ∷ (codes "OPEN", open_file_at)
     ∷ (codes "AUDIT", audit_at)
+    ∷ (codes "CHECK", check_at)
     ∷ []
 
 -- the statement of the first keyword that stands here, or a query
@@ -91,6 +95,7 @@ statement_parts (tree.Explain name) = explain_parts name
 statement_parts (tree.SaveFile save) = save_file_parts save
 statement_parts (tree.OpenFile name file query) = open_file_parts name file query
 statement_parts (tree.Audit audit) = audit_parts audit
+statement_parts (tree.Check name) = check_parts name
 
 -- the canonical text of a statement
 abbrev pub canonical : StatementTree → List ℕ

@@ -8,6 +8,7 @@ ghost use Rattle.sql_parse.specs.Printing.{PutsParts};
 ghost use Rattle.sql_parse.specs.Statements.{create_at, statement_at, statement_of, statement_parts};
 
 mod audit;
+mod check;
 mod compile;
 mod create_index;
 mod create_table;
@@ -28,6 +29,7 @@ use crate::tree::{
 };
 use crate::writer::Writer;
 use audit::{audit, print_audit};
+use check::{check, print_check};
 use compile::{compile, print_compile};
 use create_index::{create_index, print_create_index};
 use create_table::{create_table, print_create_table};
@@ -52,6 +54,8 @@ pub enum Statement {
     SaveFile(FileDef),
     OpenFile(OpenDef),
     Audit(AuditDef),
+    /// CHECK of a bouquet.
+    Check(Name),
 }
 
 // From the word after CREATE on.
@@ -95,6 +99,9 @@ fn first_statement<'s>(alloc: Global, piece: Piece<'s>) -> Result<(Statement, Pi
     if let Some(after) = piece.after_word(b"AUDIT") {
         return audit(alloc, after);
     }
+    if let Some(after) = piece.after_word(b"CHECK") {
+        return check(alloc, after);
+    }
     let (query, rest) = select(alloc, piece)?;
     Ok((Statement::Select(query), rest))
 }
@@ -134,5 +141,6 @@ pub(crate) fn print_statement(writer: &mut Writer, statement: &Statement) -> Res
         Statement::SaveFile(save) => print_save_file(writer, save),
         Statement::OpenFile(opened) => print_open_file(writer, opened),
         Statement::Audit(audit) => print_audit(writer, audit),
+        Statement::Check(name) => print_check(writer, name),
     }
 }
