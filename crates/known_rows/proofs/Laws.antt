@@ -1,0 +1,130 @@
+-- What is known stays so as more is learned, and no plan works less than the least.
+use Rattle.std.proofs.Common.{◌≡◌, ℕ, ◌*◌, ◌^◌, ◌<◌, ◌≤◌, Bool, true, false, List, [], ◌∷◌, zero, suc, cond, length, count_by, refl, sym, subst, ◌∙◌, arith}
+use Rattle.std.specs.Prelude.{max, replicate}
+use Rattle.std.proofs.lemmas.List.Sums.{sum_by-cons}
+use Rattle.std.proofs.lemmas.Nat.{mul-le}
+use Rattle.sql_values.specs.Stored.{StoredTable, ValueRow}
+use Rattle.query_block.specs.Conditions.{FilterTree}
+use Rattle.query_block.specs.Blocks.{BlockTree, IsBlock, relation_at}
+use Rattle.query_block.specs.Meaning.{meets_filter, rows_of}
+use Rattle.plan_tree.specs.Plans.{PlanTree, Scan, IndexScan, Nest, Hash, Merge, IndexLoop, covers_of, has_leaf}
+use Rattle.plan_tree.specs.Enumerated.{AreApart, Crosses, column_on, edge_at, IsSubPlan}
+use Rattle.plan_tree.specs.Work.{bits, candidates, height_in, out_of, table_rows, work_of}
+use Rattle.plan_tree.proofs.Digits.{bits-le}
+use Rattle.plan_tree.proofs.LeafSets.{set-of-plan}
+use Rattle.exec_join.proofs.Sets.{leaf-apart}
+use Rattle.known_rows.specs.Known.{AreKnown, known_of, nothing_known}
+use Rattle.known_rows.specs.LeastWork.{are_joined, kept_at_least, least_of_leaf, least_of_pairs, least_rows, least_work}
+use Rattle.known_rows.proofs.Outs.{candidates-loop, out-candidates, out-leaf, out-matches, out-product}
+
+-- ---- learning
+
+none-known : (n set : ℕ) → known_of (replicate n 0) set ≡ 0
+none-known zero set = refl
+none-known (suc n) zero = refl
+none-known (suc n) (suc set) = none-known n set
+
+pub nothing-known : (tables : List StoredTable) (block : BlockTree) → AreKnown tables block nothing_known
+nothing-known tables block set = omega (arith, none-known 64 set)
+
+-- ---- rows
+
+module _ (tables : List StoredTable) (block : BlockTree) (known : List ℕ) (is : IsBlock block) (are : AreKnown tables block known) where
+  -- a plan gives no fewer rows than are known of its set
+  known-le : (p : PlanTree) → known_of known (covers_of p) ≤ out_of tables block p
+  known-le p = subst (λ set. known_of known (covers_of p) ≤ length (rows_of tables block set)) (set-of-plan p) (are (covers_of p))
+
+  every : (rows : List ValueRow) → length rows ≤ count_by (meets_filter []) rows
+  every [] = omega arith
+  every (row ∷ rows) = omega (arith, sum_by-cons (λ (r : ValueRow). 1) row rows, every rows)
+
+  kept-le : (filter : List FilterTree) (rows : List ValueRow) (least : ℕ) → least ≤ count_by (meets_filter filter) rows → kept_at_least filter (length rows) least ≤ count_by (meets_filter filter) rows
+  kept-le [] rows least some = every rows
+  kept-le (conjunct ∷ conjuncts) rows least some = some
+
+  leaf-le : (relation : ℕ) → relation < length block.relations → least_of_leaf tables block known relation ≤ out_of tables block (Scan relation)
+  leaf-le relation there =
+      let own = relation_at block.relations relation in
+      let out = out-leaf tables block is relation there in
+      let some : known_of known (2 ^ relation) ≤ count_by (meets_filter own.filter) (table_rows tables own) = omega (arith, out, known-le (Scan relation)) in
+      omega (arith, out, kept-le own.filter (table_rows tables own) (known_of known (2 ^ relation)) some)
+
+  -- each row of one side goes with each of the other, where no edge joins them
+  pairs-le : (left right : PlanTree) (l r : ℕ) → AreApart left right → l ≤ out_of tables block left → r ≤ out_of tables block right
+      → least_of_pairs block.edges left right (known_of known (covers_of (Nest left right))) l r ≤ out_of tables block (Nest left right)
+  pairs-le left right l r apart few few' = by (are_joined block.edges (has_leaf left) (has_leaf right)) refl
+    where
+      least : ℕ
+      least = known_of known (covers_of (Nest left right))
+
+      by : (joined : Bool) → are_joined block.edges (has_leaf left) (has_leaf right) ≡ joined → cond joined least (max least (l * r)) ≤ out_of tables block (Nest left right)
+      by true is = known-le (Nest left right)
+      by false none =
+          omega (arith, known-le (Nest left right), out-product tables block left right apart none, mul-le l r (out_of tables block left) (out_of tables block right) few few')
+
+  pub rows-le : (p : PlanTree) → IsSubPlan block p → least_rows tables block known p ≤ out_of tables block p
+  rows-le (Scan relation) plan = leaf-le relation plan
+  rows-le (IndexScan relation column) plan = leaf-le relation plan.exists
+  rows-le (Nest left right) plan =
+      pairs-le left right (least_rows tables block known left) (least_rows tables block known right) plan.2 (rows-le left plan.0) (rows-le right plan.1)
+  rows-le (Hash edge left right) plan = known-le (Hash edge left right)
+  rows-le (Merge edge left right) plan = known-le (Merge edge left right)
+  rows-le (IndexLoop edge left relation) plan = known-le (IndexLoop edge left relation)
+
+  -- ---- work
+
+  sort-le : (n m : ℕ) → n ≤ m → n * bits n ≤ m * bits m
+  sort-le n m le = mul-le n (bits n) m (bits m) le (bits-le n m le)
+
+  of-join : (edge : ℕ) (left right : PlanTree) → AreApart left right → Crosses block.edges edge left right → out_of tables block (Nest left right) ≤ candidates tables block edge left right
+  of-join edge left right apart crosses = out-candidates tables block left right apart edge crosses
+
+  pub least-le : (p : PlanTree) → IsSubPlan block p → least_work tables block known p ≤ work_of tables block p
+  least-le (Scan relation) plan = omega (arith, rows-le (Scan relation) plan)
+  least-le (IndexScan relation column) plan =
+      omega (arith, rows-le (IndexScan relation column) plan, out-matches tables block is relation plan.exists column plan.usable)
+  least-le (Nest left right) plan =
+      let l = rows-le left plan.0 in
+      let r = rows-le right plan.1 in
+      omega (arith, least-le left plan.0, least-le right plan.1, r, mul-le _ _ _ _ l r, rows-le (Nest left right) plan)
+  least-le (Hash edge left right) plan =
+      omega (
+        arith,
+        least-le left plan.0,
+        least-le right plan.1,
+        rows-le left plan.0,
+        rows-le right plan.1,
+        known-le (Hash edge left right),
+        of-join edge left right plan.2 plan.3,
+      )
+  least-le (Merge edge left right) plan =
+      let l = rows-le left plan.0 in
+      let r = rows-le right plan.1 in
+      omega (
+        arith,
+        least-le left plan.0,
+        least-le right plan.1,
+        l,
+        r,
+        sort-le _ _ l,
+        sort-le _ _ r,
+        known-le (Merge edge left right),
+        of-join edge left right plan.2 plan.3,
+      )
+  least-le (IndexLoop edge left relation) plan =
+      let l = rows-le left plan.0 in
+      let look = plan.1 in
+      let levels = 2 * height_in tables (relation_at block.relations relation) (column_on (edge_at block.edges edge) relation) in
+      let descents : levels * least_rows tables block known left ≤ levels * out_of tables block left = mul-le _ _ _ _ (omega arith) l in
+      omega (
+        arith,
+        least-le left plan.0,
+        l,
+        descents,
+        known-le (IndexLoop edge left relation),
+        of-join edge left (Scan relation) (leaf-apart left relation look.apart) look.crosses,
+        candidates-loop tables block is relation look.exists edge left look.crosses,
+      )
+
+pub work-le : (tables : List StoredTable) (block : BlockTree) (known : List ℕ) (p : PlanTree) → IsBlock block → IsSubPlan block p → AreKnown tables block known → least_work tables block known p ≤ work_of tables block p
+work-le tables block known p is plan are = least-le tables block known is are p plan

@@ -1,0 +1,57 @@
+-- The least rows and the least work of a plan, by numbers that are capped of its sides.
+use Rattle.std.proofs.Common.{◌≡◌, ℕ, ◌^◌, ◌<◌, List, ap, sym, ◌∙◌}
+use Rattle.sql_values.specs.Stored.{StoredTable}
+use Rattle.query_block.specs.Blocks.{BlockTree, relation_at}
+use Rattle.plan_tree.specs.Plans.{PlanTree, IndexScan, Nest, IndexLoop, covers_of}
+use Rattle.plan_tree.specs.Enumerated.{column_on, edge_at}
+use Rattle.plan_tree.specs.Work.{height_in, nest_work, index_loop_work}
+use Rattle.known_rows.specs.Capped.{capped}
+use Rattle.known_rows.specs.Known.{known_of}
+use Rattle.known_rows.specs.LeastWork.{least_index_scan, least_of_pairs, least_own, least_rows}
+use Rattle.known_rows.proofs.Capped.{index_loop-capped, index_scan-capped, nest-capped, pairs-capped}
+
+module _ (tables : List StoredTable) (block : BlockTree) (known : List ℕ) where
+  abbrev Rows : PlanTree → ℕ → Type 0
+  Rows p n = n ≡ capped (least_rows tables block known p)
+
+  pub nest-rows : (p left right : PlanTree) (k l r : ℕ) → p ≡ Nest left right → k ≡ known_of known (covers_of p) → k < 2 ^ 64 → Rows left l → Rows right r
+      → capped (least_of_pairs block.edges left right k l r) ≡ capped (least_rows tables block known p)
+  nest-rows p left right k l r is some small few few' =
+      (λ i. capped (least_of_pairs block.edges left right k (few i) (few' i)))
+      ∙ pairs-capped block.edges left right k (least_rows tables block known left) (least_rows tables block known right) small
+      ∙ (λ i. capped (least_of_pairs block.edges left right ((some ∙ ap (λ q. known_of known (covers_of q)) is) i) (least_rows tables block known left) (least_rows tables block known right)))
+      ∙ ap (λ q. capped (least_rows tables block known q)) (sym is)
+
+  -- ---- the node by itself
+
+  pub own-index_scan : (p : PlanTree) (relation column height out : ℕ) → p ≡ IndexScan relation column → height ≡ height_in tables (relation_at block.relations relation) column → Rows p out
+      → capped (least_index_scan height out) ≡ capped (least_own tables block known p)
+  own-index_scan p relation column height out is levels few =
+      (λ i. capped (least_index_scan (levels i) ((few ∙ ap (λ q. capped (least_rows tables block known q)) is) i)))
+      ∙ index_scan-capped (height_in tables (relation_at block.relations relation) column) (least_rows tables block known (IndexScan relation column))
+      ∙ ap (λ q. capped (least_own tables block known q)) (sym is)
+
+  module _ (p left right : PlanTree) (l r out : ℕ) (few : Rows left l) (few' : Rows right r) (some : Rows p out) where
+    abbrev L : ℕ
+    L = least_rows tables block known left
+
+    abbrev R : ℕ
+    R = least_rows tables block known right
+
+    abbrev O : PlanTree → ℕ
+    O q = least_rows tables block known q
+
+    pub own-nest : p ≡ Nest left right → capped (nest_work l r out) ≡ capped (least_own tables block known p)
+    own-nest is =
+        (λ i. capped (nest_work (few i) (few' i) (some i))) ∙ nest-capped L R (O p) ∙ (λ i. capped (nest_work L R (O (is i))))
+        ∙ ap (λ q. capped (least_own tables block known q)) (sym is)
+
+  pub own-index_loop : (p left : PlanTree) (edge relation height l out : ℕ) → Rows left l → Rows p out → p ≡ IndexLoop edge left relation
+      → height ≡ height_in tables (relation_at block.relations relation) (column_on (edge_at block.edges edge) relation)
+      → capped (index_loop_work height l out out) ≡ capped (least_own tables block known p)
+  own-index_loop p left edge relation height l out few some is levels =
+      let tall = height_in tables (relation_at block.relations relation) (column_on (edge_at block.edges edge) relation) in
+      let rows = λ (q : PlanTree). least_rows tables block known q in
+      (λ i. capped (index_loop_work (levels i) (few i) (some i) (some i))) ∙ index_loop-capped tall (rows left) (rows p)
+      ∙ (λ i. capped (index_loop_work tall (rows left) (rows (is i)) (rows (is i))))
+      ∙ ap (λ q. capped (least_own tables block known q)) (sym is)
