@@ -19,6 +19,7 @@ use bouquet_type::Bouquet;
 use db_catalog::{Database, Metered};
 use ess_grid::Point;
 use exec_pipe::{RunStop, run_within};
+use known_rows::KnownRows;
 use plan_tree::{AllFault, Plan, all_plans};
 use query_block::Block;
 use row_stack::Space;
@@ -45,7 +46,8 @@ fn measured(
         (plan_tree plan.now) max_work meter.old meter.new space.new result }
 {
     let before = meter.spent();
-    match run_within(alloc, block, plan, meter, space, None, max_work) {
+    let mut known = KnownRows::new();
+    match run_within(alloc, block, plan, meter, space, &mut known, None, max_work) {
         Ok(_) => {
             space.result.release(0);
             let cost = b.costing().cost(plan, point);

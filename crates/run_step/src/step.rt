@@ -2,6 +2,7 @@
 ghost use Rattle.std.specs.Prelude.{◌≡◌, ◌≤◌};
 ghost use Rattle.query_block.specs.Blocks.{block_tree};
 ghost use Rattle.plan_tree.specs.Plans.{plan_tree};
+ghost use Rattle.exec_pipe.specs.Counting.{Knows};
 ghost use Rattle.exec_pipe.specs.Runs.{OnlyRuns, OnlyRunsWithin};
 ghost use Rattle.exec_pipe.specs.Scenes.{MayRun};
 ghost use Rattle.exec_pipe.specs.Starting.{plan_work};
@@ -11,6 +12,7 @@ ghost use Rattle.run_step.specs.Coming.{TellsEnd, TellsStep, coming};
 use bouquet_type::{Attempt, Report, RunFault};
 use db_catalog::Metered;
 use exec_pipe::{Outcome, RunStop, run_within};
+use known_rows::KnownRows;
 use plan_tree::copy;
 use query_block::Block;
 use row_stack::Space;
@@ -67,15 +69,18 @@ pub fn execute(
     runs: u32,
     meter: &mut Metered<'_>,
     space: &mut Space,
+    known: &mut KnownRows,
     max_work: u64,
 ) -> Result<Option<Report>, RunFault>
     requires runs { MayRun meter.old block.now attempt.plan.now space.old }
+    requires known { Knows meter.old block.now known.old }
     requires left { meter.old.account.spent ≤ max_work }
     ensures tells { TellsStep meter.old.database (block_tree block.now) max_work
         (coming max_work meter.old.account.spent runs
         (plan_work meter.old block.now attempt.entry.plan.now) (attempt_tree attempt.entry))
         meter.new.account.spent space.new.result.rows result }
     ensures leaves { OnlyRunsWithin max_work meter.old meter.new space.old space.new }
+    ensures known { Knows meter.old block.now known.new }
 {
     match run_within(
         alloc,
@@ -83,6 +88,7 @@ pub fn execute(
         attempt.plan,
         meter,
         space,
+        known,
         attempt.budget,
         max_work,
     ) {
