@@ -74,11 +74,7 @@ fn are_joined(block: &Block, left: &Plan, right: &Plan) -> bool
     ensures { result ≡ are_joined block.now.edges (has_leaf (plan_tree left.now))
         (has_leaf (plan_tree right.now)) }
 {
-    are_sets_joined(
-        block,
-        relations_of(block, left),
-        relations_of(block, right),
-    )
+    are_sets_joined(block, relations_of(block, left), relations_of(block, right))
 }
 
 // How many rows two sides have together, at the least, of which so many are known.
