@@ -9,3 +9,6 @@ pub mod Rows
 pub mod ByPlaces
 pub mod Beyond
 pub mod FrontierPoints
+pub mod PartNumbers
+pub mod PartCosts
+pub mod Added

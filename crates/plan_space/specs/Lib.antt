@@ -4,3 +4,7 @@ pub mod Steps
 pub mod Alike
 pub mod Outlook
 pub mod Places
+pub mod CostedPlans
+-- what only proofs need
+pub mod Parts
+pub mod PlanCodes

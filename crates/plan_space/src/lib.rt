@@ -7,15 +7,20 @@
 
 mod alike;
 mod all_points;
+mod costed_plans;
 mod entry;
 mod joins;
 mod leaves;
+mod node;
 mod outlook;
+mod part_costs;
+mod parts;
 mod search;
 mod sets;
 mod steps;
 mod table;
 
 pub use all_points::{BestPlans, best_at_all_points};
+pub use costed_plans::CostedPlans;
 pub use outlook::Outlook;
 pub use search::best;
