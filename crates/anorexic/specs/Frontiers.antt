@@ -1,6 +1,7 @@
 -- The plans of a frontier, by their places.
 use Rattle.std.specs.Prelude.{ℕ, All, List, [], map, slice_index_or}
-use Rattle.plan_tree.specs.Plans.{PlanTree, Scan, plan_tree, FitsSet}
+use Rattle.plan_tree.specs.Plans.{PlanTree, plan_tree, FitsSet}
+use Rattle.plan_space.specs.Parts.{nth_plan}
 use Rattle.cost_model.specs.declared.frontier_point.FrontierPoint.{FrontierPoint}
 use Rattle.cost_model.specs.FrontierPoints.{frontier_points}
 
@@ -10,7 +11,7 @@ frontier_plans frontier = map (λ at. plan_tree at.plan) frontier
 
 -- the plan at this place, from 0
 abbrev pub plan_at : List FrontierPoint → (place : ℕ) → PlanTree
-plan_at frontier place = slice_index_or (frontier_plans frontier) place (Scan 0)
+plan_at frontier place = nth_plan (frontier_plans frontier) place
 
 -- the relations of each plan have a bit of the eight
 abbrev pub FrontierPlansFit : List FrontierPoint → Type 0

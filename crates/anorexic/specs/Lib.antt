@@ -1,5 +1,4 @@
 pub mod Frontiers
 -- what only proofs need
-pub mod Nodes
 pub mod Gathered
 pub mod Turns

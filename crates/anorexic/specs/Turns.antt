@@ -5,11 +5,18 @@ use Rattle.std.specs.Ordering.{nat_cmp, ordering_then}
 use Rattle.std.specs.declared.cmp.Ordering.{Ordering}
 use Rattle.plan_tree.specs.Plans.{PlanTree}
 use Rattle.plan_tree.specs.Order.{plan_order_of}
-use Rattle.cost_model.specs.Costing.{CostingTree}
+use Rattle.cost_model.specs.Costing.{CostingTree, costing_tree}
+use Rattle.cost_model.specs.Costs.{cost_of}
 use Rattle.cost_model.specs.Greedy.{covers_at, greedy_turns}
 use Rattle.cost_model.specs.declared.frontier_point.FrontierPoint.{FrontierPoint}
 use Rattle.cost_model.specs.FrontierPoints.{frontier_points}
+use Rattle.plan_space.specs.Parts.{nth_plan}
+use Rattle.plan_space.specs.CostedPlans.{CostedPlansShape}
 use Rattle.anorexic.specs.Frontiers.{plan_at}
+
+-- what the plan at a place costs at a point
+abbrev pub cost_at_place : CostedPlansShape → (point : List ℕ) → (place : ℕ) → ℕ
+cost_at_place costed point place = cost_of (costing_tree costed.costing) (nth_plan costed.plans place) point
 
 -- which plans cover a point
 abbrev pub cover_row : CostingTree → (threshold : ℕ) → List PlanTree → (point : List ℕ) → List Bool

@@ -7,9 +7,6 @@
 
 mod candidates;
 mod cover;
-mod node;
-mod node_costs;
-mod nodes;
 mod reduction;
 mod turn;
 

@@ -9,7 +9,7 @@ ghost use Rattle.cost_model.specs.FrontierPoints.{IsFrontier, frontier_points};
 ghost use Rattle.anorexic.specs.Frontiers.{FrontierPlansFit, plan_at};
 ghost use Rattle.anorexic.specs.Turns.{AreTaken};
 
-use crate::candidates::gather;
+use crate::candidates::{Candidates, gather};
 use crate::cover::cover_table;
 use crate::turn::{close, first_candidate};
 use cost_model::{Costing, FrontierPoint};
@@ -87,13 +87,9 @@ pub fn reduce(
         ≡ greedy (costing_tree costing.now) threshold (frontier_points frontier.now)) }
 {
     let _block = costing.block();
-    let candidates = gather(alloc, frontier)?;
-    let table = cover_table(alloc, costing, threshold, frontier, &candidates)?;
-    let taken = turns(
-        alloc,
-        frontier,
-        candidates.places.as_slice(),
-        table.as_slice(),
-    )?;
+    let Candidates { mut plans, places } = gather(alloc, &*costing, frontier)?;
+    let places = places.as_slice();
+    let table = cover_table(alloc, frontier, &mut plans, places, threshold)?;
+    let taken = turns(alloc, frontier, places, table.as_slice())?;
     copies(alloc, frontier, taken.as_slice())
 }

@@ -1,5 +1,5 @@
-use Rattle.anorexic.specs.Gathered.{AreCandidates}
+use Rattle.anorexic.specs.Gathered.{Gathers}
 use Rattle.anorexic.proofs.candidates.gather.Given as goal
 
 abbrev pub invariant-loop-place : goal.invariant-loop-place
-invariant-loop-place l = AreCandidates l.frontier l.found.nodes.nodes.items l.found.numbers.items l.found.places.items l.place
+invariant-loop-place l = Gathers l.frontier l.costing l.found l.place

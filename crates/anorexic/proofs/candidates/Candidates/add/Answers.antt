@@ -1,35 +1,48 @@
-use Rattle.std.proofs.Common.{◌∙◌, ◌+◌, ◌++◌, [], ◌∷◌, sym, ap, subst}
-use Rattle.std.specs.Prelude.{nat_eq, slice_index_or}
-use Rattle.std.specs.List.{list_any}
+use Rattle.std.proofs.Common.{◌≡◌, ◌∙◌, ◌<◌, ◌+◌, ◌++◌, [], ◌∷◌, All, length, take, sym, ap, subst, arith}
+use Rattle.std.specs.Prelude.{slice_index_or}
+use Rattle.std.proofs.lemmas.List.Elements.{All-push}
 use Rattle.plan_tree.specs.Plans.{plan_tree}
-use Rattle.anorexic.specs.Nodes.{NumbersPlan}
-use Rattle.anorexic.specs.Gathered.{AreCandidates}
-use Rattle.anorexic.proofs.Gathering.{gathers-more, gathers-same}
+use Rattle.plan_space.specs.Parts.{IsNthPlan}
+use Rattle.plan_space.specs.CostedPlans.{CostedPlansShape}
+use Rattle.anorexic.specs.Frontiers.{frontier_plans}
+use Rattle.anorexic.specs.Gathered.{AreAmong}
+use Rattle.anorexic.proofs.Frontier.{plan-there}
+use Rattle.anorexic.proofs.Gathering.{among-more, among-same, first-before, first-plan, plans-more}
 use Rattle.anorexic.proofs.candidates.Candidates.add.Goals as goal
 
-pub returns-in_ok-push-2 : goal.returns-in_ok-push-2
-returns-in_ok-push-2 c =
+pub returns-in_ok-push : goal.returns-in_ok-push
+returns-in_ok-push c =
     let frontier = c.args.frontier.now in
-    let old = c.args.self.now in
     let place = c.args.place in
     let at = c.index-frontier-place.result in
-    let number = c.in_ok-number.number in
-    let others = c.number.new.self.nodes.items in
-    let adds : NumbersPlan old.nodes.nodes.items others (plan_tree (slice_index_or frontier place at).plan) number =
-    c.in_ok-number.ensures in
-    let more = gathers-more frontier old.nodes.nodes.items others old.numbers.items old.places.items place number at c.requires.gathered c.requires.place adds in
-    subst (λ numbers. AreCandidates frontier others numbers c.push-then-not-contains.new.self.items (place + 1)) (sym c.in_ok-push.ensures.items)
-    (subst (λ places. AreCandidates frontier others (old.numbers.items ++ number ∷ []) places (place + 1)) (sym c.in_ok-push-2.ensures.items) more)
+    let added = c.in_ok-add.ensures.added in
+    let places = c.args.self.now.places.items in
+    record {
+      same = ap (λ (shape : CostedPlansShape). shape.costing) added;
+      plans = ap (λ (shape : CostedPlansShape). shape.plans) added
+          ∙ ap (λ plans. plans ++ plan_tree (slice_index_or frontier place at).plan ∷ []) c.requires.gathered.plans
+          ∙ plans-more frontier place at c.requires.place;
+      within = subst (All (λ one. one < length frontier)) (sym c.in_ok-push.ensures.items)
+          (All-push (λ one. one < length frontier) places place c.requires.gathered.within c.requires.place);
+      among = subst (λ all. AreAmong frontier all (place + 1)) (sym c.in_ok-push.ensures.items) (among-more frontier places place c.requires.gathered.among);
+    }
 
-pub returns-else-not-contains : goal.returns-else-not-contains
-returns-else-not-contains c =
+pub returns-else-branch-place : goal.returns-else-branch-place
+returns-else-branch-place c =
     let frontier = c.args.frontier.now in
-    let old = c.args.self.now in
     let place = c.args.place in
     let at = c.index-frontier-place.result in
-    let number = c.in_ok-number.number in
-    let others = c.number.new.self.nodes.items in
-    let adds : NumbersPlan old.nodes.nodes.items others (plan_tree (slice_index_or frontier place at).plan) number =
-    c.in_ok-number.ensures in
-    let there = ap (list_any (λ one. nat_eq one number)) (sym c.as_slice.ensures.value) ∙ sym c.contains.ensures.value ∙ c.if-not-contains.false in
-    gathers-same frontier old.nodes.nodes.items others old.numbers.items old.places.items place number at c.requires.gathered c.requires.place adds there
+    let first = c.in_ok-add.field-0 in
+    let p = plan_tree (slice_index_or frontier place at).plan in
+    let added = c.in_ok-add.ensures.added in
+    let plans : c.add.new.self.plans ≡ frontier_plans (take (place + 1) frontier) =
+    ap (λ (shape : CostedPlansShape). shape.plans) added ∙ ap (λ plans. plans ++ p ∷ []) c.requires.gathered.plans ∙ plans-more frontier place at c.requires.place in
+    let there = subst (λ ps. IsNthPlan ps p first) plans c.in_ok-add.ensures.place in
+    let less = first-before frontier place first there.exists c.if-branch-place.false in
+    record {
+      same = ap (λ (shape : CostedPlansShape). shape.costing) added;
+      plans = plans;
+      within = c.requires.gathered.within;
+      among = among-same frontier c.args.self.now.places.items place first less c.requires.gathered.among
+          (sym (first-plan frontier (place + 1) first (omega (arith, less))) ∙ there.is ∙ sym (plan-there frontier place at c.requires.place));
+    }
