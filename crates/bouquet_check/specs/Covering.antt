@@ -1,0 +1,34 @@
+-- The plans of a contour, held against one point after another.
+use Rattle.std.specs.Prelude.{◌≡◌, ℕ, ◌<◌, true, false, All, IfSome, List, length, map, Option, Some, None}
+use Rattle.std.specs.Option.{ForSome}
+use Rattle.query_block.specs.Blocks.{block_tree}
+use Rattle.plan_tree.specs.declared.plan.Plan.{Plan}
+use Rattle.plan_tree.specs.Plans.{plan_tree}
+use Rattle.plan_tree.specs.Enumerated.{IsPlan}
+use Rattle.cost_model.specs.Costing.{CostingShape, costing_tree}
+use Rattle.plan_space.specs.CostedPlans.{CostedPlansShape}
+use Rattle.bouquet_check.specs.Verdicts.{fits_at}
+
+-- by which costs, which plans, and under which budget
+pub record CoverShape : Type 0 where
+  pub costing : CostingShape
+  pub plans : List Plan
+  pub budget : ℕ
+
+-- all plans are there, in their order
+pub record HoldsPlans (shape : CostingShape) (all : List Plan) (costed : CostedPlansShape) : Type 0 where
+  pub costing : costed.costing ≡ shape
+  pub plans : costed.plans ≡ map plan_tree all
+
+-- the plans are those of the block, and one of them is at hand; where all are held, these are they
+pub record IsCover (cover : CoverShape) (last : ℕ) (held : Option CostedPlansShape) : Type 0 where
+  pub at : last < length cover.plans
+  pub plans : All (λ p. IsPlan (block_tree cover.costing.block) (plan_tree p)) cover.plans
+  pub those : ForSome held (HoldsPlans cover.costing cover.plans)
+
+-- of plans that are costed at a point the place of one that is within a budget there; none where none is
+abbrev pub FindsWithin : CostedPlansShape → (budget : ℕ) → Option ℕ → Type 0
+FindsWithin costed budget (Some place) =
+    (place < length costed.plans) × IfSome costed.point (λ point. fits_at (costing_tree costed.costing) budget costed.plans point ≡ true)
+FindsWithin costed budget None =
+    IfSome costed.point (λ point. fits_at (costing_tree costed.costing) budget costed.plans point ≡ false)
