@@ -11,6 +11,7 @@ use Rattle.bouquet_type.specs.Trees.{BouquetTree, ContourTree}
 use Rattle.bouquet_type.specs.Budgets.{budget_of, most_plans}
 use Rattle.bouquet_type.specs.Runs.{RunEnd}
 use Rattle.audit_run.specs.Audits.{AuditTree}
+use Rattle.bouquet_check.specs.Verdicts.{VerdictTree, First, Step, Last, Uncovered, Sound}
 use Rattle.result_text.specs.Combined.{printed}
 
 -- the line below the rows of an answer: how many there are, and how the run of the bouquet ended
@@ -91,3 +92,15 @@ audit_line audit =
     codes "-- audit point=" ++ (point_text audit.point ++ (codes " plans=" ++ (decimal audit.plans ++ (codes " below=" ++ (yes_or_no audit.below
     ++ (codes " a=" ++ (decimal audit.a ++ (codes " b=" ++ (decimal audit.b ++ (codes " cheapest=" ++ (decimal audit.cheapest
     ++ (codes " r=" ++ (decimal audit.r ++ (codes " work=" ++ (decimal audit.work ++ codes "\n")))))))))))))))
+
+-- whether a bouquet is sound, and if not, what it breaks first
+abbrev pub verdict_text : VerdictTree → List ℕ
+verdict_text First = codes "no first"
+verdict_text (Step contour) = codes "no step " ++ decimal contour
+verdict_text Last = codes "no last"
+verdict_text (Uncovered contour point) = codes "no point=" ++ (point_text point ++ (codes " contour=" ++ decimal contour))
+verdict_text Sound = codes "yes"
+
+-- what a check prints
+abbrev pub check_line : VerdictTree → List ℕ
+check_line verdict = codes "-- check sound=" ++ (verdict_text verdict ++ codes "\n")

@@ -1,8 +1,9 @@
 -- What comes of each statement.
 use Rattle.std.specs.Prelude.{◌≡◌, ℕ, List, Option, Some, None, IsSome}
-use Rattle.sql_parse.specs.Trees.{StatementTree, CreateTable, CreateIndex, Load, Select, Compile, Run, Explain, SaveFile, OpenFile, Audit}
+use Rattle.sql_parse.specs.Trees.{StatementTree, CreateTable, CreateIndex, Load, Select, Compile, Run, Explain, SaveFile, OpenFile, Audit, Check}
 use Rattle.db_catalog.specs.Database.{table_number}
 use Rattle.session.specs.Audit.{audit_outcome}
+use Rattle.session.specs.Check.{check_outcome}
 use Rattle.session.specs.Compile.{compile_outcome}
 use Rattle.session.specs.CreateIndex.{create_index_outcome}
 use Rattle.session.specs.CreateTable.{create_table_outcome}
@@ -27,6 +28,7 @@ statement_outcome max_work world (Explain name) file = explain_outcome world nam
 statement_outcome max_work world (SaveFile save) file = save_outcome world save
 statement_outcome max_work world (OpenFile name file_name query) file = open_outcome world name file_name query file
 statement_outcome max_work world (Audit audit) file = audit_outcome max_work world audit
+statement_outcome max_work world (Check name) file = check_outcome world name
 
 -- the name of the file that a statement may ask for: only LOAD and OPEN ask for one
 abbrev pub asked_name : StatementTree → Option (List ℕ)

@@ -2,12 +2,14 @@
 ghost use Rattle.std.specs.Prelude.{◌≡◌, ◌+◌, ◌^◌, ◌<◌, ◌≤◌, [], ◌++◌, length, map, IfOk, OnOk, codes, decimal, vec_len, vec_capacity};
 ghost use Rattle.plan_tree.specs.Plans.{plan_tree};
 ghost use Rattle.audit_run.specs.Audits.{told_audit};
+ghost use Rattle.bouquet_check.specs.Verdicts.{verdict_tree};
 ghost use Rattle.plan_tree.specs.Text.{plan_text_of};
 ghost use Rattle.bouquet_type.specs.Reports.{told_end};
 ghost use Rattle.bouquet_type.specs.Trees.{bouquet_tree, contour_tree};
-ghost use Rattle.session.specs.Printed.{report_line, load_line, size_line, contour_line, explain_text, plan_texts, point_text, yes_or_no, audit_line};
+ghost use Rattle.session.specs.Printed.{report_line, load_line, size_line, contour_line, explain_text, plan_texts, point_text, yes_or_no, audit_line, verdict_text, check_line};
 
 use audit_run::Audit;
+use bouquet_check::Verdict;
 use bouquet_type::{Bouquet, Contour, Report};
 use itoa::Buffer;
 use plan_tree::{Plan, plan_text};
@@ -185,6 +187,34 @@ pub(crate) fn audit_line(alloc: Global, audit: &Audit) -> Result<Vec<u8>, AllocE
     push_labelled(&mut text, " cheapest=", audit.cheapest)?;
     push_labelled(&mut text, " r=", u128::from(audit.r))?;
     push_labelled(&mut text, " work=", audit.work)?;
+    text.push(b'\n')?;
+    Ok(text)
+}
+
+// Appends whether a bouquet is sound, and if not, what it breaks first.
+fn push_verdict(text: &mut Vec<u8>, verdict: &Verdict) -> Result<(), AllocError>
+    ensures { OnOk result (text.new.items
+        ≡ text.old.items ++ verdict_text (verdict_tree verdict.now)) }
+{
+    match verdict {
+        Verdict::First => text.extend_from_slice(b"no first"),
+        Verdict::Step { contour } => push_labelled(text, "no step ", u128::from(*contour)),
+        Verdict::Last => text.extend_from_slice(b"no last"),
+        Verdict::Uncovered { contour, point } => {
+            text.extend_from_slice(b"no point=")?;
+            push_point(text, point.levels())?;
+            push_labelled(text, " contour=", u128::from(*contour))
+        }
+        Verdict::Sound => text.extend_from_slice(b"yes"),
+    }
+}
+
+/// The line of a check.
+pub(crate) fn check_line(alloc: Global, verdict: &Verdict) -> Result<Vec<u8>, AllocError>
+    ensures { IfOk result (λ text. text.items ≡ check_line (verdict_tree verdict.now)) }
+{
+    let mut text = Vec::from_slice(alloc, b"-- check sound=")?;
+    push_verdict(&mut text, verdict)?;
     text.push(b'\n')?;
     Ok(text)
 }

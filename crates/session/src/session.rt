@@ -94,6 +94,7 @@ impl Session {
             Statement::SaveFile(save) => self.save_file(alloc, save),
             Statement::OpenFile(opened) => self.open_file(alloc, opened),
             Statement::Audit(audit) => prints(self.audit(alloc, max_work, audit)),
+            Statement::Check(name) => prints(self.check(alloc, name)),
         }
     }
 }

@@ -109,7 +109,7 @@ AreGiven max_work state (step ∷ rest) before after =
     (now : ℕ) × IsGivenStep state step before now
     × MatchOption (left_by (step_outcome max_work state step) state) (after ≡ now) (λ next. AreGiven max_work next rest now after)
 
--- each query among these steps that is answered is within the bound
+-- each query among these steps that is answered is within the bound, and each bouquet that is checked is as its verdict says
 abbrev pub AreAnsweredWithin : (max_work : ℕ) → ScriptState → List Step → Type 0
 AreAnsweredWithin max_work state [] = ⊤
 AreAnsweredWithin max_work state (step ∷ rest) =

@@ -1,5 +1,5 @@
 -- What a statement prints it prints as it begins.
-use Rattle.sql_parse.specs.Trees.{Audit, Compile, CreateIndex, CreateTable, Explain, Run, Select, query_tree}
+use Rattle.sql_parse.specs.Trees.{Audit, Check, Compile, CreateIndex, CreateTable, Explain, Run, Select, query_tree}
 use Rattle.session.specs.States.{world_of}
 use Rattle.session.proofs.Beginning.{begins_due, begins_free}
 use Rattle.session.proofs.session.Session.begin.Goals as goal
@@ -26,6 +26,9 @@ returns-in-Explain-clause-begins c = rw (c.in-Explain.is, c.prints-in-Explain.en
 
 pub returns-in-Audit-clause-begins : goal.returns-in-Audit-clause-begins
 returns-in-Audit-clause-begins c = rw (c.in-Audit.is, c.prints-in-Audit.ensures) (begins_free c.args.max_work (world_of c.args.self.now) (Audit c.in-Audit.audit) (world_of c.args.self.now) c.audit.result c.args.book.now (λ file. c.audit.ensures))
+
+pub returns-in-Check-clause-begins : goal.returns-in-Check-clause-begins
+returns-in-Check-clause-begins c = rw (c.in-Check.is, c.prints-in-Check.ensures) (begins_free c.args.max_work (world_of c.args.self.now) (Check c.in-Check.name) (world_of c.args.self.now) c.check.result c.args.book.now (λ file. c.check.ensures.due))
 
 pub returns-in-Load-clause-begins : goal.returns-in-Load-clause-begins
 returns-in-Load-clause-begins c = rw c.in-Load.is (c.load.ensures c.args.max_work c.args.book.now)
