@@ -1,10 +1,11 @@
 #!/usr/bin/env python3
 """Times OPEN and SAVE of a file with as many contours and plans as one may have, and CHECK of bouquets.
 
-  python3 bench/files.py [--contours N] [--plans N] [--runs N] [--only files|checks] [--program PATH]
+  python3 bench/files.py [--contours N] [--plans N] [--runs N] [--only files|checks] [--clock wall|cpu] [--program PATH]
 
 The proved program is the one that `rt run` left in crates/bouquet/out. Timed are whole processes, by turns; a time is a
-difference of medians of two scripts, divided by how often one does what the other doesn't.
+difference of medians of two scripts, divided by how often one does what the other doesn't. With `--clock cpu` times are
+the processor's, for a machine that is at other work.
 
   files   a query over six tables of one row has plans of six leaves; the file holds them by turns in each contour. One
           script opens the file, one saves the bouquet as well.
@@ -13,9 +14,9 @@ difference of medians of two scripts, divided by how often one does what the oth
           until it has `--plans` plans, behind its own plans (an honest file) or before them (a chosen one, in which
           the plans that fit come last).
 
-Wanted: a file of 128 contours of 4096 plans each is opened, and saved, in a few seconds. A check takes at most twice as
-long as the compilation, that of the honest file less than a second, and that of the chosen one at most ten. The status is
-1 if a sound bouquet isn't found sound.
+Wanted: a file of 128 contours of 4096 plans each is opened, and saved, in a few seconds. A check takes at most twice as long
+as the compilation, that of the honest file less than a second, and that of the chosen one at most ten. The status is 1 if a
+sound bouquet isn't found sound.
 """
 import argparse
 import itertools
@@ -25,7 +26,7 @@ import random
 import statistics
 import sys
 
-from beside_sqlite import DATA, PROGRAM, SEED, by_turns, run, write_csv
+from beside_sqlite import DATA, PROCESSOR, PROGRAM, SEED, WALL, by_turns, run, write_csv
 
 SECONDS = 5
 TABLES = 6
@@ -65,11 +66,11 @@ def write_file(name, value):
     return path
 
 
-def files(program, contours, plans_each, runs):
+def files(program, contours, plans_each, runs, clock):
     with open(os.path.join(DATA, "files-row.csv"), "w") as file:
         file.write("A\n1\n")
     path = write_file("files-many.bq", file_of(contours, plans_each))
-    measured = by_turns({"opened": (program, OPENED), "saved": (program, SAVED)}, runs)
+    measured = by_turns({"opened": (program, OPENED), "saved": (program, SAVED)}, runs, clock)
     opened, saved = (statistics.median(it[0] for it in measured[side]) for side in ("opened", "saved"))
     memory = max(it[1] for it in measured["saved"])
     with open(path, "rb") as one, open(os.path.join(DATA, "files-again.bq"), "rb") as other:
@@ -125,23 +126,23 @@ def filled(value, plans_each, own_first):
     return {**value, "contours": contours}
 
 
-def seconds_of(program, before, after, times, runs):
+def seconds_of(program, before, after, times, runs, clock):
     """How long what `after` adds takes, and whether each check in it found the bouquet sound; and the peak memory."""
-    measured = by_turns({"without": (program, before), "with": (program, before + after * times)}, runs)
+    measured = by_turns({"without": (program, before), "with": (program, before + after * times)}, runs, clock)
     without, within = (statistics.median(it[0] for it in measured[side]) for side in ("without", "with"))
     with open(measured["with"][-1][2], "rb") as file:
         sound = file.read().count(SOUND) == after.count("CHECK") * times
     return (within - without) / times, max(it[1] for it in measured["with"]), sound
 
 
-def checks(program, plans_each, runs):
+def checks(program, plans_each, runs, clock):
     made, query = circle()
     compiled = f"COMPILE Q LEVELS 4 AS {query};\n"
     run(program, made + compiled + "SAVE Q TO 'files-circle.bq';\n", "circle")
     with open(os.path.join(DATA, "files-circle.bq")) as file:
         value = json.load(file)
-    compiling, _, _ = seconds_of(program, made, compiled, 1, runs)
-    checking, memory, all_sound = seconds_of(program, made + compiled, "CHECK Q;\n", CHECKS, runs)
+    compiling, _, _ = seconds_of(program, made, compiled, 1, runs, clock)
+    checking, memory, all_sound = seconds_of(program, made + compiled, "CHECK Q;\n", CHECKS, runs, clock)
     print(
         f"checks: {len(value['contours'])} contours compiled in {compiling * 1e3:.0f} ms, checked in {checking * 1e3:.0f} ms, "
         f"wanted twice as long at most; peak {memory:.0f} MB; sound: {'yes' if all_sound else 'no'}"
@@ -149,7 +150,7 @@ def checks(program, plans_each, runs):
     for kind, own_first, wanted in (("honest", True, 1), ("chosen", False, 10)):
         path = write_file(f"files-{kind}.bq", filled(value, plans_each, own_first))
         opened = f"{made}OPEN Z FROM 'files-{kind}.bq' AS {query};\n"
-        checking, memory, sound = seconds_of(program, opened, "CHECK Z;\n", 1, runs)
+        checking, memory, sound = seconds_of(program, opened, "CHECK Z;\n", 1, runs, clock)
         print(
             f"checks: {kind} file of {os.path.getsize(path) / 1e6:.1f} MB checked in {checking:.2f} s, wanted {wanted} at most; "
             f"peak {memory:.0f} MB; sound: {'yes' if sound else 'no'}"
@@ -164,13 +165,14 @@ def main():
     words.add_argument("--plans", type=int, default=4096)
     words.add_argument("--runs", type=int, default=3)
     words.add_argument("--only", choices=("files", "checks"))
+    words.add_argument("--clock", choices=(WALL, PROCESSOR), default=WALL)
     words.add_argument("--program", default=PROGRAM)
     given = words.parse_args()
     os.makedirs(DATA, exist_ok=True)
     program = [os.path.abspath(given.program)]
     if given.only != "checks":
-        files(program, given.contours, given.plans, given.runs)
-    if given.only != "files" and not checks(program, given.plans, given.runs):
+        files(program, given.contours, given.plans, given.runs, given.clock)
+    if given.only != "files" and not checks(program, given.plans, given.runs, given.clock):
         sys.exit(1)
 
 
