@@ -1,12 +1,13 @@
 -- The bound on the work of a run.
-use Rattle.std.proofs.Common.{◌≡◌, inl, inr, ℕ, ◌+◌, ◌*◌, ◌≤◌, ◌++◌, List, [], ◌∷◌, length, map, true, false, nat_le, refl, ap, arith}
-use Rattle.std.specs.Prelude.{All}
+use Rattle.std.proofs.Common.{◌≡◌, ◌∙◌, inl, inr, ℕ, ◌+◌, ◌*◌, ◌<◌, ◌≤◌, ◌++◌, Bool, List, [], ◌∷◌, length, map, true, false, nat_le, if◌then◌else◌, refl, ap, sym, subst, arith}
+use Rattle.std.specs.Prelude.{All, Contains}
 use Rattle.std.proofs.Math.Nat.{mul-le-mul_left}
 use Rattle.std.proofs.lemmas.Nat.{mul-le}
-use Rattle.std.proofs.lemmas.Bool.{le-leb, lt-leb, cases_lt}
-use Rattle.std.proofs.lemmas.List.Elements.{All-head, All-tail, All-contains}
-use Rattle.ess_grid.specs.Points.{bottom_of, top_of}
+use Rattle.std.proofs.lemmas.Bool.{le-leb, lt-leb, cases_Bool, cases_lt, false≢true}
+use Rattle.std.proofs.lemmas.List.Elements.{All-nil, All-cons, All-append, All-head, All-tail, All-contains, All-weaker}
+use Rattle.ess_grid.specs.Points.{IsPoint, bottom_of, top_of}
 use Rattle.ess_grid.proofs.GridPoints.{PointBelow-bottom, PointBelow-top}
+use Rattle.query_block.specs.Blocks.{BlockTree}
 use Rattle.plan_tree.specs.Plans.{PlanTree, Scan, IndexScan, Nest, Hash, Merge, IndexLoop}
 use Rattle.plan_tree.specs.Enumerated.{IsPlan}
 use Rattle.plan_tree.specs.AllPlans.{plans_of}
@@ -20,39 +21,110 @@ use Rattle.cost_model.proofs.Least.{optimal-least}
 use Rattle.bouquet_type.specs.Trees.{BouquetTree, ContourTree}
 use Rattle.bouquet_type.specs.Budgets.{budget_of, most_plans}
 use Rattle.bouquet_type.specs.Sound.{AreDoubled, FitsAt, first_cost, last_cost}
-use Rattle.bouquet_type.specs.Schedule.{Member, members_on, members_from, final_plan}
-use Rattle.bouquet_type.specs.Runs.{end_of, total_work}
+use Rattle.bouquet_type.specs.Schedule.{Member, members_on, members_from, schedule, final_plan}
+use Rattle.bouquet_type.specs.Runs.{CostPremise, end_of, total_work}
+use Rattle.bouquet_type.specs.Skipping.{AreExhausted, without_skipped}
 use Rattle.bouquet_type.specs.Bounded.{MeetsBound}
 
--- the work of a run over some members
-abbrev total_of : (work : PlanTree → ℕ) → List Member → (final : PlanTree) → ℕ
-total_of work members final = (end_of work members final).total
+-- an execution of a plan of a block that was exhausted
+abbrev WasExhausted : BlockTree → (work : PlanTree → ℕ) → Member → Type 0
+WasExhausted block work member = IsPlan block member.plan × (member.budget < work member.plan)
 
--- a contour's plans spend at most their budgets, and the run goes on behind them
-total-passes : (work : PlanTree → ℕ) (budget number : ℕ) (plans : List PlanTree) (rest : List Member) (final : PlanTree)
-    → total_of work (members_on budget number plans ++ rest) final ≤ length plans * budget + total_of work rest final
-total-passes work budget number [] rest final = omega arith
-total-passes work budget number (p ∷ plans) rest final =
-    let more = total-passes work budget number plans rest final in
-    elim (cases_lt budget (work p)) [
-      | inl past ↦ let over : nat_le (work p) budget ≡ false = lt-leb _ _ past in rw (over, total_of) (omega (arith, more))
-      | inr fits ↦ let within : nat_le (work p) budget ≡ true = le-leb _ _ fits in rw (within, total_of) (omega (arith, fits))
-    ]
+exhausted-more : (block : BlockTree) (work : PlanTree → ℕ) (before : List Member) (member : Member) → AreExhausted block work before → WasExhausted block work member
+    → AreExhausted block work (before ++ member ∷ [])
+exhausted-more block work before member are is =
+    All-append (WasExhausted block work) before (member ∷ []) are (All-cons (WasExhausted block work) member [] is (All-nil (WasExhausted block work)))
 
--- nor does it go on where one of them is within the budget
-total-fits : (work : PlanTree → ℕ) (budget number : ℕ) (p : PlanTree) (plans : List PlanTree) (rest : List Member) (final : PlanTree)
-    → IsIn p plans → work p ≤ budget → total_of work (members_on budget number plans ++ rest) final ≤ length plans * budget
-total-fits work budget number p [] rest final is fits = absurd is
-total-fits work budget number p (q ∷ plans) rest final is fits =
-    elim (cases_lt budget (work q)) [
-      | inl past ↦
-          let over : nat_le (work q) budget ≡ false = lt-leb _ _ past in
-          elim is [
-            | inl same ↦ absurd (omega (arith, ap work same, past, fits))
-            | inr among ↦ rw (over, total_of) (omega (arith, total-fits work budget number p plans rest final among fits))
-          ]
-      | inr short ↦ let within : nat_le (work q) budget ≡ true = le-leb _ _ short in rw (within, total_of) (omega (arith, short))
-    ]
+-- a run whose first plan is done works what that plan does; else its budget, and what the run works behind it
+total-done : (work : PlanTree → ℕ) (member : Member) (more : List Member) (final : PlanTree) → work member.plan ≤ member.budget
+    → (end_of work (member ∷ more) final).total ≡ work member.plan
+total-done work member more final fits = let within : nat_le (work member.plan) member.budget ≡ true = le-leb _ _ fits in rw within refl
+
+total-exhausted : (work : PlanTree → ℕ) (member : Member) (more : List Member) (final : PlanTree) → member.budget < work member.plan
+    → (end_of work (member ∷ more) final).total ≡ member.budget + (end_of work more final).total
+total-exhausted work member more final past = let over : nat_le (work member.plan) member.budget ≡ false = lt-leb _ _ past in rw over refl
+
+module _ (block : BlockTree) (work : PlanTree → ℕ) (skip : List Member → Member → Bool) (final : PlanTree) where
+  -- the work of a run over those of some members that aren't skipped, where these were exhausted before
+  abbrev total_of : (before members : List Member) → ℕ
+  total_of before members = (end_of work (without_skipped skip before members) final).total
+
+  abbrev total_if : (skipped : Bool) → (before : List Member) → Member → (more : List Member) → ℕ
+  total_if skipped before member more =
+      (end_of work (if skipped then without_skipped skip before more else member ∷ without_skipped skip (before ++ member ∷ []) more) final).total
+
+  -- one that is skipped adds nothing; else the run ends with it, or goes on behind it
+  without-first : (before : List Member) (member : Member) (more : List Member) → skip before member ≡ true → total_of before (member ∷ more) ≡ total_of before more
+  without-first before member more skipped = ap (λ skipped. total_if skipped before member more) skipped
+
+  first-done : (before : List Member) (member : Member) (more : List Member) → skip before member ≡ false → work member.plan ≤ member.budget
+      → total_of before (member ∷ more) ≡ work member.plan
+  first-done before member more tried fits =
+      ap (λ skipped. total_if skipped before member more) tried ∙ total-done work member (without_skipped skip (before ++ member ∷ []) more) final fits
+
+  first-exhausted : (before : List Member) (member : Member) (more : List Member) → skip before member ≡ false → member.budget < work member.plan
+      → total_of before (member ∷ more) ≡ member.budget + total_of (before ++ member ∷ []) more
+  first-exhausted before member more tried past =
+      ap (λ skipped. total_if skipped before member more) tried ∙ total-exhausted work member (without_skipped skip (before ++ member ∷ []) more) final past
+
+  -- a contour's plans spend at most their budgets, and the run goes on behind them
+  total-passes : (budget number cost place : ℕ) (plans : List PlanTree) (rest before : List Member) → All (IsPlan block) plans → AreExhausted block work before
+      → (after : List Member) × AreExhausted block work after × (total_of before (members_on budget number cost place plans ++ rest) ≤ length plans * budget + total_of after rest)
+  total-passes budget number cost place [] rest before are exhausted = (before, exhausted, omega arith)
+  total-passes budget number cost place (p ∷ plans) rest before are exhausted =
+      let member : Member = record { plan = p; budget = budget; contour = number; place = place; cost = cost } in
+      let others = All-tail (IsPlan block) p plans are in
+      elim (cases_Bool (skip before member)) [
+        | inl skipped ↦
+            let more = total-passes budget number cost (place + 1) plans rest before others exhausted in
+            let same = without-first before member (members_on budget number cost (place + 1) plans ++ rest) skipped in
+            (more.0, more.1, omega (arith, more.2, same))
+        | inr tried ↦
+            elim (cases_lt budget (work p)) [
+              | inl past ↦
+                  let here = exhausted-more block work before member exhausted (All-head (IsPlan block) p plans are, past) in
+                  let more = total-passes budget number cost (place + 1) plans rest (before ++ member ∷ []) others here in
+                  let spent = first-exhausted before member (members_on budget number cost (place + 1) plans ++ rest) tried past in
+                  (more.0, more.1, omega (arith, more.2, spent))
+              | inr fits ↦
+                  let spent = first-done before member (members_on budget number cost (place + 1) plans ++ rest) tried fits in
+                  (before, exhausted, omega (arith, fits, spent))
+            ]
+      ]
+
+  -- the plan is never skipped on a contour of this cost
+  abbrev pub IsTried : (cost : ℕ) → PlanTree → Type 0
+  IsTried cost p = (before : List Member) (member : Member) → AreExhausted block work before → member.plan ≡ p → member.cost ≡ cost → skip before member ≡ false
+
+  -- nor does it go on where one of them that isn't skipped is within the budget
+  total-fits : (budget number cost place : ℕ) (p : PlanTree) (plans : List PlanTree) (rest before : List Member) → All (IsPlan block) plans → AreExhausted block work before
+      → IsIn p plans → work p ≤ budget → IsTried cost p → total_of before (members_on budget number cost place plans ++ rest) ≤ length plans * budget
+  total-fits budget number cost place p [] rest before are exhausted is fits tried = absurd is
+  total-fits budget number cost place p (q ∷ plans) rest before are exhausted is fits tried =
+      let member : Member = record { plan = q; budget = budget; contour = number; place = place; cost = cost } in
+      let others = All-tail (IsPlan block) q plans are in
+      elim (cases_Bool (skip before member)) [
+        | inl skipped ↦
+            elim is [
+              | inl same ↦ absurd (false≢true (sym (tried before member exhausted same refl) ∙ skipped))
+              | inr among ↦
+                  let more = total-fits budget number cost (place + 1) p plans rest before others exhausted among fits tried in
+                  omega (arith, more, without-first before member (members_on budget number cost (place + 1) plans ++ rest) skipped)
+            ]
+        | inr here ↦
+            elim (cases_lt budget (work q)) [
+              | inl past ↦
+                  elim is [
+                    | inl same ↦ absurd (omega (arith, ap work same, past, fits))
+                    | inr among ↦
+                        let passed = exhausted-more block work before member exhausted (All-head (IsPlan block) q plans are, past) in
+                        let more = total-fits budget number cost (place + 1) p plans rest (before ++ member ∷ []) others passed among fits tried in
+                        omega (arith, more, first-exhausted before member (members_on budget number cost (place + 1) plans ++ rest) here past)
+                  ]
+              | inr short ↦
+                  omega (arith, short, first-done before member (members_on budget number cost (place + 1) plans ++ rest) here short)
+            ]
+      ]
 
 -- what a contour of at most so many plans spends
 spends : (threshold cost count most : ℕ) → count ≤ most → 100 * (count * budget_of threshold cost) ≤ most * (100 + threshold) * cost
@@ -74,9 +146,11 @@ goes-on rate cost next optimal here rest spent doubled more =
     let twice : rate * next ≡ rate * (2 * cost) = ap (λ n. rate * n) doubled in
     omega (arith, spent, twice, more)
 
--- some plan of the contour fits where it costs at least the optimal cost
-abbrev IsCovered : CostingTree → (threshold : ℕ) → (point : List ℕ) → (optimal : ℕ) → ContourTree → Type 0
-IsCovered costing threshold point optimal contour = optimal ≤ contour.cost → FitsAt costing threshold point contour
+-- a plan of the contour is within the contour's budget at a point, and the rule never skips it there
+abbrev pub FitsUnskipped : CostingTree → (threshold : ℕ) → (work : PlanTree → ℕ) → (skip : List Member → Member → Bool) → (point : List ℕ) → ContourTree → Type 0
+FitsUnskipped costing threshold work skip point contour =
+    (p : PlanTree) × Contains contour.plans p × (cost_of costing p point ≤ budget_of threshold contour.cost)
+    × ((before : List Member) (member : Member) → AreExhausted costing.block work before → member.plan ≡ p → member.cost ≡ contour.cost → skip before member ≡ false)
 
 abbrev HasPlans : CostingTree → ContourTree → Type 0
 HasPlans costing contour = All (IsPlan costing.block) contour.plans
@@ -84,60 +158,64 @@ HasPlans costing contour = All (IsPlan costing.block) contour.plans
 abbrev AreWithin : CostingTree → (point : List ℕ) → (work : PlanTree → ℕ) → Type 0
 AreWithin costing point work = (p : PlanTree) → IsPlan costing.block p → work p ≤ cost_of costing p point
 
--- a contour that costs at least the optimal cost ends the run
-ends-here : (costing : CostingTree) (threshold : ℕ) (point : List ℕ) (work : PlanTree → ℕ) (number : ℕ) (contour : ContourTree) (rest : List Member) (final : PlanTree)
-    → AreWithin costing point work → HasPlans costing contour → FitsAt costing threshold point contour
-    → total_of work (members_on (budget_of threshold contour.cost) number contour.plans ++ rest) final ≤ length contour.plans * budget_of threshold contour.cost
-ends-here costing threshold point work number contour rest final within plans fits =
-    let p = fits.0 in
-    let plan : IsPlan costing.block p = All-contains (IsPlan costing.block) contour.plans p plans fits.1 in
-    let short : work p ≤ budget_of threshold contour.cost = omega (arith, within p plan, fits.2) in
-    total-fits work (budget_of threshold contour.cost) number p contour.plans rest final (in-contained p contour.plans fits.1) short
+module _ (costing : CostingTree) (threshold : ℕ) (point : List ℕ) (work : PlanTree → ℕ) (skip : List Member → Member → Bool) (final : PlanTree) (optimal most : ℕ) where
+  -- some plan of the contour fits where it costs at least the optimal cost
+  abbrev IsCovered : ContourTree → Type 0
+  IsCovered contour = optimal ≤ contour.cost → FitsUnskipped costing threshold work skip point contour
 
-bound-from : (costing : CostingTree) (threshold : ℕ) (point : List ℕ) (work : PlanTree → ℕ) (final : PlanTree) (optimal most number : ℕ) (contours : List ContourTree)
-    → AreWithin costing point work → 1 ≤ optimal → AreDoubled contours → first_cost contours ≤ 2 * optimal → optimal ≤ last_cost contours
-    → All (IsCovered costing threshold point optimal) contours → All (HasPlans costing) contours → most_plans contours ≤ most
-    → 100 * total_of work (members_from threshold number contours) final + most * (100 + threshold) * first_cost contours ≤ 4 * (most * (100 + threshold)) * optimal
-bound-from costing threshold point work final optimal most number [] within some doubled first last covered plans few = absurd (omega (arith, some, last))
-bound-from costing threshold point work final optimal most number (contour ∷ []) within some doubled first last covered plans few =
-    let fits = All-head (IsCovered costing threshold point optimal) contour [] covered last in
-    let here = All-head (HasPlans costing) contour [] plans in
-    let total = ends-here costing threshold point work number contour [] final within here fits in
-    let spent = spends threshold contour.cost (length contour.plans) most (omega (arith, few)) in
-    wins (most * (100 + threshold)) contour.cost optimal _ (omega (arith, total, spent)) first
-bound-from costing threshold point work final optimal most number (contour ∷ next ∷ more) within some doubled first last covered plans few =
-    let here = All-head (HasPlans costing) contour (next ∷ more) plans in
-    let rest = members_from threshold (number + 1) (next ∷ more) in
-    let spent = spends threshold contour.cost (length contour.plans) most (omega (arith, few)) in
-    elim (cases_lt contour.cost optimal) [
-      | inl less ↦
-          let passes = total-passes work (budget_of threshold contour.cost) number contour.plans rest final in
-          let later =
-          bound-from
-          costing
-          threshold
-          point
-          work
-          final
-          optimal
-          most
-          (number + 1)
-          (next ∷ more)
-          within
-          some
-          doubled.1
-          (omega (arith, doubled.0, less))
-          last
-          (All-tail (IsCovered costing threshold point optimal) contour (next ∷ more) covered)
-          (All-tail (HasPlans costing) contour (next ∷ more) plans)
-          (omega (arith, few)) in
-          let sum = goes-on (most * (100 + threshold)) contour.cost next.cost optimal _ _ spent doubled.0 later in
-          omega (arith, passes, sum)
-      | inr enough ↦
-          let fits = All-head (IsCovered costing threshold point optimal) contour (next ∷ more) covered enough in
-          let total = ends-here costing threshold point work number contour rest final within here fits in
-          wins (most * (100 + threshold)) contour.cost optimal _ (omega (arith, total, spent)) first
-    ]
+  abbrev total_from : (number : ℕ) → (before : List Member) → List ContourTree → ℕ
+  total_from number before contours = total_of costing.block work skip final before (members_from threshold number contours)
+
+  -- a contour that costs at least the optimal cost ends the run
+  ends-here : (number : ℕ) (contour : ContourTree) (more : List ContourTree) (before : List Member) → AreWithin costing point work → HasPlans costing contour
+      → AreExhausted costing.block work before → FitsUnskipped costing threshold work skip point contour
+      → total_from number before (contour ∷ more) ≤ length contour.plans * budget_of threshold contour.cost
+  ends-here number contour more before within plans exhausted fits =
+      let p = fits.0 in
+      let plan : IsPlan costing.block p = All-contains (IsPlan costing.block) contour.plans p plans fits.1 in
+      let short : work p ≤ budget_of threshold contour.cost = omega (arith, within p plan, fits.2) in
+      total-fits costing.block work skip final (budget_of threshold contour.cost) number contour.cost 1 p contour.plans (members_from threshold (number + 1) more) before
+      plans exhausted (in-contained p contour.plans fits.1) short fits.3
+
+  bound-from : (number : ℕ) (contours : List ContourTree) (before : List Member)
+      → AreWithin costing point work → 1 ≤ optimal → AreDoubled contours → first_cost contours ≤ 2 * optimal → optimal ≤ last_cost contours
+      → All IsCovered contours → All (HasPlans costing) contours → most_plans contours ≤ most → AreExhausted costing.block work before
+      → 100 * total_from number before contours + most * (100 + threshold) * first_cost contours ≤ 4 * (most * (100 + threshold)) * optimal
+  bound-from number [] before within some doubled first last covered plans few exhausted = absurd (omega (arith, some, last))
+  bound-from number (contour ∷ []) before within some doubled first last covered plans few exhausted =
+      let fits = All-head IsCovered contour [] covered last in
+      let here = All-head (HasPlans costing) contour [] plans in
+      let total = ends-here number contour [] before within here exhausted fits in
+      let spent = spends threshold contour.cost (length contour.plans) most (omega (arith, few)) in
+      wins (most * (100 + threshold)) contour.cost optimal _ (omega (arith, total, spent)) first
+  bound-from number (contour ∷ next ∷ more) before within some doubled first last covered plans few exhausted =
+      let here = All-head (HasPlans costing) contour (next ∷ more) plans in
+      let rest = members_from threshold (number + 1) (next ∷ more) in
+      let spent = spends threshold contour.cost (length contour.plans) most (omega (arith, few)) in
+      elim (cases_lt contour.cost optimal) [
+        | inl less ↦
+            let passes = total-passes costing.block work skip final (budget_of threshold contour.cost) number contour.cost 1 contour.plans rest before here exhausted in
+            let later =
+            bound-from
+            (number + 1)
+            (next ∷ more)
+            passes.0
+            within
+            some
+            doubled.1
+            (omega (arith, doubled.0, less))
+            last
+            (All-tail IsCovered contour (next ∷ more) covered)
+            (All-tail (HasPlans costing) contour (next ∷ more) plans)
+            (omega (arith, few))
+            passes.1 in
+            let sum = goes-on (most * (100 + threshold)) contour.cost next.cost optimal _ _ spent doubled.0 later in
+            omega (arith, passes.2, sum)
+        | inr enough ↦
+            let fits = All-head IsCovered contour (next ∷ more) covered enough in
+            let total = ends-here number contour (next ∷ more) before within here exhausted fits in
+            wins (most * (100 + threshold)) contour.cost optimal _ (omega (arith, total, spent)) first
+      ]
 
 -- every cost is some, and so is the optimal one
 cost-some : (costing : CostingTree) (p : PlanTree) (point : List ℕ) → 1 ≤ cost_of costing p point
@@ -161,9 +239,15 @@ all-of total optimal work most threshold a b spent near =
     let scaled : rate * (b * optimal) ≤ rate * (a * work) = mul-le-mul_left rate near in
     omega (arith, times, scaled)
 
-pub bound : (bouquet : BouquetTree) (work : PlanTree → ℕ)
-    → All (λ contour. All (IsPlan bouquet.costing.block) contour.plans) bouquet.contours → MeetsBound bouquet work (total_work bouquet work)
-bound bouquet work plans = λ sound point a b p is_point premise plan.
+-- a run that never skips a plan that fits is within the bound, whatever else it skips
+pub bound-skipping : (bouquet : BouquetTree) (work : PlanTree → ℕ) (skip : List Member → Member → Bool) (point : List ℕ) (a b : ℕ) (p : PlanTree)
+    → All (λ contour. All (IsPlan bouquet.costing.block) contour.plans) bouquet.contours
+    → IsPoint bouquet.costing.grid point → CostPremise bouquet.costing point a b work → IsPlan bouquet.costing.block p
+    → first_cost bouquet.contours ≤ optimal_cost bouquet.costing (bottom_of bouquet.costing.grid) → AreDoubled bouquet.contours
+    → optimal_cost bouquet.costing (top_of bouquet.costing.grid) ≤ last_cost bouquet.contours
+    → All (λ contour. optimal_cost bouquet.costing point ≤ contour.cost → FitsUnskipped bouquet.costing bouquet.threshold work skip point contour) bouquet.contours
+    → 100 * b * (end_of work (without_skipped skip [] (schedule bouquet)) (final_plan bouquet)).total ≤ 4 * a * (100 + bouquet.threshold) * most_plans bouquet.contours * work p
+bound-skipping bouquet work skip point a b p plans is_point premise plan first doubled last covered =
     let costing = bouquet.costing in
     let optimal = optimal_cost costing point in
     let most = most_plans bouquet.contours in
@@ -176,18 +260,53 @@ bound bouquet work plans = λ sound point a b p is_point premise plan.
     bouquet.threshold
     point
     work
+    skip
     (final_plan bouquet)
     optimal
     most
     1
     bouquet.contours
+    []
     premise.within
     some
-    sound.doubled
-    (omega (arith, sound.first, bottom))
-    (omega (arith, top, sound.last))
-    (sound.covered point is_point)
+    doubled
+    (omega (arith, first, bottom))
+    (omega (arith, top, last))
+    covered
     plans
-    (omega arith) in
+    (omega arith)
+    (All-nil (WasExhausted costing.block work)) in
     let near : b * optimal ≤ a * work p = omega (arith, mul-le-mul_left b (optimal-least costing p point plan), premise.near p plan) in
-    all-of (total_work bouquet work) optimal (work p) most bouquet.threshold a b (omega (arith, total)) near
+    all-of (end_of work (without_skipped skip [] (schedule bouquet)) (final_plan bouquet)).total optimal (work p) most bouquet.threshold a b (omega (arith, total)) near
+
+-- a rule that never skips leaves all
+abbrev never : List Member → Member → Bool
+never before member = false
+
+none-skipped : (before members : List Member) → without_skipped never before members ≡ members
+none-skipped before [] = refl
+none-skipped before (member ∷ more) = ap (λ others. member ∷ others) (none-skipped (before ++ member ∷ []) more)
+
+-- what fits isn't skipped then
+never-skipped : (costing : CostingTree) (threshold : ℕ) (work : PlanTree → ℕ) (point : List ℕ) (contour : ContourTree) → FitsAt costing threshold point contour
+    → FitsUnskipped costing threshold work never point contour
+never-skipped costing threshold work point contour fits = (fits.0, fits.1, fits.2, λ before member exhausted plan cost. refl)
+
+pub bound : (bouquet : BouquetTree) (work : PlanTree → ℕ)
+    → All (λ contour. All (IsPlan bouquet.costing.block) contour.plans) bouquet.contours → MeetsBound bouquet work (total_work bouquet work)
+bound bouquet work plans = λ sound point a b p is_point premise plan.
+    let costing = bouquet.costing in
+    let threshold = bouquet.threshold in
+    let optimal = optimal_cost costing point in
+    let covered =
+    All-weaker
+    (λ (contour : ContourTree). optimal ≤ contour.cost → FitsAt costing threshold point contour)
+    (λ (contour : ContourTree). optimal ≤ contour.cost → FitsUnskipped costing threshold work never point contour)
+    (λ (contour : ContourTree) (fits : optimal ≤ contour.cost → FitsAt costing threshold point contour) (enough : optimal ≤ contour.cost).
+    never-skipped costing threshold work point contour (fits enough))
+    bouquet.contours
+    (sound.covered point is_point) in
+    let skipped = bound-skipping bouquet work never point a b p plans is_point premise plan sound.first sound.doubled sound.last covered in
+    subst (λ (members : List Member).
+    100 * b * (end_of work members (final_plan bouquet)).total ≤ 4 * a * (100 + threshold) * most_plans bouquet.contours * work p)
+    (none-skipped [] (schedule bouquet)) skipped

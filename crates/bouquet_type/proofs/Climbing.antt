@@ -75,6 +75,11 @@ kept-climbed k contour is some first =
     rw rest (ladder-climbed (bouquet_tree k.bouquet) hand (contour_tree contour) (map contour_tree (drop 1 k.ahead))
     (subst (λ ahead. IsLadder (record { whole = bouquet_tree k.bouquet; hand = hand; ahead = map contour_tree ahead })) split is))
 
+-- on a contour there are as many executions as plans
+pub many-members : (budget number cost place : ℕ) (plans : List PlanTree) → length (members_on budget number cost place plans) ≡ length plans
+many-members budget number cost place [] = refl
+many-members budget number cost place (p ∷ more) = omega (arith, many-members budget number cost (place + 1) more)
+
 -- how many executions there are on contours
 pub few-members : (block : BlockTree) (threshold number : ℕ) (contours : List ContourTree) → All (AreTried block) contours
     → length (members_from threshold number contours) ≤ 4096 * length contours
@@ -82,8 +87,7 @@ few-members block threshold number [] are = omega arith
 few-members block threshold number (first ∷ more) are =
     let here = All-head (AreTried block) first more are in
     let budget = budget_of threshold first.cost in
-    let counted : length (members_on budget number first.plans) ≡ length first.plans =
-    length-map first.plans (λ (p : PlanTree). record { plan = p; budget = budget; contour = number }) in
-    let both = length-append (members_on budget number first.plans) (members_from threshold (number + 1) more) in
+    let counted = many-members budget number first.cost 1 first.plans in
+    let both = length-append (members_on budget number first.cost 1 first.plans) (members_from threshold (number + 1) more) in
     let later = few-members block threshold (number + 1) more (All-tail (AreTried block) first more are) in
     omega (arith, here.few, counted, both, later)

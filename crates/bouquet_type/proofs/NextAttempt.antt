@@ -9,7 +9,7 @@ use Rattle.bouquet_type.specs.Budgets.{budget_of}
 use Rattle.bouquet_type.specs.Schedule.{Member, final_of, final_plan, last_plan, members_on, members_from, schedule}
 use Rattle.bouquet_type.specs.Ladders.{AreTried, LadderState, IsLadder, StandsAtFoot, foot_of}
 use Rattle.bouquet_type.proofs.Climbing.{few-members}
-use Rattle.bouquet_type.specs.Cursor.{AttemptTree, ScheduleState, IsSchedule, IsWholeSchedule, TakesNext, first_attempt, members_behind, members_left}
+use Rattle.bouquet_type.specs.Cursor.{AttemptTree, ScheduleState, IsSchedule, IsWholeSchedule, StandsAtFirst, TakesNext, first_attempt, members_behind, members_left}
 
 -- the last of some plans, by its place
 last-placed : (plans : List PlanTree) (place : ℕ) → place + 1 ≡ length plans → slice_index_or plans place (Scan 0) ≡ last_plan plans
@@ -26,6 +26,14 @@ schedule_at ladder given budget number = record { ladder = ladder; given = given
 abbrev attempt_of : (budget : Option ℕ) → (contour : ℕ) → PlanTree → AttemptTree
 attempt_of budget contour plan = record { plan = plan; budget = budget; contour = contour }
 
+-- it stands at the first of those that are left, or none is left
+at-first : (left : List Member) (member : Member) (more : List Member) (s : ScheduleState) → left ≡ member ∷ more
+    → s.given ≡ member.place → s.ladder.hand.cost ≡ member.cost → StandsAtFirst left s
+at-first left member more s are place cost = subst (λ members. StandsAtFirst members s) (sym are) (place, cost)
+
+at-none : (left : List Member) (s : ScheduleState) → left ≡ [] → StandsAtFirst left s
+at-none left s none = subst (λ members. StandsAtFirst members s) (sym none) tt
+
 -- the next plan of the contour at hand
 pub next-plan : (ladder : LadderState) (given number : ℕ) (budget : Option ℕ) → IsSchedule (schedule_at ladder given budget number) → given < length ladder.hand.plans
     → TakesNext (schedule_at ladder given budget number) (schedule_at ladder (given + 1) budget number)
@@ -33,10 +41,11 @@ next-plan ladder given number None is more = absurd (omega (arith, more, is.ende
 next-plan ladder given number (Some budget) is more =
     let plans = ladder.hand.plans in
     let plan = slice_index_or plans given (Scan 0) in
+    let cost = ladder.hand.cost in
     let later = members_from ladder.whole.threshold (number + 1) ladder.ahead in
     let members : members_left (schedule_at ladder given (Some budget) number)
-    ≡ record { plan = plan; budget = budget; contour = number } ∷ (members_on budget number (drop (given + 1) plans) ++ later) =
-    ap (λ left. members_on budget number left ++ later) (drop_more plans given (Scan 0) more) in
+    ≡ record { plan = plan; budget = budget; contour = number; place = given + 1; cost = cost } ∷ (members_on budget number cost (given + 1 + 1) (drop (given + 1) plans) ++ later) =
+    ap (λ left. members_on budget number cost (given + 1) left ++ later) (drop_more plans given (Scan 0) more) in
     record {
       at = record {
         is = record { ladder = is.ladder; given = omega (arith, more); few = is.few; ended = tt };
@@ -44,6 +53,7 @@ next-plan ladder given number (Some budget) is more =
       };
       step = ap (λ place. attempt_of (Some budget) number (slice_index_or plans place (Scan 0))) (omega arith)
           ∙ sym (ap (λ left. first_attempt left (final_plan ladder.whole)) members);
+      first = at-first (members_left (schedule_at ladder given (Some budget) number)) _ _ (schedule_at ladder (given + 1) (Some budget) number) members refl refl;
       left = sym (ap members_behind members);
       whole = refl;
     }
@@ -52,7 +62,7 @@ next-plan ladder given number (Some budget) is more =
 all-given : (ladder : LadderState) (given number budget : ℕ) → given ≡ length ladder.hand.plans
     → members_left (schedule_at ladder given (Some budget) number) ≡ members_from ladder.whole.threshold (number + 1) ladder.ahead
 all-given ladder given number budget all =
-    ap (λ left. members_on budget number left ++ members_from ladder.whole.threshold (number + 1) ladder.ahead)
+    ap (λ left. members_on budget number ladder.hand.cost (given + 1) left ++ members_from ladder.whole.threshold (number + 1) ladder.ahead)
     (drop_all given ladder.hand.plans (omega (arith, all)))
 
 -- the first plan of the next contour
@@ -70,19 +80,21 @@ next-contour old new given number cap (Some budget) is all climbed whole ahead c
     let threshold = new.whole.threshold in
     let later = members_from threshold (number + 1 + 1) new.ahead in
     let plans = new.hand.plans in
-    let first : Member = record { plan = slice_index_or plans 0 (Scan 0); budget = cap; contour = number + 1 } in
-    let members : members_left (schedule_at old given (Some budget) number) ≡ first ∷ (members_on cap (number + 1) (drop 1 plans) ++ later) =
+    let cost = new.hand.cost in
+    let first : Member = record { plan = slice_index_or plans 0 (Scan 0); budget = cap; contour = number + 1; place = 1; cost = cost } in
+    let members : members_left (schedule_at old given (Some budget) number) ≡ first ∷ (members_on cap (number + 1) cost 2 (drop 1 plans) ++ later) =
     all-given old given number budget all
     ∙ ap (λ (w : BouquetTree). members_from w.threshold (number + 1) old.ahead) (sym whole)
     ∙ ap (members_from threshold (number + 1)) ahead
-    ∙ ap (λ n. members_on n (number + 1) plans ++ later) (sym cap_is)
-    ∙ ap (λ left. members_on cap (number + 1) left ++ later) (first-of plans some) in
+    ∙ ap (λ n. members_on n (number + 1) cost 1 plans ++ later) (sym cap_is)
+    ∙ ap (λ left. members_on cap (number + 1) cost 1 left ++ later) (first-of plans some) in
     record {
       at = record {
         is = record { ladder = climbed; given = some; few = omega (arith, is.few, ap length ahead); ended = tt };
         some = omega arith;
       };
       step = sym (ap (λ left. first_attempt left (final_plan old.whole)) members);
+      first = at-first (members_left (schedule_at old given (Some budget) number)) first _ (schedule_at new 1 (Some cap) (number + 1)) members refl refl;
       left = sym (ap members_behind members);
       whole = whole;
     }
@@ -108,6 +120,7 @@ next-last ladder given number budget is all none =
       };
       step = ap (attempt_of None 0) (ap (λ place. slice_index_or plans (place - 1) (Scan 0)) all ∙ last-placed plans (length plans - 1) (omega (arith, some)) ∙ sym final)
           ∙ sym (ap (λ left. first_attempt left (final_plan ladder.whole)) members);
+      first = at-none (members_left (schedule_at ladder given budget number)) (schedule_at ladder given None number) members;
       left = sym (ap members_behind members);
       whole = refl;
     }

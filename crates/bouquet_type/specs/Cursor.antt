@@ -32,7 +32,7 @@ attempt_tree attempt = record { plan = plan_tree attempt.plan.now; budget = atte
 abbrev pub members_at : (budget : Option ℕ) → ScheduleState → List Member
 members_at None s = []
 members_at (Some budget) s =
-    members_on budget s.number (drop s.given s.ladder.hand.plans) ++ members_from s.ladder.whole.threshold (s.number + 1) s.ladder.ahead
+    members_on budget s.number s.ladder.hand.cost (s.given + 1) (drop s.given s.ladder.hand.plans) ++ members_from s.ladder.whole.threshold (s.number + 1) s.ladder.ahead
 
 abbrev pub members_left : ScheduleState → List Member
 members_left s = members_at s.budget s
@@ -75,10 +75,16 @@ pub record IsAtAttempt (s : ScheduleState) : Type 0 where
   pub is : IsSchedule s
   pub some : 1 ≤ s.given
 
+-- it stands at the first of some executions under budgets, where there is one: at its place, on a contour of its cost
+abbrev pub StandsAtFirst : List Member → ScheduleState → Type 0
+StandsAtFirst [] s = ⊤
+StandsAtFirst (member ∷ more) s = (s.given ≡ member.place) × (s.ladder.hand.cost ≡ member.cost)
+
 -- the schedule of the same bouquet stands at the next execution, and those behind it are left
 pub record TakesNext (old new : ScheduleState) : Type 0 where
   pub at : IsAtAttempt new
   pub step : attempt_at new ≡ first_attempt (members_left old) (final_plan old.ladder.whole)
+  pub first : StandsAtFirst (members_left old) new
   pub left : members_left new ≡ members_behind (members_left old)
   pub whole : new.ladder.whole ≡ old.ladder.whole
 

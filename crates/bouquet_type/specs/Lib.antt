@@ -8,5 +8,6 @@ pub mod Ladders
 pub mod Kept
 pub mod Cursor
 pub mod Runs
+pub mod Skipping
 pub mod Bounded
 pub mod Reports

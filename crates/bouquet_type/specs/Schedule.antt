@@ -1,23 +1,29 @@
 -- In which order a bouquet's plans are executed, and by which budgets.
-use Rattle.std.specs.Prelude.{ℕ, ◌+◌, ◌++◌, List, [], ◌∷◌, map}
+use Rattle.std.specs.Prelude.{ℕ, ◌+◌, ◌++◌, List, [], ◌∷◌}
 use Rattle.plan_tree.specs.Plans.{PlanTree, Scan}
 use Rattle.bouquet_type.specs.Trees.{BouquetTree, ContourTree}
 use Rattle.bouquet_type.specs.Budgets.{budget_of}
 
--- an execution under a budget: its plan, the budget, and the contour's number, from 1
+-- an execution under a budget: its plan, the budget, the contour's number, from 1, the plan's place among those of the contour,
+-- from 1, and what the contour costs
 pub record Member : Type 0 where
   pub plan : PlanTree
   pub budget : ℕ
   pub contour : ℕ
+  pub place : ℕ
+  pub cost : ℕ
 
-abbrev pub members_on : (budget contour : ℕ) → List PlanTree → List Member
-members_on budget contour plans = map (λ p. record { plan = p; budget = budget; contour = contour }) plans
+-- those on a contour, of which the first has this place
+abbrev pub members_on : (budget contour cost place : ℕ) → List PlanTree → List Member
+members_on budget contour cost place [] = []
+members_on budget contour cost place (p ∷ more) =
+    record { plan = p; budget = budget; contour = contour; place = place; cost = cost } ∷ members_on budget contour cost (place + 1) more
 
 -- those of contours of which the first has this number
 abbrev pub members_from : (threshold number : ℕ) → List ContourTree → List Member
 members_from threshold number [] = []
 members_from threshold number (contour ∷ more) =
-    members_on (budget_of threshold contour.cost) number contour.plans ++ members_from threshold (number + 1) more
+    members_on (budget_of threshold contour.cost) number contour.cost 1 contour.plans ++ members_from threshold (number + 1) more
 
 -- the executions under budgets, in order
 abbrev pub schedule : BouquetTree → List Member
