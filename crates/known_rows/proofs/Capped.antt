@@ -29,8 +29,9 @@ product-capped a b =
 pub nest-capped : (l r out : ℕ) → capped (nest_work (capped l) (capped r) (capped out)) ≡ capped (nest_work l r out)
 nest-capped l r out = omega (arith, product-capped l r)
 
-pub index_loop-capped : (height l out : ℕ) → capped (index_loop_work height (capped l) (capped out) (capped out)) ≡ capped (index_loop_work height l out out)
-index_loop-capped height l out = omega (arith, one-capped (2 * height) l)
+pub index_loop-capped : (height l known out : ℕ) → known < 2 ^ 64
+    → capped (index_loop_work height (capped l) (max (capped out) known) (capped out)) ≡ capped (index_loop_work height l (max out known) out)
+index_loop-capped height l known out small = omega (arith, one-capped (2 * height) l, small)
 
 pub index_scan-capped : (height out : ℕ) → capped (least_index_scan height (capped out)) ≡ capped (least_index_scan height out)
 index_scan-capped height out = omega arith

@@ -1,16 +1,16 @@
 -- The least rows and the least work of a plan, by numbers that are capped of its sides.
-use Rattle.std.proofs.Common.{◌≡◌, ℕ, ◌^◌, ◌<◌, List, ap, sym, ◌∙◌}
+use Rattle.std.proofs.Common.{◌≡◌, ℕ, ◌^◌, ◌<◌, List, max, ap, sym, ◌∙◌}
 use Rattle.sql_values.specs.Stored.{StoredTable}
 use Rattle.query_block.specs.Blocks.{BlockTree, relation_at}
 use Rattle.plan_tree.specs.Plans.{PlanTree, IndexScan, Nest, IndexLoop, covers_of}
 use Rattle.plan_tree.specs.Enumerated.{column_on, edge_at}
 use Rattle.plan_tree.specs.Work.{height_in, nest_work, index_loop_work}
 use Rattle.known_rows.specs.Capped.{capped}
-use Rattle.known_rows.specs.Known.{known_of}
+use Rattle.known_rows.specs.Known.{KnownState, known_entries, known_of}
 use Rattle.known_rows.specs.LeastWork.{least_index_scan, least_of_pairs, least_own, least_rows}
 use Rattle.known_rows.proofs.Capped.{index_loop-capped, index_scan-capped, nest-capped, pairs-capped}
 
-module _ (tables : List StoredTable) (block : BlockTree) (known : List ℕ) where
+module _ (tables : List StoredTable) (block : BlockTree) (known : KnownState) where
   abbrev Rows : PlanTree → ℕ → Type 0
   Rows p n = n ≡ capped (least_rows tables block known p)
 
@@ -46,12 +46,13 @@ module _ (tables : List StoredTable) (block : BlockTree) (known : List ℕ) wher
         (λ i. capped (nest_work (few i) (few' i) (some i))) ∙ nest-capped L R (O p) ∙ (λ i. capped (nest_work L R (O (is i))))
         ∙ ap (λ q. capped (least_own tables block known q)) (sym is)
 
-  pub own-index_loop : (p left : PlanTree) (edge relation height l out : ℕ) → Rows left l → Rows p out → p ≡ IndexLoop edge left relation
+  pub own-index_loop : (p left : PlanTree) (edge relation height found l out : ℕ) → Rows left l → Rows p out → p ≡ IndexLoop edge left relation
       → height ≡ height_in tables (relation_at block.relations relation) (column_on (edge_at block.edges edge) relation)
-      → capped (index_loop_work height l out out) ≡ capped (least_own tables block known p)
-  own-index_loop p left edge relation height l out few some is levels =
+      → found ≡ known_entries known edge (covers_of left) → found < 2 ^ 64
+      → capped (index_loop_work height l (max out found) out) ≡ capped (least_own tables block known p)
+  own-index_loop p left edge relation height found l out few some is levels entries small =
       let tall = height_in tables (relation_at block.relations relation) (column_on (edge_at block.edges edge) relation) in
       let rows = λ (q : PlanTree). least_rows tables block known q in
-      (λ i. capped (index_loop_work (levels i) (few i) (some i) (some i))) ∙ index_loop-capped tall (rows left) (rows p)
-      ∙ (λ i. capped (index_loop_work tall (rows left) (rows (is i)) (rows (is i))))
+      (λ i. capped (index_loop_work (levels i) (few i) (max (some i) found) (some i))) ∙ index_loop-capped tall (rows left) found (rows p) small
+      ∙ (λ i. capped (index_loop_work tall (rows left) (max (rows (is i)) (entries i)) (rows (is i))))
       ∙ ap (λ q. capped (least_own tables block known q)) (sym is)

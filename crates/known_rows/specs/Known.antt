@@ -1,22 +1,41 @@
--- How many rows sets of relations are known to have, at the least.
-use Rattle.std.specs.Prelude.{ℕ, ◌≤◌, List, length, max, replicate, slice_index_or, slice_set}
+-- What is known of numbers, at the least: how many rows sets of relations have, and how many entries of indexes edges find for
+-- these rows.
+use Rattle.std.specs.Prelude.{ℕ, ◌≤◌, List, [], length, max, replicate, slice_index_or, slice_set}
+use Rattle.sql_values.specs.Limits.{max_axes}
 use Rattle.sql_values.specs.Stored.{StoredTable}
 use Rattle.query_block.specs.Blocks.{BlockTree}
 use Rattle.query_block.specs.Meaning.{rows_of}
 use Rattle.plan_tree.specs.Sets.{set_of}
+use Rattle.known_rows.specs.Entries.{entries_found}
 
--- how many rows a set is known to have, at the least; the set as a number, bit r for relation r
-abbrev pub known_of : (known : List ℕ) → (set : ℕ) → ℕ
-known_of known set = slice_index_or known set 0
+-- of each set how many rows, and of each edge, for each set, how many entries; a set by its number, bit r for relation r
+pub record KnownState : Type 0 where
+  pub rows : List ℕ
+  pub entries : List (List ℕ)
 
--- what is known is so: no set has fewer rows
-abbrev pub AreKnown : List StoredTable → BlockTree → (known : List ℕ) → Type 0
-AreKnown tables block known = (set : ℕ) → known_of known set ≤ length (rows_of tables block (set_of set))
+-- how many rows a set is known to have, at the least
+abbrev pub known_of : (known : KnownState) → (set : ℕ) → ℕ
+known_of known set = slice_index_or known.rows set 0
+
+-- how many entries an edge is known to find for the rows of a set, at the least
+abbrev pub known_entries : (known : KnownState) → (edge set : ℕ) → ℕ
+known_entries known edge set = slice_index_or (slice_index_or known.entries edge []) set 0
+
+-- what is known is so: no set has fewer rows, and for no set's rows an edge finds fewer entries
+pub record AreKnown (tables : List StoredTable) (block : BlockTree) (known : KnownState) : Type 0 where
+  pub rows : (set : ℕ) → known_of known set ≤ length (rows_of tables block (set_of set))
+  pub entries : (edge set : ℕ) → known_entries known edge set ≤ entries_found tables block edge (set_of set)
 
 -- it is learned that a set has at least so many rows; of a set that has no place nothing is learned
-abbrev pub learned : (known : List ℕ) → (set rows : ℕ) → List ℕ
-learned known set rows = slice_set known set (max (known_of known set) rows)
+abbrev pub learned : (known : KnownState) → (set rows : ℕ) → KnownState
+learned known set rows = record known { rows = slice_set known.rows set (max (known_of known set) rows) }
+
+-- it is learned that an edge finds at least so many entries for the rows of a set; so too
+abbrev pub learned_entries : (known : KnownState) → (edge set entries : ℕ) → KnownState
+learned_entries known edge set entries =
+    let of_edge = slice_index_or known.entries edge [] in
+    record known { entries = slice_set known.entries edge (slice_set of_edge set (max (known_entries known edge set) entries)) }
 
 -- nothing is known of the sets of six relations
-abbrev pub nothing_known : List ℕ
-nothing_known = replicate 64 0
+abbrev pub nothing_known : KnownState
+nothing_known = record { rows = replicate 64 0; entries = replicate max_axes (replicate 64 0) }

@@ -1,6 +1,7 @@
--- The least work that a plan can take, by what is known of numbers of rows. Each node adds its line of the table of work. What
--- is known stands in it for the rows that nodes give, and for candidates, of which a join has no fewer than it gives. What
--- tables and indexes tell without work is exact: rows, pages and heights.
+-- The least work that a plan can take, by what is known of numbers of rows and entries. Each node adds its line of the table of
+-- work. What is known stands in it for the rows that nodes give, and for candidates, of which a join has no fewer than it gives,
+-- and an index loop no fewer than its edge is known to find. What tables and indexes tell without work is exact: rows, pages and
+-- heights.
 use Rattle.std.specs.Prelude.{ℕ, ◌+◌, ◌*◌, ◌^◌, Bool, List, [], ◌∷◌, length, max, if◌then◌else◌}
 use Rattle.std.specs.List.{list_any}
 use Rattle.sql_values.specs.Stored.{StoredTable}
@@ -13,7 +14,7 @@ use Rattle.plan_tree.specs.Plans.{PlanTree, Scan, IndexScan, Nest, Hash, Merge, 
 use Rattle.plan_tree.specs.Enumerated.{column_on, edge_at}
 use Rattle.plan_tree.specs.Sets.{is_between}
 use Rattle.plan_tree.specs.Work.{height_in, table_rows, scan_work, nest_work, hash_work, merge_work, index_loop_work}
-use Rattle.known_rows.specs.Known.{known_of}
+use Rattle.known_rows.specs.Known.{KnownState, known_entries, known_of}
 
 -- how many rows of a table a filter keeps, at the least: all, where it has no conjunct
 abbrev pub kept_at_least : (filter : List FilterTree) → (all known : ℕ) → ℕ
@@ -21,7 +22,7 @@ kept_at_least [] all known = all
 kept_at_least (conjunct ∷ conjuncts) all known = known
 
 -- how many rows a leaf gives, at the least
-abbrev pub least_of_leaf : List StoredTable → BlockTree → (known : List ℕ) → (relation : ℕ) → ℕ
+abbrev pub least_of_leaf : List StoredTable → BlockTree → (known : KnownState) → (relation : ℕ) → ℕ
 least_of_leaf tables block known relation =
     let own = relation_at block.relations relation in
     kept_at_least own.filter (length (table_rows tables own)) (known_of known (2 ^ relation))
@@ -36,7 +37,7 @@ least_of_pairs edges left right known l r =
     if are_joined edges (has_leaf left) (has_leaf right) then known else max known (l * r)
 
 -- how many rows a plan gives, at the least
-abbrev pub least_rows : List StoredTable → BlockTree → (known : List ℕ) → PlanTree → ℕ
+abbrev pub least_rows : List StoredTable → BlockTree → (known : KnownState) → PlanTree → ℕ
 least_rows tables block known (Scan relation) = least_of_leaf tables block known relation
 least_rows tables block known (IndexScan relation column) = least_of_leaf tables block known relation
 least_rows tables block known (Nest left right) =
@@ -51,7 +52,7 @@ abbrev pub least_index_scan : (height out : ℕ) → ℕ
 least_index_scan height out = open_charge + node_charge * height + (entry_charge + fetch_charge) * out + out
 
 -- the least work of the outermost node of a plan by itself
-abbrev pub least_own : List StoredTable → BlockTree → (known : List ℕ) → PlanTree → ℕ
+abbrev pub least_own : List StoredTable → BlockTree → (known : KnownState) → PlanTree → ℕ
 least_own tables block known (Scan relation) =
     scan_work tables (relation_at block.relations relation) (least_of_leaf tables block known relation)
 least_own tables block known (IndexScan relation column) =
@@ -66,11 +67,12 @@ least_own tables block known (Merge edge left right) =
     merge_work (least_rows tables block known left) (least_rows tables block known right) out out
 least_own tables block known (IndexLoop edge left relation) =
     let out = least_rows tables block known (IndexLoop edge left relation) in
+    let found = max out (known_entries known edge (covers_of left)) in
     index_loop_work (height_in tables (relation_at block.relations relation) (column_on (edge_at block.edges edge) relation))
-    (least_rows tables block known left) out out
+    (least_rows tables block known left) found out
 
 -- the least work of a plan: that of all of its nodes
-abbrev pub least_work : List StoredTable → BlockTree → (known : List ℕ) → PlanTree → ℕ
+abbrev pub least_work : List StoredTable → BlockTree → (known : KnownState) → PlanTree → ℕ
 least_work tables block known (Scan relation) = least_own tables block known (Scan relation)
 least_work tables block known (IndexScan relation column) = least_own tables block known (IndexScan relation column)
 least_work tables block known (Nest left right) =

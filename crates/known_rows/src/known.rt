@@ -1,23 +1,29 @@
-// How many rows sets of relations are known to have, at the least, by the numbers of the sets.
+// How many rows sets of relations are known to have, at the least, and how many entries edges find for these rows, by the
+// numbers of the sets and the edges.
 ghost use Rattle.std.specs.Prelude.{◌≡◌};
-ghost use Rattle.known_rows.specs.Known.{known_of, learned, nothing_known};
+ghost use Rattle.known_rows.specs.Known.{known_entries, known_of, learned, learned_entries, nothing_known};
 
 use plan_tree::Subset;
+use sql_values::MAX_AXES;
 use std::marker::Model;
 
-/// How many rows sets of at most six relations are known to have, at the least. It is seen as a list: place s is of the set
-/// that is seen as the number s.
+/// How many rows sets of at most six relations are known to have, and how many entries each edge of a block is known to find
+/// for these rows, at the least. Place s is of the set that is seen as the number s.
 #[derive(Drop)]
 pub struct KnownRows {
     rows: [u64; 64],
+    entries: [[u64; 64]; MAX_AXES],
 }
 
 impl Model for KnownRows {
-    ghost use Rattle.std.specs.Prelude.{ℕ, List};
+    ghost use Rattle.known_rows.specs.Known.{KnownState};
 
-    ghost Value = { List ℕ };
+    ghost Value = { KnownState };
 
-    ghost view = { λ k. k.rows };
+    ghost view = { λ k. record {
+      rows = k.rows;
+      entries = k.entries;
+    } };
 }
 
 impl KnownRows {
@@ -25,7 +31,10 @@ impl KnownRows {
     pub fn new() -> KnownRows
         ensures { result ≡ nothing_known }
     {
-        KnownRows { rows: [0; 64] }
+        KnownRows {
+            rows: [0; 64],
+            entries: [[0; 64]; MAX_AXES],
+        }
     }
 
     /// A set has at least so many rows. Of a set with a relation above 5 nothing is learned.
@@ -38,6 +47,18 @@ impl KnownRows {
         }
     }
 
+    /// An edge, by its number in the block, finds at least so many entries for the rows of a set. Of an edge above 5, and of a
+    /// set with a relation above 5, nothing is learned.
+    pub fn learn_entries(&mut self, edge: u8, set: Subset, entries: u64)
+        ensures { self.new ≡ learned_entries self.old edge set entries }
+    {
+        let edge = edge as usize;
+        let place = set.number() as usize;
+        if edge < self.entries.len() && place < self.entries[edge].len() {
+            self.entries[edge][place] = self.entries[edge][place].max(entries);
+        }
+    }
+
     /// How many rows a set is known to have.
     pub(crate) fn rows(&self, set: Subset) -> u64
         ensures { result ≡ known_of self.now set }
@@ -45,6 +66,19 @@ impl KnownRows {
         let place = set.number() as usize;
         if place < self.rows.len() {
             self.rows[place]
+        } else {
+            0
+        }
+    }
+
+    /// How many entries an edge is known to find for the rows of a set.
+    pub(crate) fn entries(&self, edge: u8, set: Subset) -> u64
+        ensures { result ≡ known_entries self.now edge set }
+    {
+        let edge = edge as usize;
+        let place = set.number() as usize;
+        if edge < self.entries.len() && place < self.entries[edge].len() {
+            self.entries[edge][place]
         } else {
             0
         }

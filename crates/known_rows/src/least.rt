@@ -1,5 +1,5 @@
-// The least work of a plan, by what is known of numbers of rows. Each function that calls itself does so for the sides of a
-// join, so the stack that it takes is bounded by how deep the plan is.
+// The least work of a plan, by what is known of numbers of rows and entries. Each function that calls itself does so for the
+// sides of a join, so the stack that it takes is bounded by how deep the plan is.
 ghost use Rattle.std.specs.Prelude.{◌≡◌, ◌-◌, ◌^◌, ◌<◌, length, min};
 ghost use Rattle.query_block.specs.Blocks.{block_tree, relation_at};
 ghost use Rattle.plan_tree.specs.Plans.{covers_of, has_leaf, plan_tree};
@@ -160,7 +160,8 @@ impl KnownRows {
             Plan::IndexLoop(edge, left, relation) => {
                 let column = column_of_edge(block, *edge, *relation);
                 let levels = height(block, meter, *relation, column);
-                line::index_loop(levels, self.least_rows(block, meter, left), out)
+                let found = out.max(u128::from(self.entries(*edge, relations_of(block, left))));
+                line::index_loop(levels, self.least_rows(block, meter, left), found, out)
             }
         }
     }

@@ -56,11 +56,11 @@ pub(crate) fn merge(l: u128, r: u128, out: u128) -> u128
     sides.saturating_add(out).saturating_add(out)
 }
 
-/// An index loop, by an index of so many levels, that finds as many candidates as rows.
-pub(crate) fn index_loop(height: u32, l: u128, out: u128) -> u128
-    ensures { result ≡ capped (index_loop_work height l out out) }
+/// An index loop, by an index of so many levels, that finds so many entries.
+pub(crate) fn index_loop(height: u32, l: u128, found: u128, out: u128) -> u128
+    ensures { result ≡ capped (index_loop_work height l found out) }
 {
     let descents = (charge::NODE * u128::from(height)).saturating_mul(l);
-    let found = out.saturating_mul(charge::ENTRY + charge::FETCH + charge::PAIR);
-    descents.saturating_add(found).saturating_add(out)
+    let looks = found.saturating_mul(charge::ENTRY + charge::FETCH + charge::PAIR);
+    descents.saturating_add(looks).saturating_add(out)
 }

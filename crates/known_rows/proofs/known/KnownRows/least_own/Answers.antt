@@ -1,9 +1,10 @@
-use Rattle.std.proofs.Common.{◌≡◌, ap, ◌∙◌, rules}
+use Rattle.std.proofs.Common.{◌≡◌, max, ap, ◌∙◌, arith, rules}
 use Rattle.query_block.specs.Blocks.{block_tree, relation_at}
 use Rattle.plan_tree.specs.declared.plan.Plan.{Plan, the_lemmas}
-use Rattle.plan_tree.specs.Plans.{IndexScan, Nest, IndexLoop, plan_tree}
-use Rattle.plan_tree.specs.Work.{height_in}
+use Rattle.plan_tree.specs.Plans.{IndexScan, Nest, IndexLoop, covers_of, plan_tree}
+use Rattle.plan_tree.specs.Work.{height_in, index_loop_work}
 use Rattle.known_rows.specs.Capped.{capped}
+use Rattle.known_rows.specs.Known.{known_entries}
 use Rattle.known_rows.specs.LeastWork.{least_rows}
 use Rattle.known_rows.proofs.Nodes.{own-index_scan, own-nest, own-index_loop}
 use Rattle.known_rows.proofs.known.KnownRows.least_own.Goals as goal
@@ -40,7 +41,11 @@ returns-in-IndexLoop c =
     let relation = c.in-IndexLoop.relation in
     let tree : plan_tree c.args.p.now ≡ IndexLoop edge left relation = search (rules, the_lemmas) in
     let rows = λ (p : Plan). capped (least_rows tables block known (plan_tree p)) in
+    let more : c.max-found.result ≡ max c.least_rows-out.result c.entries.result = omega (arith, c.max-found.ensures, c.from.ensures) in
+    let of_left = ap (λ set. known_entries known edge set) (c.relations_of.ensures ∙ ap (λ (p : Plan). covers_of (plan_tree p)) c.deref-in-IndexLoop.ensures) in
     c.index_loop.ensures
-    ∙ own-index_loop tables block known (plan_tree c.args.p.now) left edge relation c.height-levels.result c.least_rows-in-IndexLoop.result c.least_rows-out.result
-    (c.least_rows-in-IndexLoop.ensures ∙ ap rows c.deref-in-IndexLoop.ensures) c.least_rows-out.ensures tree
+    ∙ (λ i. capped (index_loop_work c.height-levels.result c.least_rows-in-IndexLoop.result (more i) c.least_rows-out.result))
+    ∙ own-index_loop tables block known (plan_tree c.args.p.now) left edge relation c.height-levels.result c.entries.result c.least_rows-in-IndexLoop.result c.least_rows-out.result
+    (c.least_rows-in-IndexLoop.ensures ∙ ap rows c.deref-in-IndexLoop-2.ensures) c.least_rows-out.ensures tree
     (c.height-levels.ensures ∙ ap (height_in tables (relation_at block.relations relation)) c.column_of_edge-column.ensures)
+    (c.entries.ensures ∙ of_left) c.entries.type_inv
