@@ -1,12 +1,10 @@
--- Every plan works and costs something, every block has a plan, and its rows have a word.
-use Rattle.std.proofs.Common.{◌≡◌, inl, inr, ℕ, ◌≤◌, List, [], ◌∷◌, length, map, sum_by, refl, subst, sym, arith}
+-- Every plan works and costs something, and every block has a plan.
+use Rattle.std.proofs.Common.{◌≡◌, inl, inr, ℕ, ◌≤◌, List, [], ◌∷◌, length, map, refl, subst, sym, arith}
 use Rattle.std.specs.Prelude.{All}
 use Rattle.std.proofs.lemmas.List.Elements.{All-nil, All-cons, All-head}
-use Rattle.std.proofs.lemmas.List.Sums.{sum_by-cons}
 use Rattle.sql_values.specs.declared.value.Value.{Value}
 use Rattle.sql_values.specs.Stored.{StoredTable}
-use Rattle.query_block.specs.declared.kind.Kind.{Kind}
-use Rattle.query_block.specs.Blocks.{BlockTree, RelationTree, IsRelation, IsBlock, IsPutOf, block_tree, put_of, width_of}
+use Rattle.query_block.specs.Blocks.{BlockTree, IsBlock, IsPutOf, block_tree, put_of}
 use Rattle.plan_tree.specs.Plans.{PlanTree, Scan, IndexScan, Nest, Hash, Merge, IndexLoop, plan_tree}
 use Rattle.plan_tree.specs.declared.plan.Plan.{Plan}
 use Rattle.plan_tree.specs.Enumerated.{IsPlan}
@@ -62,15 +60,6 @@ pub plans_some : (bouquet : BouquetShape) (block : BlockTree) → IsBouquet bouq
     → 1 ≤ length (plans_of block)
 plans_some bouquet block is put =
     subst (λ put. 1 ≤ length (plans_of put)) (sym put.is) (on-contours (block_tree bouquet.block) put.values bouquet.contours is.some is.contours)
-
-words-some : (kinds : List Kind) (relations : List RelationTree) → 1 ≤ length relations → All (IsRelation kinds) relations
-    → 1 ≤ sum_by (λ relation. length relation.columns) relations
-words-some kinds [] some are = absurd (omega (arith, some))
-words-some kinds (relation ∷ relations) some are =
-    omega (arith, (All-head (IsRelation kinds) relation relations are).some, sum_by-cons (λ (r : RelationTree). length r.columns) relation relations)
-
-pub words_some : (block : BlockTree) → IsBlock block → 1 ≤ width_of block
-words_some block is = words-some block.parameters block.relations is.some is.relations
 
 -- all plans of a block are its plans
 each-listed : (block : BlockTree) (plans : List Plan) → ((p : PlanTree) → IsIn p (map plan_tree plans) → IsPlan block p)

@@ -6,3 +6,4 @@ pub mod Meets
 pub mod OneCompiled
 pub mod Climbing
 pub mod NextAttempt
+pub mod Wide

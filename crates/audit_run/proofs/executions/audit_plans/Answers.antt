@@ -4,7 +4,8 @@ use Rattle.plan_tree.specs.Plans.{plan_tree}
 use Rattle.bouquet_type.specs.Trees.{bouquet_tree}
 use Rattle.audit_run.specs.Measures.{measure_of}
 use Rattle.audit_run.specs.Executed.{measure}
-use Rattle.audit_run.proofs.Some.{words_some, plans_some, put-is-block}
+use Rattle.bouquet_type.proofs.Wide.{words_some}
+use Rattle.audit_run.proofs.Some.{plans_some, put-is-block}
 use Rattle.audit_run.proofs.Between.{begins, next-figures, told}
 use Rattle.audit_run.proofs.executions.audit_plans.Goals as goal
 

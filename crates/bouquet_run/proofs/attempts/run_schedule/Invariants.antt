@@ -2,7 +2,7 @@ use Rattle.std.proofs.Common.{length}
 use Rattle.query_block.specs.Blocks.{block_tree}
 use Rattle.exec_pipe.specs.Counting.{Knows}
 use Rattle.bouquet_type.specs.Cursor.{members_left, schedule_of}
-use Rattle.bouquet_run.proofs.Between.{IsBetween}
+use Rattle.bouquet_run.specs.Between.{IsBetween}
 use Rattle.bouquet_run.proofs.attempts.run_schedule.Given as goal
 
 abbrev pub invariant-steps : goal.invariant-steps

@@ -6,8 +6,8 @@ use Rattle.db_catalog.specs.Database.{DatabaseState}
 use Rattle.db_catalog.specs.Meter.{MeterState}
 use Rattle.bouquet_type.specs.Runs.{RunEnd, run_end}
 use Rattle.bouquet_type.specs.Reports.{told_end}
+use Rattle.bouquet_type.proofs.Wide.{words_some}
 use Rattle.bouquet_run.specs.Outcomes.{works_over}
-use Rattle.audit_run.proofs.Some.{words_some}
 use Rattle.session.specs.Outcome.{Outcome, Prints, Refuses}
 use Rattle.session.specs.Printed.{answer_text}
 use Rattle.session.specs.declared.refusal.Refusal.TheVariants as refusal
