@@ -31,7 +31,7 @@ pub plan-of-put : (block put : BlockTree) (p : PlanTree) → IsPutOf block put �
 plan-of-put block put p is plan = subst (λ b. IsPlan b p) (sym is.is) ((put-plan is.values block p).1 plan)
 
 -- what is left alone stays so
-stays-on : (one other another : MeterState) (space next last : Space) → OnlyRuns one other space next → OnlyRuns other another next last → OnlyRuns one another space last
+pub stays-on : (one other another : MeterState) (space next last : Space) → OnlyRuns one other space next → OnlyRuns other another next last → OnlyRuns one another space last
 stays-on one other another space next last before after = record {
   never_falls = omega (arith, before.never_falls, after.never_falls);
   database = after.database ∙ before.database;

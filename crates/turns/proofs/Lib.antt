@@ -1,0 +1,6 @@
+pub mod FreshJob
+pub mod JobsTurned
+pub mod TurnsTaken
+pub mod Rounds
+pub mod NextTurn
+pub mod RunAlone

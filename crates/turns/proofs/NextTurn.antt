@@ -1,0 +1,84 @@
+-- What a turn makes of a job that runs.
+use Rattle.std.proofs.Common.{◌≡◌, ◌∙◌, ℕ, ℤ, ◌+◌, ◌≤◌, List, [], ◌∷◌, refl, ap, sym, subst, arith}
+use Rattle.std.specs.Prelude.{All, Option, Some, None, Result, Ok, Err}
+use Rattle.row_stack.specs.declared.space.Space.{Space}
+use Rattle.query_block.specs.Blocks.{BlockTree, IsPutOf, width_of}
+use Rattle.plan_tree.specs.Plans.{PlanTree}
+use Rattle.plan_tree.specs.Enumerated.{IsPlan}
+use Rattle.db_catalog.specs.Database.{DatabaseState}
+use Rattle.db_catalog.specs.Fits.{Fits}
+use Rattle.db_catalog.specs.Meter.{MeterState}
+use Rattle.exec_pipe.specs.Runs.{OnlyRuns, OnlyRunsWithin}
+use Rattle.exec_pipe.specs.Scenes.{IsContext, IsEmptyContext}
+use Rattle.bouquet_type.specs.Trees.{BouquetTree}
+use Rattle.bouquet_type.specs.Schedule.{final_plan}
+use Rattle.bouquet_type.specs.Cursor.{AttemptTree, ScheduleState, TakesNext, attempt_at, members_behind, members_left}
+use Rattle.bouquet_type.specs.Reports.{told_end}
+use Rattle.bouquet_type.specs.declared.report.Report.{Report}
+use Rattle.bouquet_type.specs.declared.report.RunFault.{RunFault}
+use Rattle.bouquet_type.specs.declared.report.RunFault.TheVariants.{WorkLimit, NoMemory}
+use Rattle.run_step.specs.Coming.{Coming, Passes, Ends, GoesOn, TellsStep, coming}
+use Rattle.bouquet_run.specs.Between.{IsBetween}
+use Rattle.bouquet_run.specs.Outcomes.{AnswersRun, works_over}
+use Rattle.bouquet_run.proofs.Between.{answered, between, plan-of-put, refused, stays-on}
+use Rattle.turns.specs.Standing.{JobTask, Standing, Runs, Ended, Past, Lost, next_attempt, next_coming, stands_by}
+use Rattle.turns.specs.Jobs.{HasRun, IsJobOf, fresh_meter, fresh_space, progress_by, standing_at, task_at}
+use Rattle.turns.specs.Taking.{spent_after, turn_told}
+use Rattle.turns.specs.declared.progress.Progress.TheVariants.{Running, Answered, Limited, Broken}
+use Rattle.turns.specs.declared.turn.Turn.{Turn}
+
+-- a job of this schedule runs that has taken so many turns, the next of which is this execution
+module _ (meter : MeterState) (schedule : ScheduleState) (space : Space) (block : BlockTree) (most place : ℕ) (next : ScheduleState) (step : AttemptTree)
+    (is : IsJobOf (task_at meter.database schedule block most) meter schedule space (Running place)) (takes : TakesNext schedule next) (at : step ≡ attempt_at next) where
+  abbrev task : JobTask
+  task = task_at meter.database schedule block most
+
+  -- its plan may be executed
+  pub may-run : (p : PlanTree) → IsPlan next.ladder.whole.costing.block p → IsPlan block p × IsEmptyContext meter block space
+  may-run p plan = (
+    plan-of-put schedule.ladder.whole.costing.block block p is.block (subst (λ (whole : BouquetTree). IsPlan whole.costing.block p) takes.whole plan),
+    record { context = is.context; work = is.leaves.leaves.work.rows; result = is.has_run.rows },
+  )
+
+  abbrev comes : Coming
+  comes = coming most meter.account.spent (place + 1) (works_over meter.database block step.plan) step
+
+  module _ (after : MeterState) (last : Space) (leaves : OnlyRunsWithin most meter after space last) where
+    abbrev Tells : Result (Option Report) RunFault → Type 0
+    Tells made = TellsStep meter.database block most comes after.account.spent last.result.rows made
+
+    -- what its executions have come to
+    has-run : (made : Result (Option Report) RunFault) → Tells made → HasRun task after next last (progress_by made (place + 1))
+    has-run (Ok None) tells =
+        between task.bouquet block (fresh_meter meter.database) meter most place schedule next (fresh_space (width_of block)) space step is.has_run takes at after last leaves tells
+    has-run (Ok (Some report)) tells =
+        let plans = subst (λ (whole : BouquetTree). All (λ contour. All (IsPlan whole.costing.block) contour.plans) whole.contours) is.has_run.of is.has_run.is.ladder.plans in
+        answered task.bouquet block (fresh_meter meter.database) meter most place schedule next (fresh_space (width_of block)) space step is.has_run takes at after last leaves report plans tells
+    has-run (Err (WorkLimit told)) tells =
+        subst (λ spent. AnswersRun task.bouquet block meter.database most after.account.spent last.result.rows (Err (WorkLimit spent))) tells.1
+        (refused task.bouquet block (fresh_meter meter.database) meter most place schedule next (fresh_space (width_of block)) space step is.has_run takes at after last leaves told tells)
+    has-run (Err NoMemory) tells = (tt, tells)
+
+    -- what it is asked stays
+    same-task : task_at after.database next block most ≡ task
+    same-task = λ i. task_at (leaves.leaves.database i) (record { ladder = record { whole = takes.whole i; hand = next.ladder.hand; ahead = next.ladder.ahead }; given = next.given; budget = next.budget; number = next.number }) block most
+
+    pub is-job : (made : Result (Option Report) RunFault) → Tells made → IsJobOf (task_at after.database next block most) after next last (progress_by made (place + 1))
+    is-job made tells =
+        let stays = leaves.leaves in
+        subst (λ (task : JobTask). IsJobOf task after next last (progress_by made (place + 1))) (sym same-task) (record {
+          block = is.block;
+          context = record {
+            scene = record {
+              fits = subst (λ (database : DatabaseState). Fits database block) (sym stays.database) is.context.scene.fits;
+              closed = is.context.scene.closed;
+              width = stays.work.width ∙ is.context.scene.width;
+            };
+            width = stays.width ∙ is.context.width;
+          };
+          leaves = record {
+            within = leaves.within;
+            leaves = stays-on (fresh_meter meter.database) meter after (fresh_space (width_of block)) space last is.leaves.leaves stays;
+          };
+          has_run = has-run made tells;
+        })

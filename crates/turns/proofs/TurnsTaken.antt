@@ -1,0 +1,82 @@
+-- Turns of some numbers, one after another.
+use Rattle.std.proofs.Common.{◌≡◌, ◌≢◌, ◌∙◌, inl, inr, ℕ, ◌+◌, ◌++◌, List, [], ◌∷◌, map, set, refl, ap, sym, subst, arith}
+use Rattle.std.specs.Prelude.{All, Option, Some, None, slice_get}
+use Rattle.std.proofs.lemmas.List.{append-assoc, append-nil}
+use Rattle.std.proofs.lemmas.List.Elements.{All-nil, All-cons, All-head, All-tail, All-append, All-weaker}
+use Rattle.turns.specs.Standing.{JobTask, Standing, Lost, job_after, turns_of, fresh_job}
+use Rattle.turns.specs.Jobs.{JobTree}
+use Rattle.turns.specs.Taking.{EachStands, NamesNoLost, StopsAmong, StopsAt, TakesAll, job_lost, job_turned, jobs_turned, named, turn_told, turn_told_of, turns_told}
+use Rattle.turns.specs.declared.turn.Turn.{Turn}
+use Rattle.turns.proofs.JobsTurned.{stays-lost, turned-at, turned-none, turned-one, turned-turned, turns-add}
+
+-- what is told of the turns of two lists of numbers
+told-append : (xs ys : List ℕ) (jobs : List JobTree) → turns_told (xs ++ ys) jobs ≡ turns_told xs jobs ++ turns_told ys (jobs_turned xs 0 jobs)
+told-append [] ys jobs = ap (turns_told ys) (sym (turned-none 0 jobs))
+told-append (x ∷ xs) ys jobs =
+    let here = turn_told_of x (slice_get jobs x) in
+    let on = jobs_turned (x ∷ []) 0 jobs in
+    ap (λ more. here ++ more) (told-append xs ys on ∙ ap (λ all. turns_told xs on ++ turns_told ys all) (turned-turned (x ∷ []) xs 0 jobs))
+    ∙ sym (append-assoc here (turns_told xs on) (turns_told ys (jobs_turned (x ∷ xs) 0 jobs)))
+
+abbrev IsNotLost : List JobTree → ℕ → Type 0
+IsNotLost jobs number = (job : JobTree) → slice_get jobs number ≡ Some job → job.standing ≢ Lost
+
+-- who isn't lost after some turns wasn't before
+not-lost-before : (xs : List ℕ) (jobs : List JobTree) (number : ℕ) → IsNotLost (jobs_turned xs 0 jobs) number → IsNotLost jobs number
+not-lost-before xs jobs number stands = λ job there lost.
+    let count = named (0 + number) xs in
+    stands (job_turned count job) (turned-at xs 0 number jobs job there)
+    (ap (turns_of job.task count) lost ∙ stays-lost job.task count)
+
+-- turns of some numbers behind those of others
+pub takes-on : (xs ys : List ℕ) (old at new : List JobTree) (told told' told'' : List Turn) → TakesAll xs old at told told' → TakesAll ys at new told' told'' → TakesAll (xs ++ ys) old new told told''
+takes-on xs ys old at new told told' told'' first more =
+    let between = jobs_turned xs 0 old in
+    let later : NamesNoLost ys between = subst (NamesNoLost ys) first.turned more.unbroken in
+    record {
+      turned = more.turned ∙ ap (jobs_turned ys 0) first.turned ∙ turned-turned xs ys 0 old;
+      tells = more.tells ∙ ap (λ all. all ++ turns_told ys at) first.tells ∙ append-assoc told (turns_told xs old) (turns_told ys at)
+          ∙ ap (λ (jobs : List JobTree). told ++ (turns_told xs old ++ turns_told ys jobs)) first.turned ∙ ap (λ all. told ++ all) (sym (told-append xs ys old));
+      unbroken = All-append (IsNotLost old) xs ys first.unbroken (All-weaker (IsNotLost between) (IsNotLost old) (not-lost-before xs old) ys later);
+    }
+
+pub takes-none : (jobs : List JobTree) (told : List Turn) → TakesAll [] jobs jobs told told
+takes-none jobs told = record { turned = sym (turned-none 0 jobs); tells = sym (append-nil told); unbroken = All-nil (IsNotLost jobs) }
+
+-- a stop behind some turns
+pub stops-on : (xs ys zs : List ℕ) (old at new : List JobTree) → jobs_turned xs 0 old ≡ at → StopsAmong ys at new → StopsAmong (xs ++ (ys ++ zs)) old new
+stops-on xs ys zs old at new turned stop = record {
+  before = xs ++ stop.before;
+  number = stop.number;
+  after = stop.after ++ zs;
+  split = ap (λ all. xs ++ (all ++ zs)) stop.split ∙ ap (λ all. xs ++ all) (append-assoc stop.before (stop.number ∷ stop.after) zs)
+      ∙ sym (append-assoc xs stop.before (stop.number ∷ (stop.after ++ zs)));
+  stops = subst (λ (jobs : List JobTree). StopsAt stop.number jobs new)
+      (sym (ap (jobs_turned stop.before 0) turned) ∙ turned-turned xs stop.before 0 old) stop.stops;
+}
+
+-- how the job that was found stands
+abbrev standing_found : Option JobTree → Standing
+standing_found None = Lost
+standing_found (Some job) = job.standing
+
+-- the turn of one job
+pub takes-one : (number : ℕ) (jobs : List JobTree) (job : JobTree) (told told' : List Turn) → slice_get jobs number ≡ Some job
+    → told' ≡ told ++ turn_told number job.task job.standing → job.standing ≢ Lost
+    → TakesAll (number ∷ []) jobs (set jobs number (job_turned 1 job)) told told'
+takes-one number jobs job told told' there tells stands =
+    let here : number ≡ 0 + number = omega arith in
+    record {
+      turned = sym (ap (λ n. jobs_turned (n ∷ []) 0 jobs) here ∙ turned-one 0 number jobs job there);
+      tells = tells ∙ ap (λ all. told ++ all) (ap (turn_told_of number) (sym there) ∙ sym (append-nil (turn_told_of number (slice_get jobs number))));
+      unbroken = All-cons (IsNotLost jobs) number [] (λ other at lost. stands (ap standing_found (sym there ∙ at) ∙ lost)) (All-nil (IsNotLost jobs));
+    }
+
+-- each job stands where its turns lead
+pub each-stands : (numbers : List ℕ) (jobs : List JobTree) → EachStands numbers jobs (jobs_turned numbers 0 jobs)
+each-stands numbers jobs = λ number count job there at.
+    let here : 0 + number ≡ number = omega arith in
+    let named_so : named (0 + number) numbers + count ≡ count + named number numbers = omega (arith, ap (λ n. named n numbers) here) in
+    turned-at numbers 0 number jobs job there
+    ∙ ap (λ (standing : Standing). Some (record { task = job.task; standing = standing }))
+    (ap (turns_of job.task (named (0 + number) numbers)) at ∙ turns-add job.task count (named (0 + number) numbers) (fresh_job job.task) ∙ ap (job_after job.task) named_so)

@@ -1,0 +1,3 @@
+pub mod Standing
+pub mod Jobs
+pub mod Taking
