@@ -4,7 +4,7 @@ use Rattle.query_block.specs.Blocks.{BlockTree, IsPutOf, width_of}
 use Rattle.db_catalog.specs.Database.{DatabaseState}
 use Rattle.db_catalog.specs.Fits.{Fits}
 use Rattle.bouquet_type.specs.Trees.{BouquetTree}
-use Rattle.bouquet_type.specs.Schedule.{Member, final_plan}
+use Rattle.bouquet_type.specs.Schedule.{final_plan}
 use Rattle.bouquet_type.specs.Cursor.{ScheduleState, IsWholeSchedule, members_left}
 use Rattle.bouquet_type.specs.Runs.{RunEnd, end_behind, end_of, run_end}
 use Rattle.bouquet_run.specs.Outcomes.{works_over}

@@ -1,5 +1,5 @@
 -- Jobs after turns of some numbers.
-use Rattle.std.proofs.Common.{◌≡◌, ◌≢◌, ◌∙◌, ap₂, ℕ, zero, suc, ◌+◌, ◌<◌, ◌++◌, List, [], ◌∷◌, set, true, false, nat_eq, refl, ap, sym, subst, arith}
+use Rattle.std.proofs.Common.{◌≡◌, ◌∙◌, ap₂, ℕ, zero, suc, ◌+◌, ◌<◌, ◌++◌, List, [], ◌∷◌, set, true, false, nat_eq, refl, ap, arith}
 use Rattle.std.specs.Prelude.{Option, Some, None, slice_get, unwrap_or}
 use Rattle.std.proofs.lemmas.Bool.{eq-eqb, ne_eqb}
 use Rattle.turns.specs.Standing.{JobTask, Standing, Lost, turn_of, turns_of}
@@ -60,7 +60,7 @@ unnamed number first (job ∷ more) before =
 
 -- and of one number alone that job took one
 pub turned-one : (first place : ℕ) (jobs : List JobTree) (job : JobTree) → slice_get jobs place ≡ Some job
-    → jobs_turned (first + place ∷ []) first jobs ≡ set jobs place (job_turned 1 job)
+    → jobs_turned ((first + place) ∷ []) first jobs ≡ set jobs place (job_turned 1 job)
 turned-one first place [] job at = let none : None ≡ Some job = at in absurd cc
 turned-one first zero (one ∷ more) job at =
     let here : nat_eq (first + 0) first ≡ true = eq-eqb (first + 0) first (omega arith) in

@@ -1,31 +1,26 @@
 -- What a turn makes of a job that runs.
-use Rattle.std.proofs.Common.{◌≡◌, ◌∙◌, ℕ, ℤ, ◌+◌, ◌≤◌, List, [], ◌∷◌, refl, ap, sym, subst, arith}
+use Rattle.std.proofs.Common.{◌≡◌, ◌∙◌, ℕ, ◌+◌, sym, subst}
 use Rattle.std.specs.Prelude.{All, Option, Some, None, Result, Ok, Err}
 use Rattle.row_stack.specs.declared.space.Space.{Space}
-use Rattle.query_block.specs.Blocks.{BlockTree, IsPutOf, width_of}
+use Rattle.query_block.specs.Blocks.{BlockTree, width_of}
 use Rattle.plan_tree.specs.Plans.{PlanTree}
 use Rattle.plan_tree.specs.Enumerated.{IsPlan}
 use Rattle.db_catalog.specs.Database.{DatabaseState}
 use Rattle.db_catalog.specs.Fits.{Fits}
 use Rattle.db_catalog.specs.Meter.{MeterState}
-use Rattle.exec_pipe.specs.Runs.{OnlyRuns, OnlyRunsWithin}
-use Rattle.exec_pipe.specs.Scenes.{IsContext, IsEmptyContext}
+use Rattle.exec_pipe.specs.Runs.{OnlyRunsWithin}
+use Rattle.exec_pipe.specs.Scenes.{IsEmptyContext}
 use Rattle.bouquet_type.specs.Trees.{BouquetTree}
-use Rattle.bouquet_type.specs.Schedule.{final_plan}
-use Rattle.bouquet_type.specs.Cursor.{AttemptTree, ScheduleState, TakesNext, attempt_at, members_behind, members_left}
-use Rattle.bouquet_type.specs.Reports.{told_end}
+use Rattle.bouquet_type.specs.Cursor.{AttemptTree, ScheduleState, TakesNext, attempt_at}
 use Rattle.bouquet_type.specs.declared.report.Report.{Report}
 use Rattle.bouquet_type.specs.declared.report.RunFault.{RunFault}
 use Rattle.bouquet_type.specs.declared.report.RunFault.TheVariants.{WorkLimit, NoMemory}
-use Rattle.run_step.specs.Coming.{Coming, Passes, Ends, GoesOn, TellsStep, coming}
-use Rattle.bouquet_run.specs.Between.{IsBetween}
+use Rattle.run_step.specs.Coming.{Coming, TellsStep, coming}
 use Rattle.bouquet_run.specs.Outcomes.{AnswersRun, works_over}
 use Rattle.bouquet_run.proofs.Between.{answered, between, plan-of-put, refused, stays-on}
-use Rattle.turns.specs.Standing.{JobTask, Standing, Runs, Ended, Past, Lost, next_attempt, next_coming, stands_by}
-use Rattle.turns.specs.Jobs.{HasRun, IsJobOf, fresh_meter, fresh_space, progress_by, standing_at, task_at}
-use Rattle.turns.specs.Taking.{spent_after, turn_told}
-use Rattle.turns.specs.declared.progress.Progress.TheVariants.{Running, Answered, Limited, Broken}
-use Rattle.turns.specs.declared.turn.Turn.{Turn}
+use Rattle.turns.specs.Standing.{JobTask}
+use Rattle.turns.specs.Jobs.{HasRun, IsJobOf, fresh_meter, fresh_space, progress_by, task_at}
+use Rattle.turns.specs.declared.progress.Progress.TheVariants.{Running}
 
 -- a job of this schedule runs that has taken so many turns, the next of which is this execution
 module _ (meter : MeterState) (schedule : ScheduleState) (space : Space) (block : BlockTree) (most place : ℕ) (next : ScheduleState) (step : AttemptTree)

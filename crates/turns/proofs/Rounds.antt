@@ -1,22 +1,25 @@
 -- Rounds of turns, until no job runs.
-use Rattle.std.proofs.Common.{◌≡◌, ◌∙◌, ap₂, ℕ, zero, suc, ◌+◌, ◌-◌, ◌<◌, ◌≤◌, ◌++◌, max, Bool, true, false, nat_eq, List, [], ◌∷◌, length, map, take, refl, ap, sym, subst, arith}
-use Rattle.std.specs.Prelude.{Option, Some, None, slice_get}
+use Rattle.std.proofs.Common.{◌≡◌, ◌∙◌, ℕ, zero, suc, ◌+◌, ◌-◌, ◌<◌, ◌≤◌, ◌++◌, Bool, true, false, nat_eq, if◌then◌else◌, List, [], ◌∷◌, length, map, take, drop, get_or, refl, ap, sym, subst, arith}
+use Rattle.std.specs.Prelude.{All, Some, slice_get}
 use Rattle.std.proofs.lemmas.Bool.{ne_eqb, eq-eqb}
-use Rattle.std.proofs.lemmas.List.{append-assoc, append-nil}
+use Rattle.std.proofs.lemmas.List.{append_assoc, append-nil, drop_all, drop_more, length-take-le, map-append, take-append-drop, take_more}
+use Rattle.std.proofs.lemmas.Option.{get_or_from_slice_get}
+use Rattle.std.proofs.lemmas.List.Elements.{All-cons, All-nil}
 use Rattle.bouquet_type.specs.Schedule.{Member, final_plan}
 use Rattle.bouquet_type.specs.Cursor.{members_behind}
 use Rattle.run_step.specs.Coming.{Coming, Passes, Ends, GoesOn}
 use Rattle.run_step.proofs.Onward.{LeadsOn, leads-on}
 use Rattle.bouquet_run.specs.Outcomes.{works_over}
 use Rattle.turns.specs.Standing.{JobTask, Standing, Runs, Ended, Past, Lost, next_coming, stands_by, turn_of}
-use Rattle.turns.specs.Jobs.{JobTree}
-use Rattle.turns.specs.Taking.{is_running, job_turned, jobs_turned, named, numbers_of_rounds, numbers_running, numbers_to_end, rounds_left, turns_left}
+use Rattle.turns.specs.Jobs.{JobShape, JobTree, job_tree}
+use Rattle.turns.specs.Taking.{HasEnded, StopsAmong, TakesAll, TakesRunning, is_running, job_turned, jobs_turned, named, number_of, numbers_at, numbers_of_rounds, numbers_running, numbers_to_end, numbers_told, rounds_left, turn_told, turn_told_of, turns_left, turns_told}
+use Rattle.turns.specs.declared.turn.Turn.{Turn}
 use Rattle.turns.proofs.JobsTurned.{turned-at, turned-none, turned-turned, unnamed}
+use Rattle.turns.proofs.TurnsTaken.{job-at, stops-on, takes-none, takes-on}
 
 -- a number is put first, or not
-abbrev put_first : (first : ℕ) → Bool → List ℕ → List ℕ
-put_first first true numbers = first ∷ numbers
-put_first first false numbers = numbers
+abbrev pub put_first : (first : ℕ) → Bool → List ℕ → List ℕ
+put_first first runs numbers = if runs then first ∷ numbers else numbers
 
 with-first : (first : ℕ) (runs : Bool) (all xs ys : List ℕ) → all ≡ xs ++ ys → put_first first runs all ≡ put_first first runs xs ++ ys
 with-first first true all xs ys same = ap (λ numbers. first ∷ numbers) same
@@ -61,7 +64,7 @@ turn-falls task Past left runs few = omega arith
 turn-falls task Lost left runs few = omega arith
 
 -- a round
-abbrev after_round : (first : ℕ) → List JobTree → List JobTree
+abbrev pub after_round : (first : ℕ) → List JobTree → List JobTree
 after_round first jobs = jobs_turned (numbers_running first jobs) first jobs
 
 -- what the jobs behind the first one take, and the first one
@@ -142,3 +145,129 @@ pub untouched : (jobs : List JobTree) (place : ℕ) (job : JobTree) → slice_ge
 untouched jobs place job at numbers none =
     let here : 0 + place ≡ place = omega arith in
     turned-at numbers 0 place jobs job at ∙ ap (λ n. Some (job_turned (named n numbers) job)) here ∙ ap (λ n. Some (job_turned n job)) none
+
+pub numbers-at : (number : ℕ) (jobs : List JobTree) (job : JobTree) (runs : Bool) → slice_get jobs number ≡ Some job → is_running job.standing ≡ runs
+    → numbers_at number jobs ≡ put_first number runs []
+numbers-at number jobs job runs there is = ap (number_of number) there ∙ ap (λ runs. put_first number runs []) is
+
+-- the numbers of a round up to the next job
+pub next-numbers : (old at : List JobTree) (place : ℕ) → place < length old → at ≡ jobs_turned (numbers_running 0 (take place old)) 0 old
+    → numbers_running 0 (take (place + 1) old) ≡ numbers_running 0 (take place old) ++ numbers_at place at
+next-numbers old at place there turned =
+    let found = job-at old place there in
+    let job = found.0 in
+    let before = take place old in
+    let long : 0 + length before ≡ place = omega (arith, length-take-le place old (omega (arith, there))) in
+    let here : slice_get at place ≡ Some job =
+    ap (λ jobs. slice_get jobs place) turned ∙ untouched old place job found.1 (numbers_running 0 before) (not-above place 0 before (omega (arith, long))) in
+    ap (numbers_running 0) (take_more old place job there ∙ ap (λ one. before ++ one ∷ []) (get_or_from_slice_get old place job job found.1))
+    ∙ running-append 0 before (job ∷ [])
+    ∙ ap (λ n. numbers_running 0 before ++ numbers_running n (job ∷ [])) long
+    ∙ ap (λ one. numbers_running 0 before ++ number_of place one) (sym here)
+
+-- and those behind them
+pub numbers-behind : (jobs : List JobTree) (place : ℕ) → (more : List ℕ) × (numbers_running 0 jobs ≡ numbers_running 0 (take place jobs) ++ more)
+numbers-behind jobs place =
+    let before = take place jobs in
+    let after = drop place jobs in
+    (numbers_running (0 + length before) after, ap (numbers_running 0) (sym (take-append-drop place jobs)) ∙ running-append 0 before after)
+
+-- turns of jobs that run are all told
+told-of : (number : ℕ) (task : JobTask) (standing : Standing) → is_running standing ≡ true → numbers_told (turn_told number task standing) ≡ number ∷ []
+told-of number task (Runs place spent left) runs = refl
+told-of number task (Ended end) runs = absurd cc
+told-of number task Past runs = absurd cc
+told-of number task Lost runs = absurd cc
+
+pub told-running : (number : ℕ) (old new : List JobTree) (job : JobTree) (told told' : List Turn) → slice_get old number ≡ Some job → is_running job.standing ≡ true
+    → TakesAll (number ∷ []) old new told told' → TakesRunning (number ∷ []) old new told told'
+told-running number old new job told told' there runs takes = record {
+  takes = takes;
+  told_all = ap numbers_told takes.tells ∙ map-append (λ (turn : Turn). turn.job) told (turns_told (number ∷ []) old)
+      ∙ ap (λ (turns : List Turn). numbers_told told ++ numbers_told turns) (append-nil (turn_told_of number (slice_get old number)) ∙ ap (turn_told_of number) there)
+      ∙ ap (λ numbers. numbers_told told ++ numbers) (told-of number job.task job.standing runs);
+}
+
+pub told-none : (jobs : List JobTree) (told : List Turn) → TakesRunning [] jobs jobs told told
+told-none jobs told = record { takes = takes-none jobs told; told_all = sym (append-nil (numbers_told told)) }
+
+pub told-on : (xs ys : List ℕ) (old at new : List JobTree) (told told' told'' : List Turn) → TakesRunning xs old at told told' → TakesRunning ys at new told' told''
+    → TakesRunning (xs ++ ys) old new told told''
+told-on xs ys old at new told told' told'' first more = record {
+  takes = takes-on xs ys old at new told told' told'' first.takes more.takes;
+  told_all = more.told_all ∙ ap (λ all. all ++ ys) first.told_all ∙ append_assoc (numbers_told told) xs ys;
+}
+
+-- whether a job may take turns
+pub busy : (standing : Standing) → is_running standing ≡ true → 1 ≤ turns_left standing
+busy (Runs place spent left) runs = omega arith
+busy (Ended end) runs = absurd cc
+busy Past runs = absurd cc
+busy Lost runs = absurd cc
+
+pub idle : (standing : Standing) → is_running standing ≡ false → turns_left standing ≡ 0
+idle (Runs place spent left) runs = absurd cc
+idle (Ended end) runs = refl
+idle Past runs = refl
+idle Lost runs = refl
+
+-- none does, where none has turns left
+pub all-ended : (jobs : List JobTree) → rounds_left jobs ≤ 0 → All HasEnded jobs
+all-ended [] none = All-nil HasEnded
+all-ended (job ∷ more) none = All-cons HasEnded job more (ended-by job.standing (omega (arith, none))) (all-ended more (omega (arith, none)))
+  where
+    ended-by : (standing : Standing) → turns_left standing ≤ 0 → is_running standing ≡ false
+    ended-by (Runs place spent left) none = absurd (omega (arith, none))
+    ended-by (Ended end) none = refl
+    ended-by Past none = refl
+    ended-by Lost none = refl
+
+-- the rounds that are left to the jobs from a place on
+pub next-idle : (jobs : List JobShape) (place : ℕ) (job : JobShape) → place < length jobs → job ≡ get_or jobs place job → is_running (job_tree job).standing ≡ false
+    → rounds_left (map job_tree (drop place jobs)) ≡ rounds_left (map job_tree (drop (place + 1) jobs))
+next-idle jobs place job there is ends =
+    let none = idle (job_tree job).standing ends in
+    let more = ap (λ all. rounds_left (map job_tree all)) (drop_more jobs place job there) in
+    let here = ap (λ one. rounds_left (map job_tree (one ∷ drop (place + 1) jobs))) (sym is) in
+    more ∙ here ∙ omega (arith, none)
+
+pub next-busy : (jobs : List JobShape) (place : ℕ) (job : JobShape) → place < length jobs → job ≡ get_or jobs place job → is_running (job_tree job).standing ≡ true
+    → 1 ≤ rounds_left (map job_tree (drop place jobs))
+next-busy jobs place job there is runs =
+    let some = busy (job_tree job).standing runs in
+    let more = ap (λ all. rounds_left (map job_tree all)) (drop_more jobs place job there) in
+    let here = ap (λ one. rounds_left (map job_tree (one ∷ drop (place + 1) jobs))) (sym is) in
+    omega (arith, some, more ∙ here)
+
+pub none-behind : (jobs : List JobShape) (place : ℕ) → length jobs ≤ place → rounds_left (map job_tree (drop place jobs)) ≡ 0
+none-behind jobs place end = ap (λ all. rounds_left (map job_tree all)) (drop_all place jobs end)
+
+-- these turns were taken, and those of the rounds that are left stand behind them
+pub record AreTaken (old at : List JobTree) (told : List Turn) : Type 0 where
+  pub takes : TakesAll (numbers_told told) old at [] told
+  pub rest : numbers_told told ++ numbers_to_end at ≡ numbers_to_end old
+
+pub first-round : (jobs : List JobTree) (told : List Turn) → told ≡ [] → AreTaken jobs jobs told
+first-round jobs told none = subst (λ (told : List Turn). AreTaken jobs jobs told) (sym none) (record { takes = takes-none jobs []; rest = refl })
+
+pub next-round : (old at new : List JobTree) (told told' : List Turn) → 1 ≤ rounds_left at → AreTaken old at told → TakesRunning (numbers_running 0 at) at new told told' → AreTaken old new told'
+next-round old at new told told' some are round =
+    let before = numbers_told told in
+    let here = numbers_running 0 at in
+    record {
+      takes = subst (λ (numbers : List ℕ). TakesAll numbers old new [] told') (sym round.told_all) (takes-on before here old at new [] told told' are.takes round.takes);
+      rest = ap (λ (numbers : List ℕ). numbers ++ numbers_to_end new) round.told_all ∙ append_assoc before here (numbers_to_end new)
+          ∙ ap (λ (jobs : List JobTree). before ++ (here ++ numbers_to_end jobs)) round.takes.turned ∙ ap (λ (more : List ℕ). before ++ more) (sym (rest-of at some)) ∙ are.rest;
+    }
+
+-- a stop in a round
+pub stops-in : (old at new : List JobTree) (told : List Turn) → 1 ≤ rounds_left at → AreTaken old at told → StopsAmong (numbers_running 0 at) at new → StopsAmong (numbers_to_end old) old new
+stops-in old at new told some are stops =
+    subst (λ (numbers : List ℕ). StopsAmong numbers old new) (ap (λ (more : List ℕ). numbers_told told ++ more) (sym (rest-of at some)) ∙ are.rest)
+    (stops-on (numbers_told told) (numbers_running 0 at) (numbers_to_end (after_round 0 at)) old at new (sym are.takes.turned) stops)
+
+-- no round is left
+pub last-round : (old at : List JobTree) (told : List Turn) → rounds_left at ≤ 0 → AreTaken old at told → TakesAll (numbers_to_end old) old at [] told
+last-round old at told none are =
+    let all : numbers_told told ≡ numbers_to_end old = sym (append-nil (numbers_told told)) ∙ ap (λ (more : List ℕ). numbers_told told ++ more) (sym (ended at none)) ∙ are.rest in
+    subst (λ (numbers : List ℕ). TakesAll numbers old at [] told) all are.takes

@@ -1,7 +1,7 @@
 -- A job ends as the run of its bouquet does alone.
-use Rattle.std.proofs.Common.{◌≡◌, ◌≢◌, ◌∙◌, inl, inr, ℕ, zero, suc, ◌+◌, ◌<◌, ◌≤◌, min, Bool, true, false, nat_le, List, [], ◌∷◌, length, refl, ap, sym, subst, arith}
+use Rattle.std.proofs.Common.{◌≡◌, ◌∙◌, inl, inr, ℕ, zero, suc, ◌+◌, ◌<◌, ◌≤◌, Bool, true, false, List, length, refl, ap, sym, subst, arith}
 use Rattle.std.specs.Prelude.{Option, Some, None}
-use Rattle.std.proofs.lemmas.Bool.{cases_lt, lt-ltb, le-ltb, leb-true, cases_Bool}
+use Rattle.std.proofs.lemmas.Bool.{cases_lt, lt-ltb, le-ltb, leb-true}
 use Rattle.plan_tree.specs.Plans.{PlanTree}
 use Rattle.exec_pipe.specs.Runs.{spends}
 use Rattle.bouquet_type.specs.Schedule.{Member, final_plan, schedule}
@@ -10,7 +10,7 @@ use Rattle.bouquet_type.specs.Runs.{RunEnd, end_behind, end_of, run_end, total_w
 use Rattle.run_step.specs.Coming.{Coming, Passes, Ends, GoesOn, coming, coming_if, is_done}
 use Rattle.run_step.proofs.Onward.{LeadsOn, leads-on}
 use Rattle.bouquet_run.specs.Outcomes.{works_over}
-use Rattle.turns.specs.Standing.{JobTask, Standing, Runs, Ended, Past, Lost, job_after, next_attempt, next_coming, stands_by, turn_of, turns_of}
+use Rattle.turns.specs.Standing.{JobTask, Standing, Runs, Ended, Past, Lost, job_after, next_attempt, next_coming, stands_by, turn_of}
 
 -- the total that an execution ends a run with, which is within what may be spent
 abbrev total_in : Coming → ℕ

@@ -1,10 +1,11 @@
 -- Turns of some numbers, one after another.
-use Rattle.std.proofs.Common.{◌≡◌, ◌≢◌, ◌∙◌, inl, inr, ℕ, ◌+◌, ◌++◌, List, [], ◌∷◌, map, set, refl, ap, sym, subst, arith}
-use Rattle.std.specs.Prelude.{All, Option, Some, None, slice_get}
-use Rattle.std.proofs.lemmas.List.{append-assoc, append-nil}
-use Rattle.std.proofs.lemmas.List.Elements.{All-nil, All-cons, All-head, All-tail, All-append, All-weaker}
+use Rattle.std.proofs.Common.{◌≡◌, ◌≢◌, ◌∙◌, ◌⊎◌, inl, inr, ℕ, zero, suc, ◌+◌, ◌<◌, ◌++◌, List, [], ◌∷◌, length, get_or, map, set, refl, ap, sym, subst, arith}
+use Rattle.std.specs.Prelude.{OnErr, Option, Some, None, Result, Ok, Err, option_map, slice_get}
+use Rattle.std.proofs.lemmas.List.{append_assoc, append-nil, map-set, set-get_or}
+use Rattle.std.proofs.lemmas.Option.{get_or_from_slice_get, slice_get-get_or, slice_get-map}
+use Rattle.std.proofs.lemmas.List.Elements.{All-nil, All-cons, All-append, All-weaker}
 use Rattle.turns.specs.Standing.{JobTask, Standing, Lost, job_after, turns_of, fresh_job}
-use Rattle.turns.specs.Jobs.{JobTree}
+use Rattle.turns.specs.Jobs.{JobShape, JobTree, job_tree, task_of}
 use Rattle.turns.specs.Taking.{EachStands, NamesNoLost, StopsAmong, StopsAt, TakesAll, job_lost, job_turned, jobs_turned, named, turn_told, turn_told_of, turns_told}
 use Rattle.turns.specs.declared.turn.Turn.{Turn}
 use Rattle.turns.proofs.JobsTurned.{stays-lost, turned-at, turned-none, turned-one, turned-turned, turns-add}
@@ -16,7 +17,7 @@ told-append (x ∷ xs) ys jobs =
     let here = turn_told_of x (slice_get jobs x) in
     let on = jobs_turned (x ∷ []) 0 jobs in
     ap (λ more. here ++ more) (told-append xs ys on ∙ ap (λ all. turns_told xs on ++ turns_told ys all) (turned-turned (x ∷ []) xs 0 jobs))
-    ∙ sym (append-assoc here (turns_told xs on) (turns_told ys (jobs_turned (x ∷ xs) 0 jobs)))
+    ∙ sym (append_assoc here (turns_told xs on) (turns_told ys (jobs_turned (x ∷ xs) 0 jobs)))
 
 abbrev IsNotLost : List JobTree → ℕ → Type 0
 IsNotLost jobs number = (job : JobTree) → slice_get jobs number ≡ Some job → job.standing ≢ Lost
@@ -35,7 +36,7 @@ takes-on xs ys old at new told told' told'' first more =
     let later : NamesNoLost ys between = subst (NamesNoLost ys) first.turned more.unbroken in
     record {
       turned = more.turned ∙ ap (jobs_turned ys 0) first.turned ∙ turned-turned xs ys 0 old;
-      tells = more.tells ∙ ap (λ all. all ++ turns_told ys at) first.tells ∙ append-assoc told (turns_told xs old) (turns_told ys at)
+      tells = more.tells ∙ ap (λ all. all ++ turns_told ys at) first.tells ∙ append_assoc told (turns_told xs old) (turns_told ys at)
           ∙ ap (λ (jobs : List JobTree). told ++ (turns_told xs old ++ turns_told ys jobs)) first.turned ∙ ap (λ all. told ++ all) (sym (told-append xs ys old));
       unbroken = All-append (IsNotLost old) xs ys first.unbroken (All-weaker (IsNotLost between) (IsNotLost old) (not-lost-before xs old) ys later);
     }
@@ -49,8 +50,8 @@ stops-on xs ys zs old at new turned stop = record {
   before = xs ++ stop.before;
   number = stop.number;
   after = stop.after ++ zs;
-  split = ap (λ all. xs ++ (all ++ zs)) stop.split ∙ ap (λ all. xs ++ all) (append-assoc stop.before (stop.number ∷ stop.after) zs)
-      ∙ sym (append-assoc xs stop.before (stop.number ∷ (stop.after ++ zs)));
+  split = ap (λ all. xs ++ (all ++ zs)) stop.split ∙ ap (λ all. xs ++ all) (append_assoc stop.before (stop.number ∷ stop.after) zs)
+      ∙ sym (append_assoc xs stop.before (stop.number ∷ (stop.after ++ zs)));
   stops = subst (λ (jobs : List JobTree). StopsAt stop.number jobs new)
       (sym (ap (jobs_turned stop.before 0) turned) ∙ turned-turned xs stop.before 0 old) stop.stops;
 }
@@ -80,3 +81,66 @@ each-stands numbers jobs = λ number count job there at.
     turned-at numbers 0 number jobs job there
     ∙ ap (λ (standing : Standing). Some (record { task = job.task; standing = standing }))
     (ap (turns_of job.task (named (0 + number) numbers)) at ∙ turns-add job.task count (named (0 + number) numbers) (fresh_job job.task) ∙ ap (job_after job.task) named_so)
+
+-- what holds, holds on an error
+pub on-err : {T E P : Type 0} (r : Result T E) → P → OnErr r P
+on-err (Ok t) holds = tt
+on-err (Err e) holds = holds
+
+-- the job of a number
+pub job-at : (jobs : List JobTree) (number : ℕ) → number < length jobs → (job : JobTree) × (slice_get jobs number ≡ Some job)
+job-at [] number there = absurd (omega (arith, there))
+job-at (job ∷ more) zero there = (job, refl)
+job-at (job ∷ more) (suc number) there = job-at more number (omega (arith, there))
+
+set-same : (jobs : List JobTree) (number : ℕ) (job : JobTree) → slice_get jobs number ≡ Some job → set jobs number job ≡ jobs
+set-same jobs number job there = ap (set jobs number) (sym (get_or_from_slice_get jobs number job job there)) ∙ set-get_or jobs number job
+
+-- a stop at the turn of one job
+pub stops-at : (number : ℕ) (jobs : List JobTree) (job one : JobTree) → slice_get jobs number ≡ Some job → (one ≡ job) ⊎ (one ≡ job_lost job)
+    → StopsAt number jobs (set jobs number one)
+stops-at number jobs job one there (inl same) = record { job = job; there = there; jobs = inl (ap (set jobs number) same ∙ set-same jobs number job there) }
+stops-at number jobs job one there (inr lost) = record { job = job; there = there; jobs = inr (ap (set jobs number) lost) }
+
+pub stops-one : (number : ℕ) (old new : List JobTree) → StopsAt number old new → StopsAmong (number ∷ []) old new
+stops-one number old new stops = record {
+  before = [];
+  number = number;
+  after = [];
+  split = refl;
+  stops = subst (λ jobs. StopsAt number jobs new) (sym (turned-none 0 old)) stops;
+}
+
+pub stops-before : (number : ℕ) (jobs : List JobTree) → number < length jobs → StopsAmong (number ∷ []) jobs jobs
+stops-before number jobs there =
+    let at = job-at jobs number there in
+    stops-one number jobs jobs (record { job = at.0; there = at.1; jobs = inl refl })
+
+-- no job is asked anything else
+abbrev pub tasks_of : List JobTree → List JobTask
+tasks_of jobs = map (λ job. job.task) jobs
+
+pub shape-tasks : (jobs : List JobShape) → map task_of jobs ≡ tasks_of (map job_tree jobs)
+shape-tasks [] = refl
+shape-tasks (job ∷ more) = ap (λ others. task_of job ∷ others) (shape-tasks more)
+
+pub same-tasks : (numbers : List ℕ) (first : ℕ) (jobs : List JobTree) → tasks_of (jobs_turned numbers first jobs) ≡ tasks_of jobs
+same-tasks numbers first [] = refl
+same-tasks numbers first (job ∷ more) = ap (λ others. job.task ∷ others) (same-tasks numbers (first + 1) more)
+
+tasks-at : (number : ℕ) (old new : List JobTree) → StopsAt number old new → tasks_of new ≡ tasks_of old
+tasks-at number old new stops =
+    let task : JobTree → JobTask = λ job. job.task in
+    elim stops.jobs [
+      | inl same ↦ ap tasks_of same
+      | inr lost ↦
+          ap tasks_of lost ∙ map-set task old number (job_lost stops.job) ∙ sym (map-set task old number stops.job)
+          ∙ ap tasks_of (set-same old number stops.job stops.there)
+    ]
+
+pub tasks-among : (numbers : List ℕ) (old new : List JobTree) → StopsAmong numbers old new → tasks_of new ≡ tasks_of old
+tasks-among numbers old new stop = tasks-at stop.number (jobs_turned stop.before 0 old) new stop.stops ∙ same-tasks stop.before 0 old
+
+-- the job of a number, as a tree
+pub job-tree-at : (jobs : List JobShape) (number : ℕ) (job : JobShape) → number < length jobs → slice_get (map job_tree jobs) number ≡ Some (job_tree (get_or jobs number job))
+job-tree-at jobs number job there = slice_get-map job_tree jobs number ∙ ap (option_map job_tree) (slice_get-get_or jobs number job there)

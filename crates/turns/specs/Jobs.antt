@@ -1,5 +1,5 @@
 -- What is seen of a job, and what always holds of it.
-use Rattle.std.specs.Prelude.{◌≡◌, ℕ, List, Option, None, Some, Result, Ok, Err}
+use Rattle.std.specs.Prelude.{ℕ, Option, None, Some, Result, Ok, Err}
 use Rattle.row_stack.specs.declared.space.Space.{Space}
 use Rattle.row_stack.specs.Stack.{new_stack}
 use Rattle.work_ledger.specs.Budget.{new_account}

@@ -145,7 +145,7 @@ pub fn finish_turns(alloc: Global, jobs: &mut [Job<'_>]) -> Result<Vec<Turn>, Al
     ensures whole { map task_of jobs.new ≡ map task_of jobs.old }
 {
     let mut taken = Vec::new(alloc);
-    while any_running(jobs) {
+    'rounds: while any_running(jobs) {
         take_round(alloc, jobs, &mut taken)?;
     }
     Ok(taken)

@@ -1,0 +1,36 @@
+use Rattle.std.proofs.Common.{◌≡◌, ◌∙◌, ◌++◌, ◌∷◌, [], ap, arith, get_or, map, set, subst, sym}
+use Rattle.std.specs.Prelude.{option_to_list}
+use Rattle.std.proofs.lemmas.List.{length-map, map-set}
+use Rattle.turns.specs.Jobs.{JobTree, job_tree}
+use Rattle.turns.specs.Taking.{TakesAll, turn_told}
+use Rattle.turns.proofs.TurnsTaken.{job-tree-at, on-err, stops-at, stops-before, stops-one, takes-one}
+use Rattle.turns.proofs.taking.take_turn.Goals as goal
+
+pub returns-in_err-reserve-clause-stops : goal.returns-in_err-reserve-clause-stops
+returns-in_err-reserve-clause-stops c =
+    let jobs = map job_tree c.args.jobs.now in
+    on-err c.from_residual.result (stops-before c.args.number jobs (omega (arith, c.requires, length-map c.args.jobs.now job_tree)))
+
+pub returns-in_err-turn-clause-stops : goal.returns-in_err-turn-clause-stops
+returns-in_err-turn-clause-stops c =
+    let number = c.args.number in
+    let jobs = map job_tree c.args.jobs.now in
+    let job = get_or c.args.jobs.now number c.index-jobs-number.result in
+    let there = job-tree-at c.args.jobs.now number c.index-jobs-number.result c.requires in
+    let stops = stops-at number jobs (job_tree job) (job_tree c.turn.new.self) there c.in_err-turn.ensures in
+    on-err c.from_residual-in_err-turn.result
+    (rw (map-set job_tree c.args.jobs.now number c.turn.new.self) (stops-one number jobs (set jobs number (job_tree c.turn.new.self)) stops))
+
+pub returns-clause-takes : goal.returns-clause-takes
+returns-clause-takes c =
+    let number = c.args.number in
+    let jobs = map job_tree c.args.jobs.now in
+    let job = get_or c.args.jobs.now number c.index-jobs-number.result in
+    let there = job-tree-at c.args.jobs.now number c.index-jobs-number.result c.requires in
+    let told = c.args.taken.now.items in
+    let took = c.in_ok-turn.ensures in
+    let tells : c.push_taken.new.taken.items ≡ told ++ turn_told number (job_tree job).task (job_tree job).standing =
+    c.push_taken.ensures ∙ ap (λ items. items ++ option_to_list c.in_ok-turn.turn) c.reserve.ensures.items ∙ ap (λ turns. told ++ turns) took.1 in
+    let takes = takes-one number jobs (job_tree job) told c.push_taken.new.taken.items there tells took.2 in
+    rw (map-set job_tree c.args.jobs.now number c.turn.new.self)
+    (subst (λ (one : JobTree). TakesAll (number ∷ []) jobs (set jobs number one) told c.push_taken.new.taken.items) (sym took.0) takes)
