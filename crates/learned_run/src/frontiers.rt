@@ -1,0 +1,122 @@
+// The frontiers of a bouquet's contours, of which one at a time is worked out: when a plan of it is first asked for.
+ghost use Rattle.std.specs.Prelude.{◌≡◌, ◌-◌, ◌<◌, ◌≤◌, All, IfOk, IfSome, length, slice_get};
+ghost use Rattle.plan_tree.specs.Plans.{plan_tree};
+ghost use Rattle.cost_model.specs.Frontier.{frontier};
+ghost use Rattle.bouquet_type.specs.Trees.{bouquet_tree};
+ghost use Rattle.bouquet_type.specs.Schedule.{Member};
+ghost use Rattle.learned_run.specs.Skips.{covers_above};
+ghost use Rattle.learned_run.specs.Covering.{IsMemberOf, IsStepOf, step_skip};
+
+use crate::rows::{FrontierRow, any_row_covers, frontier_rows};
+use bouquet_type::{Attempt, Bouquet};
+use cost_model::Costing;
+use ess_grid::Point;
+use plan_space::Outlook;
+use std::alloc::{AllocError, Global};
+use std::marker::Model;
+
+/// The frontiers of a bouquet's contours.
+#[derive(Drop)]
+pub(crate) struct Frontiers<'c> {
+    bouquet: &'c Bouquet,
+    costing: &'c Costing<'c>,
+    // What is worked out once for all contours, once it is asked for.
+    outlook: Option<Outlook<'c>>,
+    // The rows of one contour, and its number, from 1; 0 while there are none.
+    number: u32,
+    rows: Vec<FrontierRow>,
+}
+
+impl<'c> Model for Frontiers<'c> {
+    ghost use Rattle.query_block.specs.contracts.condition.Condition as condition;
+    ghost use Rattle.plan_tree.specs.contracts.plan.Plan as plan;
+    ghost use Rattle.std.specs.Coded.{codes};
+    ghost use Rattle.bouquet_type.specs.Shapes.{BouquetShape};
+    ghost use Rattle.learned_run.specs.Covering.{AreFrontiers};
+
+    ghost Value = { BouquetShape };
+
+    ghost coded = { Prim.hlevel (codes, condition.the_row.coded, plan.the_row.coded) };
+
+    ghost view = { λ f. f.bouquet.now };
+
+    ghost invariant = { λ f. AreFrontiers f.bouquet.now f.costing.now f.outlook f.number f.rows.items };
+}
+
+impl<'c> Frontiers<'c> {
+    /// Those of a bouquet. It takes no memory.
+    pub(crate) fn new(alloc: Global, bouquet: &'c Bouquet, costing: &'c Costing<'c>) -> Frontiers<'c>
+        requires { costing.now ≡ record {
+          block = bouquet.now.block;
+          stats = bouquet.now.stats;
+          grid = bouquet.now.grid;
+        } }
+        ensures { result ≡ bouquet.now }
+    {
+        Frontiers {
+            bouquet,
+            costing,
+            outlook: None,
+            number: 0,
+            rows: Vec::new(alloc),
+        }
+    }
+
+    // The outlook, to be put back. It is made where it isn't there yet. An error is want of memory.
+    fn take_outlook(&mut self, alloc: Global) -> Result<Outlook<'c>, AllocError>
+        ensures outlook { IfOk result (λ outlook. outlook ≡ record {
+          block = self.old.block;
+          stats = self.old.stats;
+          grid = self.old.grid;
+        }) }
+        ensures same { self.new ≡ self.old }
+    {
+        match self.outlook.take() {
+            Some(outlook) => Ok(outlook),
+            None => Outlook::new(alloc, self.costing),
+        }
+    }
+
+    // Works out the rows of the contour of this number, if they aren't there. An error is want of memory.
+    fn climb_to(&mut self, alloc: Global, number: u32) -> Result<(), AllocError>
+        requires some { 1 ≤ number }
+        requires there { number ≤ length self.old.contours }
+        ensures same { self.new ≡ self.old }
+    {
+        if self.number == number {
+            return Ok(());
+        }
+        let outlook = self.take_outlook(alloc)?;
+        let contour = &self.bouquet.contours()[number as usize - 1];
+        let rows = frontier_rows(alloc, &outlook, contour, self.bouquet.threshold());
+        self.outlook = Some(outlook);
+        self.rows = rows?;
+        self.number = number;
+        Ok(())
+    }
+
+    /// By which point an execution is skipped, if it is, where this one is learned. An error is want of memory.
+    pub(crate) fn skip_point(
+        &mut self,
+        alloc: Global,
+        step: Attempt<'_>,
+        learned: Option<Point>,
+    ) -> Result<Option<Point>, AllocError>
+        requires { IsStepOf (bouquet_tree self.old) step step.budget }
+        ensures skip { IfOk result (λ skipped. skipped
+            ≡ step_skip (bouquet_tree self.old) step.entry learned step.entry.budget) }
+        ensures same { self.new ≡ self.old }
+    {
+        if step.budget.is_none() {
+            return Ok(None);
+        }
+        let Some(point) = learned else {
+            return Ok(None);
+        };
+        self.climb_to(alloc, step.contour)?;
+        if any_row_covers(self.rows.as_slice(), step.place - 1, &point) {
+            return Ok(None);
+        }
+        Ok(Some(point))
+    }
+}

@@ -1,0 +1,96 @@
+// How the least levels of the points that are left rise. Costs grow with selectivity, so these points are closed upwards, and
+// on each axis the least level is the first at whose corner, the top but for this level, all plans cost more than their
+// budgets.
+ghost use Rattle.std.specs.Prelude.{◌≡◌, ◌<◌, IfSome, slice_index};
+ghost use Rattle.ess_grid.specs.Points.{IsPoint, top_of};
+ghost use Rattle.query_block.specs.Blocks.{block_tree};
+ghost use Rattle.plan_tree.specs.Plans.{plan_tree};
+ghost use Rattle.plan_tree.specs.Enumerated.{IsPlan};
+ghost use Rattle.cost_model.specs.Costing.{costing_tree};
+ghost use Rattle.cost_model.specs.Costs.{cost_of};
+ghost use Rattle.learned_run.specs.Raising.{IsLevelPast, IsRaised, RulesOut, corner_of};
+
+use cost_model::Costing;
+use ess_grid::{Grid, Point};
+use plan_tree::Plan;
+use sql_values::MAX_AXES;
+
+// The top of a grid.
+fn top(grid: &Grid) -> Point
+    ensures top { result ≡ top_of grid.now }
+    ensures of_grid { IsPoint grid.now result }
+{
+    grid.point(grid.points() - 1)
+}
+
+// The same, but with this level on one axis.
+fn corner(grid: &Grid, axis: usize, level: u8) -> Point
+    requires axis { axis < grid.now.axes }
+    requires level { level < grid.now.levels }
+    ensures corner { result ≡ corner_of grid.now axis level }
+    ensures of_grid { IsPoint grid.now result }
+{
+    let mut levels = [(grid.levels() - 1) as u8; MAX_AXES];
+    levels[axis] = level;
+    Point::new(&levels[..grid.axes()])
+}
+
+// The least level on an axis, from this one on, at whose corner a plan costs more than a budget.
+fn level_past(costing: &Costing<'_>, p: &Plan, budget: u128, axis: usize, before: u8) -> u8
+    requires plan { IsPlan (block_tree costing.now.block) (plan_tree p.now) }
+    requires axis { axis < costing.now.grid.axes }
+    requires level { before < costing.now.grid.levels }
+    requires top { budget < cost_of (costing_tree costing.now) (plan_tree p.now)
+        (top_of costing.now.grid) }
+    ensures level { IsLevelPast (costing_tree costing.now) (plan_tree p.now) budget axis before result }
+    ensures of_grid { result < costing.now.grid.levels }
+{
+    let grid = costing.grid();
+    let highest = (grid.levels() - 1) as u8;
+    for level in before..highest {
+        if costing.cost(p, &corner(grid, axis, level)) > budget {
+            return level;
+        }
+    }
+    highest
+}
+
+// The point whose levels have risen so.
+fn raised(costing: &Costing<'_>, p: &Plan, budget: u128, point: &Point) -> Point
+    requires plan { IsPlan (block_tree costing.now.block) (plan_tree p.now) }
+    requires point { IsPoint costing.now.grid point.now }
+    requires top { budget < cost_of (costing_tree costing.now) (plan_tree p.now)
+        (top_of costing.now.grid) }
+    ensures { IsRaised (costing_tree costing.now) (plan_tree p.now) budget point.now result }
+{
+    let axes = costing.grid().axes();
+    let before = point.levels();
+    let mut levels = [0; MAX_AXES];
+    for axis in 0..axes {
+        levels[axis] = level_past(costing, p, budget, axis, before[axis]);
+    }
+    Point::new(&levels[..axes])
+}
+
+/// The least levels of the points at which a plan costs more than a budget too, if there are points: of those that were left
+/// before, with these least levels.
+pub(crate) fn rule_out(
+    costing: &Costing<'_>,
+    least: Option<Point>,
+    p: &Plan,
+    budget: u128,
+) -> Option<Point>
+    requires plan { IsPlan (block_tree costing.now.block) (plan_tree p.now) }
+    requires point { IfSome least (IsPoint costing.now.grid) }
+    ensures levels { RulesOut (costing_tree costing.now) (plan_tree p.now) budget least result }
+    ensures of_grid { IfSome result (IsPoint costing.now.grid) }
+{
+    let point = least?;
+    if costing.cost(p, &point) > budget {
+        return Some(point);
+    }
+    if costing.cost(p, &top(costing.grid())) <= budget {
+        return None;
+    }
+    Some(raised(costing, p, budget, &point))
+}

@@ -1,0 +1,122 @@
+// Which plans of a contour cover which points of its frontier: a row for each point.
+ghost use Rattle.std.specs.Prelude.{◌≡◌, ◌*◌, ◌+◌, ◌<◌, ◌≤◌, All, IfOk, IfSome, length, map, nat_le};
+ghost use Rattle.sql_values.specs.Limits.{max_threshold, cost_bound};
+ghost use Rattle.ess_grid.specs.Points.{IsPoint};
+ghost use Rattle.query_block.specs.Blocks.{block_tree};
+ghost use Rattle.plan_tree.specs.Plans.{plan_tree};
+ghost use Rattle.plan_tree.specs.Enumerated.{IsPlan};
+ghost use Rattle.cost_model.specs.Costing.{costing_tree, IsCosting};
+ghost use Rattle.cost_model.specs.Costs.{cost_of};
+ghost use Rattle.cost_model.specs.FrontierPoints.{IsFrontierPoint};
+ghost use Rattle.plan_space.specs.CostedPlans.{costed_at};
+ghost use Rattle.bouquet_type.specs.Trees.{IsContour, contour_tree};
+ghost use Rattle.learned_run.specs.Covering.{AreFrontierRows, IsFrontierRow, any_row_covers, HoldsAll};
+
+use bouquet_type::Contour;
+use cost_model::{Costing, FrontierPoint};
+use ess_grid::{Point, below};
+use plan_space::{CostedPlans, Outlook};
+use plan_tree::Plan;
+use std::alloc::{AllocError, Global};
+
+/// A point of a contour's frontier.
+#[derive(Drop)]
+pub(crate) struct FrontierRow {
+    /// The point.
+    pub(crate) point: Point,
+    /// For each plan of the contour, in order, whether it covers the point.
+    pub(crate) covers: Vec<bool>,
+}
+
+// Some plans of a block, to be costed together. An error is want of memory.
+fn gather<'c>(
+    alloc: Global,
+    costing: &'c Costing<'c>,
+    plans: &[Plan],
+) -> Result<CostedPlans<'c>, AllocError>
+    requires { All (λ p. IsPlan (block_tree costing.now.block) (plan_tree p)) plans.now }
+    ensures { IfOk result (HoldsAll costing.now plans.now) }
+{
+    let mut all = CostedPlans::new(alloc, costing, plans.len())?;
+    for p in plans {
+        all.add(p)?;
+    }
+    Ok(all)
+}
+
+// Of so many plans that are costed at a point which ones cost at most this, a hundredfold. An error is want of memory.
+fn tests(
+    alloc: Global,
+    all: &CostedPlans<'_>,
+    count: usize,
+    limit: u128,
+) -> Result<Vec<bool>, AllocError>
+    requires { count ≡ length all.now.plans }
+    ensures { IfOk result (λ tests. IfSome all.now.point (λ point. tests.items ≡
+        map (λ p. nat_le (100 * cost_of (costing_tree all.now.costing) p point) limit) all.now.plans)) }
+{
+    let mut tests = Vec::with_capacity(alloc, count)?;
+    for place in 0..count {
+        tests.push(100 * all.cost(place) <= limit)?;
+    }
+    Ok(tests)
+}
+
+// The row of a point. An error is want of memory.
+fn row(
+    alloc: Global,
+    all: &mut CostedPlans<'_>,
+    count: usize,
+    threshold: u32,
+    at: &FrontierPoint,
+) -> Result<FrontierRow, AllocError>
+    requires count { count ≡ length all.old.plans }
+    requires threshold { threshold ≤ max_threshold }
+    requires costing { IsCosting (costing_tree all.old.costing) }
+    requires point { IsFrontierPoint (costing_tree all.old.costing) at.now }
+    ensures costed { all.new ≡ costed_at all.old at.now.point }
+    ensures point { IfOk result (λ row. row.point ≡ at.now.point) }
+    ensures row { IfOk result
+        (IsFrontierRow (costing_tree all.old.costing) threshold all.old.plans) }
+{
+    all.cost_at(&at.point);
+    let covers = tests(alloc, all, count, u128::from(100 + threshold) * at.cost)?;
+    Ok(FrontierRow {
+        point: at.point,
+        covers,
+    })
+}
+
+/// The rows of a contour. An error is want of memory.
+pub(crate) fn frontier_rows(
+    alloc: Global,
+    outlook: &Outlook<'_>,
+    contour: &Contour,
+    threshold: u32,
+) -> Result<Vec<FrontierRow>, AllocError>
+    requires threshold { threshold ≤ max_threshold }
+    requires contour { IsContour (costing_tree outlook.now).block contour.now }
+    ensures { IfOk result (λ rows. AreFrontierRows (costing_tree outlook.now) threshold
+        (contour_tree contour.now) rows.items) }
+{
+    let frontier = outlook.frontier(alloc, contour.cost)?;
+    let mut all = gather(alloc, outlook.costing(), &contour.plans)?;
+    let mut rows = Vec::with_capacity(alloc, frontier.len())?;
+    for at in &frontier {
+        rows.push(row(alloc, &mut all, contour.plans.len(), threshold, at)?)?;
+    }
+    Ok(rows)
+}
+
+/// Whether the plan at this place, from 0, covers a point at or above this one.
+pub(crate) fn any_row_covers(rows: &[FrontierRow], place: usize, point: &Point) -> bool
+    requires { All (λ row. place < length row.covers.items) rows.now }
+    ensures { result ≡ any_row_covers place point.now rows.now }
+{
+    for row in rows {
+        if below(point, &row.point) && row.covers[place] {
+            return true;
+        }
+    }
+    false
+}

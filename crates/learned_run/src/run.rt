@@ -1,0 +1,72 @@
+// The run that learns. It relies on a schedule for the order and the budgets, on the steps for rows, work and what is told, and
+// on the frontiers for what is skipped.
+ghost use Rattle.std.specs.Prelude.{◌≡◌, ◌≤◌};
+ghost use Rattle.query_block.specs.Blocks.{block_tree, IsPutOf};
+ghost use Rattle.exec_pipe.specs.Scenes.{IsEmptyContext};
+ghost use Rattle.exec_pipe.specs.Runs.{OnlyRuns};
+ghost use Rattle.bouquet_type.specs.Trees.{bouquet_tree};
+ghost use Rattle.learned_run.specs.Outcomes.{AnswersLearned};
+
+use crate::frontiers::Frontiers;
+use crate::learned::{Learned, Skip};
+use crate::lesson::Lesson;
+use bouquet_type::{Attempt, Bouquet, Kept, RunFault, Schedule};
+use db_catalog::Metered;
+use ess_grid::Point;
+use known_rows::KnownRows;
+use query_block::Block;
+use row_stack::Space;
+use run_step::execute;
+use std::alloc::{AllocError, Global};
+
+/// Answers the query of a bouquet as a run does that skips what its exhausted executions have ruled out. An execution of a plan
+/// that was exhausted shows that the plan's work is above its budget. Where works are at most costs, each point of the grid is
+/// ruled out then at which the plan costs at most the budget. The learned point has on each axis the least level of the points
+/// that are left. Where there is one, an execution is skipped if its plan covers no point of its contour's frontier at or above
+/// the learned point. The last execution, without a budget, is never skipped. All executions together spend at most `max_work`
+/// units; what costs are evaluated for isn't counted. They are on `block`: the bouquet's own, with some values that fit in place
+/// of its parameters.
+///
+/// The meter has spent nothing before, and the space is empty. The errors: WorkLimit only where all executions together would
+/// spend more than `max_work`, which those of an answer never do; NoMemory. After either there is no row of the result.
+pub fn learn(
+    alloc: Global,
+    b: &Bouquet,
+    block: &Block,
+    meter: &mut Metered<'_>,
+    space: &mut Space,
+    max_work: u64,
+) -> Result<Learned, RunFault>
+    requires block { IsPutOf (block_tree b.now.block) (block_tree block.now) }
+    requires context { IsEmptyContext meter.old (block_tree block.now) space.old }
+    requires unspent { meter.old.account.spent ≡ 0 }
+    ensures answers { AnswersLearned (bouquet_tree b.now) (block_tree block.now) meter.old.database
+        max_work meter.new.account.spent space.new.result.rows result }
+    ensures within { meter.new.account.spent ≤ max_work }
+    ensures leaves { OnlyRuns meter.old meter.new space.old space.new }
+{
+    let costing = b.costing();
+    let mut frontiers = Frontiers::new(alloc, b, &costing);
+    let mut lesson = Lesson::new(&costing);
+    let mut schedule = Schedule::new(Kept::new(b));
+    let mut known = KnownRows::new();
+    let mut skips = Vec::new(alloc);
+    let mut runs = 0;
+    'steps: loop {
+        schedule.next(alloc)?;
+        let step = schedule.attempt();
+        if let Some(point) = frontiers.skip_point(alloc, step, lesson.point())? {
+            note(&mut skips, step, point)?;
+            continue;
+        }
+        runs += 1;
+        if let Some(report) = execute(
+            alloc, block, step, runs, meter, space, &mut known, max_work,
+        )? {
+            return Ok(Learned { report, skips });
+        }
+        if let Some(budget) = step.budget {
+            lesson.learn(&costing, step.plan, budget);
+        }
+    }
+}
