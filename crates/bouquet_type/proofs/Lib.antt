@@ -2,6 +2,9 @@ pub mod Most
 pub mod Ends
 pub mod Bound
 pub mod FitsBelow
+pub mod SomePlan
+pub mod Doubling
+pub mod CompiledSound
 pub mod Meets
 pub mod OneCompiled
 pub mod Climbing

@@ -17,7 +17,7 @@ use Rattle.bouquet_type.specs.Trees.{BouquetTree, ContourTree}
 use Rattle.bouquet_type.specs.Budgets.{contour_cost}
 use Rattle.bouquet_type.specs.Compiled.{IsCompiled, compiled, compiled_contour, contour_count}
 use Rattle.bouquet_type.proofs.OneCompiled.{compiled-one}
-use Rattle.contours.proofs.Doubling.{next-cost}
+use Rattle.bouquet_type.proofs.Doubling.{next-cost}
 use Rattle.contours.proofs.Extremes.{optimal-some, optimal-below}
 
 -- the contour of this number is the first that costs at least so much

@@ -7,7 +7,7 @@ use Rattle.cost_model.specs.Optimal.{optimal_cost, best_plan}
 use Rattle.cost_model.proofs.Bounds.{cost-below}
 use Rattle.cost_model.proofs.Least.{optimal-least, optimal-cheapest}
 use Rattle.cost_model.proofs.BestPlans.{best-there}
-use Rattle.contours.proofs.SomePlan.{some-plan}
+use Rattle.bouquet_type.proofs.SomePlan.{some-plan}
 
 -- each plan reads a table
 cost-some : (costing : CostingTree) (p : PlanTree) (point : List ℕ) → 1 ≤ cost_of costing p point

@@ -14,7 +14,7 @@ use Rattle.cost_model.specs.Greedy.{greedy}
 use Rattle.cost_model.proofs.BestPlans.{best-there}
 use Rattle.cost_model.proofs.Frontiers.{frontier-above, frontier-few}
 use Rattle.cost_model.proofs.Covers.{greedy-covers, greedy-best, greedy-few}
-use Rattle.contours.proofs.SomePlan.{some-plan}
+use Rattle.bouquet_type.proofs.SomePlan.{some-plan}
 
 contained-some : {X : Type 0} (xs : List X) (x : X) → Contains xs x → 1 ≤ length xs
 contained-some xs x is = omega (arith, is.1)

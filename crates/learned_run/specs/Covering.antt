@@ -23,9 +23,12 @@ pub record AreFrontierRows (costing : CostingTree) (threshold : ℕ) (contour : 
   pub points : map (λ row. row.point) rows ≡ frontier costing contour.cost
   pub each : All (IsFrontierRow costing threshold contour.plans) rows
 
--- whether one of some rows, at or above a point, says that the plan at this place covers
+-- whether a row is of a point at or above this one that the plan at this place covers, and whether one of some rows is
+abbrev pub row_covers : (place : ℕ) → (point : List ℕ) → FrontierRow → Bool
+row_covers place point row = is_at_or_below point row.point && slice_index_or row.covers.items place false
+
 abbrev pub any_row_covers : (place : ℕ) → (point : List ℕ) → List FrontierRow → Bool
-any_row_covers place point rows = list_any (λ row. is_at_or_below point row.point && slice_index_or row.covers.items place false) rows
+any_row_covers place point rows = list_any (row_covers place point) rows
 
 -- a contour of this number, from 1
 abbrev pub IsNumbered : BouquetTree → (number : ℕ) → ContourTree → Type 0
@@ -64,9 +67,17 @@ pub record HoldsAll (shape : CostingShape) (all : List Plan) (costed : CostedPla
   pub costing : costed.costing ≡ shape
   pub plans : costed.plans ≡ map plan_tree all
 
--- what is worked out of a bouquet's frontiers: an outlook, once there is one, and the rows of the contour of this number, or of
--- none
-pub record AreFrontiers (bouquet : BouquetShape) (costing : CostingShape) (outlook : Option CostingShape) (number : ℕ) (rows : List FrontierRow) : Type 0 where
-  pub costing : costing ≡ record { block = bouquet.block; stats = bouquet.stats; grid = bouquet.grid }
-  pub outlook : IfSome outlook (λ shape. shape ≡ costing)
-  pub rows : AreRowsOfContour (bouquet_tree bouquet) number rows
+-- what the plans of a bouquet cost by
+abbrev pub costing_shape : BouquetShape → CostingShape
+costing_shape bouquet = record { block = bouquet.block; stats = bouquet.stats; grid = bouquet.grid }
+
+-- a bouquet, and the number of the contour whose frontier is worked out, from 1; 0 if none is
+pub record FrontiersShape : Type 0 where
+  pub bouquet : BouquetShape
+  pub number : ℕ
+
+-- what is worked out of a bouquet's frontiers: an outlook, once there is one, and the rows of one contour
+pub record AreFrontiers (frontiers : FrontiersShape) (costing : CostingShape) (outlook : Option CostingShape) (rows : List FrontierRow) : Type 0 where
+  pub same : costing ≡ costing_shape frontiers.bouquet
+  pub made : IfSome outlook (λ shape. shape ≡ costing_shape frontiers.bouquet)
+  pub those : AreRowsOfContour (bouquet_tree frontiers.bouquet) frontiers.number rows

@@ -35,6 +35,6 @@ are_some (member ∷ more) = true
 
 -- what is kept of exhausted executions: whether there are some, and the least levels of the points that are left
 pub record IsLearned (costing : CostingTree) (exhausted : List Member) (some : Bool) (least : Option (List ℕ)) : Type 0 where
-  pub some : some ≡ are_some exhausted
-  pub least : least ≡ least_levels costing.grid (points_left costing exhausted)
+  pub is_some : some ≡ are_some exhausted
+  pub levels : least ≡ least_levels costing.grid (points_left costing exhausted)
   pub of_grid : IfSome least (IsPoint costing.grid)

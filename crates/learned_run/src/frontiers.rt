@@ -1,11 +1,7 @@
 // The frontiers of a bouquet's contours, of which one at a time is worked out: when a plan of it is first asked for.
-ghost use Rattle.std.specs.Prelude.{◌≡◌, ◌-◌, ◌<◌, ◌≤◌, All, IfOk, IfSome, length, slice_get};
-ghost use Rattle.plan_tree.specs.Plans.{plan_tree};
-ghost use Rattle.cost_model.specs.Frontier.{frontier};
+ghost use Rattle.std.specs.Prelude.{◌≡◌, ◌≤◌, IfOk, OnOk, length};
 ghost use Rattle.bouquet_type.specs.Trees.{bouquet_tree};
-ghost use Rattle.bouquet_type.specs.Schedule.{Member};
-ghost use Rattle.learned_run.specs.Skips.{covers_above};
-ghost use Rattle.learned_run.specs.Covering.{IsMemberOf, IsStepOf, step_skip};
+ghost use Rattle.learned_run.specs.Covering.{IsStepOf, costing_shape, step_skip};
 
 use crate::rows::{FrontierRow, any_row_covers, frontier_rows};
 use bouquet_type::{Attempt, Bouquet};
@@ -31,27 +27,23 @@ impl<'c> Model for Frontiers<'c> {
     ghost use Rattle.query_block.specs.contracts.condition.Condition as condition;
     ghost use Rattle.plan_tree.specs.contracts.plan.Plan as plan;
     ghost use Rattle.std.specs.Coded.{codes};
-    ghost use Rattle.bouquet_type.specs.Shapes.{BouquetShape};
-    ghost use Rattle.learned_run.specs.Covering.{AreFrontiers};
+    ghost use Rattle.learned_run.specs.Covering.{AreFrontiers, FrontiersShape};
 
-    ghost Value = { BouquetShape };
+    ghost Value = { FrontiersShape };
 
     ghost coded = { Prim.hlevel (codes, condition.the_row.coded, plan.the_row.coded) };
 
-    ghost view = { λ f. f.bouquet.now };
+    ghost view = { λ f. record { bouquet = f.bouquet.now; number = f.number } };
 
-    ghost invariant = { λ f. AreFrontiers f.bouquet.now f.costing.now f.outlook f.number f.rows.items };
+    ghost invariant = { λ f. AreFrontiers (record { bouquet = f.bouquet.now; number = f.number })
+        f.costing.now f.outlook f.rows.items };
 }
 
 impl<'c> Frontiers<'c> {
     /// Those of a bouquet. It takes no memory.
     pub(crate) fn new(alloc: Global, bouquet: &'c Bouquet, costing: &'c Costing<'c>) -> Frontiers<'c>
-        requires { costing.now ≡ record {
-          block = bouquet.now.block;
-          stats = bouquet.now.stats;
-          grid = bouquet.now.grid;
-        } }
-        ensures { result ≡ bouquet.now }
+        requires { costing.now ≡ costing_shape bouquet.now }
+        ensures { result ≡ record { bouquet = bouquet.now; number = 0 } }
     {
         Frontiers {
             bouquet,
@@ -64,11 +56,7 @@ impl<'c> Frontiers<'c> {
 
     // The outlook, to be put back. It is made where it isn't there yet. An error is want of memory.
     fn take_outlook(&mut self, alloc: Global) -> Result<Outlook<'c>, AllocError>
-        ensures outlook { IfOk result (λ outlook. outlook ≡ record {
-          block = self.old.block;
-          stats = self.old.stats;
-          grid = self.old.grid;
-        }) }
+        ensures outlook { IfOk result (λ outlook. outlook ≡ costing_shape self.old.bouquet) }
         ensures same { self.new ≡ self.old }
     {
         match self.outlook.take() {
@@ -80,8 +68,9 @@ impl<'c> Frontiers<'c> {
     // Works out the rows of the contour of this number, if they aren't there. An error is want of memory.
     fn climb_to(&mut self, alloc: Global, number: u32) -> Result<(), AllocError>
         requires some { 1 ≤ number }
-        requires there { number ≤ length self.old.contours }
-        ensures same { self.new ≡ self.old }
+        requires there { number ≤ length self.old.bouquet.contours }
+        ensures at { OnOk result (self.new.number ≡ number) }
+        ensures same { self.new.bouquet ≡ self.old.bouquet }
     {
         if self.number == number {
             return Ok(());
@@ -102,14 +91,14 @@ impl<'c> Frontiers<'c> {
         step: Attempt<'_>,
         learned: Option<Point>,
     ) -> Result<Option<Point>, AllocError>
-        requires { IsStepOf (bouquet_tree self.old) step step.budget }
+        requires { IsStepOf (bouquet_tree self.old.bouquet) step step.budget }
         ensures skip { IfOk result (λ skipped. skipped
-            ≡ step_skip (bouquet_tree self.old) step.entry learned step.entry.budget) }
-        ensures same { self.new ≡ self.old }
+            ≡ step_skip (bouquet_tree self.old.bouquet) step.entry learned step.entry.budget) }
+        ensures same { self.new.bouquet ≡ self.old.bouquet }
     {
-        if step.budget.is_none() {
+        let Some(_budget) = step.budget else {
             return Ok(None);
-        }
+        };
         let Some(point) = learned else {
             return Ok(None);
         };

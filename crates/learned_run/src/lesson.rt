@@ -1,14 +1,13 @@
 // What a run has learned so far.
-ghost use Rattle.std.specs.Prelude.{◌≡◌, ◌∷◌, ◌++◌, [], List};
-ghost use Rattle.ess_grid.specs.Points.{bottom_of};
+ghost use Rattle.std.specs.Prelude.{◌≡◌, [], true, None, IfSome, if◌then◌else◌};
+ghost use Rattle.ess_grid.specs.Points.{IsPoint};
 ghost use Rattle.query_block.specs.Blocks.{block_tree};
 ghost use Rattle.plan_tree.specs.Plans.{plan_tree};
 ghost use Rattle.plan_tree.specs.Enumerated.{IsPlan};
 ghost use Rattle.cost_model.specs.Costing.{costing_tree};
-ghost use Rattle.bouquet_type.specs.Schedule.{Member};
-ghost use Rattle.learned_run.specs.Learning.{learned_point};
-ghost use Rattle.learned_run.specs.Raising.{IsLearned};
+ghost use Rattle.learned_run.specs.Raising.{IsLearned, RulesOut};
 
+use crate::corners::even;
 use crate::raise::rule_out;
 use cost_model::Costing;
 use ess_grid::Point;
@@ -27,21 +26,29 @@ impl Lesson {
     pub(crate) fn new(costing: &Costing<'_>) -> Lesson
         ensures { IsLearned (costing_tree costing.now) [] result.some result.least }
     {
+        let grid = costing.grid();
+        let _levels = grid.levels();
         Lesson {
             some: false,
-            least: Some(costing.grid().point(0)),
+            least: Some(even(grid, 0)),
         }
     }
 
     /// The learned point.
     pub(crate) fn point(&self) -> Option<Point>
-        ensures { result ≡ if self.now.some then self.now.least else None }
+        ensures { result ≡ (if self.now.some then self.now.least else None) }
     {
         if self.some { self.least } else { None }
     }
 
     /// An execution of this plan was exhausted by this budget.
     pub(crate) fn learn(&mut self, costing: &Costing<'_>, p: &Plan, budget: u128)
+        requires plan { IsPlan (block_tree costing.now.block) (plan_tree p.now) }
+        requires point { IfSome self.old.least (IsPoint costing.now.grid) }
+        ensures some { self.new.some ≡ true }
+        ensures levels { RulesOut (costing_tree costing.now) (plan_tree p.now) budget
+            self.old.least self.new.least }
+        ensures of_grid { IfSome self.new.least (IsPoint costing.now.grid) }
     {
         self.least = rule_out(costing, self.least, p, budget);
         self.some = true;

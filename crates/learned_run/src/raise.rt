@@ -8,32 +8,13 @@ ghost use Rattle.plan_tree.specs.Plans.{plan_tree};
 ghost use Rattle.plan_tree.specs.Enumerated.{IsPlan};
 ghost use Rattle.cost_model.specs.Costing.{costing_tree};
 ghost use Rattle.cost_model.specs.Costs.{cost_of};
-ghost use Rattle.learned_run.specs.Raising.{IsLevelPast, IsRaised, RulesOut, corner_of};
+ghost use Rattle.learned_run.specs.Raising.{IsLevelPast, IsRaised, RulesOut};
 
+use crate::corners::{corner, even, highest};
 use cost_model::Costing;
-use ess_grid::{Grid, Point};
+use ess_grid::Point;
 use plan_tree::Plan;
 use sql_values::MAX_AXES;
-
-// The top of a grid.
-fn top(grid: &Grid) -> Point
-    ensures top { result ≡ top_of grid.now }
-    ensures of_grid { IsPoint grid.now result }
-{
-    grid.point(grid.points() - 1)
-}
-
-// The same, but with this level on one axis.
-fn corner(grid: &Grid, axis: usize, level: u8) -> Point
-    requires axis { axis < grid.now.axes }
-    requires level { level < grid.now.levels }
-    ensures corner { result ≡ corner_of grid.now axis level }
-    ensures of_grid { IsPoint grid.now result }
-{
-    let mut levels = [(grid.levels() - 1) as u8; MAX_AXES];
-    levels[axis] = level;
-    Point::new(&levels[..grid.axes()])
-}
 
 // The least level on an axis, from this one on, at whose corner a plan costs more than a budget.
 fn level_past(costing: &Costing<'_>, p: &Plan, budget: u128, axis: usize, before: u8) -> u8
@@ -46,7 +27,7 @@ fn level_past(costing: &Costing<'_>, p: &Plan, budget: u128, axis: usize, before
     ensures of_grid { result < costing.now.grid.levels }
 {
     let grid = costing.grid();
-    let highest = (grid.levels() - 1) as u8;
+    let highest = highest(grid);
     for level in before..highest {
         if costing.cost(p, &corner(grid, axis, level)) > budget {
             return level;
@@ -89,7 +70,8 @@ pub(crate) fn rule_out(
     if costing.cost(p, &point) > budget {
         return Some(point);
     }
-    if costing.cost(p, &top(costing.grid())) <= budget {
+    let grid = costing.grid();
+    if costing.cost(p, &even(grid, highest(grid))) <= budget {
         return None;
     }
     Some(raised(costing, p, budget, &point))

@@ -1,7 +1,6 @@
 // Which plans of a contour cover which points of its frontier: a row for each point.
-ghost use Rattle.std.specs.Prelude.{◌≡◌, ◌*◌, ◌+◌, ◌<◌, ◌≤◌, All, IfOk, IfSome, length, map, nat_le};
-ghost use Rattle.sql_values.specs.Limits.{max_threshold, cost_bound};
-ghost use Rattle.ess_grid.specs.Points.{IsPoint};
+ghost use Rattle.std.specs.Prelude.{◌≡◌, ◌*◌, ◌+◌, ◌<◌, ◌≤◌, All, IfOk, Some, length, map, nat_le};
+ghost use Rattle.sql_values.specs.Limits.{max_threshold};
 ghost use Rattle.query_block.specs.Blocks.{block_tree};
 ghost use Rattle.plan_tree.specs.Plans.{plan_tree};
 ghost use Rattle.plan_tree.specs.Enumerated.{IsPlan};
@@ -10,7 +9,7 @@ ghost use Rattle.cost_model.specs.Costs.{cost_of};
 ghost use Rattle.cost_model.specs.FrontierPoints.{IsFrontierPoint};
 ghost use Rattle.plan_space.specs.CostedPlans.{costed_at};
 ghost use Rattle.bouquet_type.specs.Trees.{IsContour, contour_tree};
-ghost use Rattle.learned_run.specs.Covering.{AreFrontierRows, IsFrontierRow, any_row_covers, HoldsAll};
+ghost use Rattle.learned_run.specs.Covering.{AreFrontierRows, IsFrontierRow, HoldsAll, any_row_covers, row_covers};
 
 use bouquet_type::Contour;
 use cost_model::{Costing, FrontierPoint};
@@ -44,16 +43,18 @@ fn gather<'c>(
     Ok(all)
 }
 
-// Of so many plans that are costed at a point which ones cost at most this, a hundredfold. An error is want of memory.
+// Which of so many plans, costed at a point, cost at most this there, a hundredfold. An error is want of memory.
 fn tests(
     alloc: Global,
     all: &CostedPlans<'_>,
     count: usize,
+    at: &FrontierPoint,
     limit: u128,
 ) -> Result<Vec<bool>, AllocError>
-    requires { count ≡ length all.now.plans }
-    ensures { IfOk result (λ tests. IfSome all.now.point (λ point. tests.items ≡
-        map (λ p. nat_le (100 * cost_of (costing_tree all.now.costing) p point) limit) all.now.plans)) }
+    requires count { count ≡ length all.now.plans }
+    requires costed { all.now.point ≡ Some at.now.point }
+    ensures { IfOk result (λ tests. tests.items ≡ map (λ p. nat_le
+        (100 * cost_of (costing_tree all.now.costing) p at.now.point) limit) all.now.plans) }
 {
     let mut tests = Vec::with_capacity(alloc, count)?;
     for place in 0..count {
@@ -80,7 +81,8 @@ fn row(
         (IsFrontierRow (costing_tree all.old.costing) threshold all.old.plans) }
 {
     all.cost_at(&at.point);
-    let covers = tests(alloc, all, count, u128::from(100 + threshold) * at.cost)?;
+    let limit = u128::from(100 + threshold) * at.cost;
+    let covers = tests(alloc, all, count, at, limit)?;
     Ok(FrontierRow {
         point: at.point,
         covers,
@@ -101,11 +103,20 @@ pub(crate) fn frontier_rows(
 {
     let frontier = outlook.frontier(alloc, contour.cost)?;
     let mut all = gather(alloc, outlook.costing(), &contour.plans)?;
-    let mut rows = Vec::with_capacity(alloc, frontier.len())?;
-    for at in &frontier {
+    let mut rows = Vec::new(alloc);
+    let points = frontier.as_slice();
+    for at in points {
         rows.push(row(alloc, &mut all, contour.plans.len(), threshold, at)?)?;
     }
     Ok(rows)
+}
+
+// Whether a row's point is at or above this one, and the plan at this place covers it.
+fn row_covers(row: &FrontierRow, place: usize, point: &Point) -> bool
+    requires { place < length row.now.covers.items }
+    ensures { result ≡ row_covers place point.now row.now }
+{
+    below(point, &row.point) && row.covers[place]
 }
 
 /// Whether the plan at this place, from 0, covers a point at or above this one.
@@ -114,7 +125,7 @@ pub(crate) fn any_row_covers(rows: &[FrontierRow], place: usize, point: &Point) 
     ensures { result ≡ any_row_covers place point.now rows.now }
 {
     for row in rows {
-        if below(point, &row.point) && row.covers[place] {
+        if row_covers(row, place, point) {
             return true;
         }
     }

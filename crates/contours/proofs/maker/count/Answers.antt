@@ -4,7 +4,7 @@ use Rattle.cost_model.specs.Costing.{costing_tree}
 use Rattle.cost_model.specs.Optimal.{optimal_cost}
 use Rattle.bouquet_type.specs.Budgets.{contour_cost}
 use Rattle.contours.proofs.Extremes.{optimal-below}
-use Rattle.contours.proofs.Doubling.{next-cost}
+use Rattle.bouquet_type.proofs.Doubling.{next-cost}
 use Rattle.contours.proofs.Count.{top_cost, count-last, count-more, count-done}
 use Rattle.contours.proofs.maker.count.Goals as goal
 

@@ -4,7 +4,7 @@ use Rattle.query_block.specs.Shape.{BlockShape}
 use Rattle.query_block.specs.Blocks.{BlockTree, block_tree, put_of}
 use Rattle.bouquet_type.specs.Trees.{bouquet_tree}
 use Rattle.bouquet_type.proofs.Meets.{bouquet-bound}
-use Rattle.contours.proofs.Soundness.{are-sound}
+use Rattle.bouquet_type.proofs.CompiledSound.{are-sound}
 use Rattle.bouquet_run.specs.Outcomes.{works_over}
 use Rattle.exec_pipe.proofs.Joins.{on-ok}
 use Rattle.db_catalog.specs.Fits.{Fits}

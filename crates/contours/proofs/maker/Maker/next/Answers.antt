@@ -3,7 +3,7 @@ use Rattle.cost_model.specs.Costing.{CostingTree, costing_tree}
 use Rattle.bouquet_type.specs.Trees.{ContourTree}
 use Rattle.bouquet_type.specs.Compiled.{compiled, compiled_contour, contour_count}
 use Rattle.contours.specs.Lazy.{MakerState, whole_of, ahead_of}
-use Rattle.contours.proofs.Doubling.{next-cost}
+use Rattle.bouquet_type.proofs.Doubling.{next-cost}
 use Rattle.contours.proofs.Count.{cost-few}
 use Rattle.contours.proofs.Foot.{next-ahead, none-ahead}
 use Rattle.contours.proofs.maker.Maker.next.Goals as goal
