@@ -3,5 +3,8 @@ pub mod Levels
 pub mod CornerPoints
 pub mod RuledOut
 pub mod Covered
-pub mod Unskipped
 pub mod Stepped
+pub mod Unskipped
+pub mod Members
+pub mod Leading
+pub mod Between

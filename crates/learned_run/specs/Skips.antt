@@ -1,6 +1,7 @@
 -- Which executions of a bouquet's schedule are skipped, and how the run goes without them.
 use Rattle.std.specs.Prelude.{◌≡◌, ℕ, ◌-◌, ◌≤◌, ◌++◌, ◌&&◌, nat_le, Bool, true, false, List, [], ◌∷◌, Option, Some, None, IsSomeAnd, is_some, length, slice_get, if◌then◌else◌}
 use Rattle.std.specs.List.{list_any}
+use Rattle.std.specs.Option.{option_map_or}
 use Rattle.ess_grid.specs.Points.{IsPoint}
 use Rattle.plan_tree.specs.Plans.{PlanTree}
 use Rattle.cost_model.specs.Costing.{CostingTree}
@@ -45,14 +46,16 @@ learned_members bouquet = without_skipped (is_skipped bouquet.costing bouquet.th
 abbrev pub learned_end : BouquetTree → (work : PlanTree → ℕ) → RunEnd
 learned_end bouquet work = end_of work (learned_members bouquet) (final_plan bouquet)
 
+-- the skip of a member, by this point
+abbrev pub skip_of : Member → (point : List ℕ) → Skip
+skip_of member point = record { contour = member.contour; plan = member.place; point = point }
+
 -- the skips among some members, where these were exhausted before, up to the one that is done
 abbrev pub skips_among : CostingTree → (threshold : ℕ) → (work : PlanTree → ℕ) → (exhausted : List Member) → List Member → List Skip
 skips_among costing threshold work exhausted [] = []
 skips_among costing threshold work exhausted (member ∷ more) =
-    elim (skip_point costing threshold exhausted member) as (λ (skipped : Option (List ℕ)). List Skip) [
-      | Some point ↦ record { contour = member.contour; plan = member.place; point = point } ∷ skips_among costing threshold work exhausted more
-      | None ↦ if nat_le (work member.plan) member.budget then [] else skips_among costing threshold work (exhausted ++ member ∷ []) more
-    ]
+    option_map_or (λ point. skip_of member point ∷ skips_among costing threshold work exhausted more) (skip_point costing threshold exhausted member)
+    (if nat_le (work member.plan) member.budget then [] else skips_among costing threshold work (exhausted ++ member ∷ []) more)
 
 -- the skips of a run, in order
 abbrev pub skips_of : BouquetTree → (work : PlanTree → ℕ) → List Skip

@@ -9,11 +9,12 @@ ghost use Rattle.learned_run.specs.Raising.{IsLearned, RulesOut};
 
 use crate::corners::even;
 use crate::raise::rule_out;
+use bouquet_type::Attempt;
 use cost_model::Costing;
 use ess_grid::Point;
-use plan_tree::Plan;
 
 /// What exhausted executions have shown.
+#[derive(Drop)]
 pub(crate) struct Lesson {
     // Whether there were some.
     some: bool,
@@ -41,16 +42,18 @@ impl Lesson {
         if self.some { self.least } else { None }
     }
 
-    /// An execution of this plan was exhausted by this budget.
-    pub(crate) fn learn(&mut self, costing: &Costing<'_>, p: &Plan, budget: u128)
-        requires plan { IsPlan (block_tree costing.now.block) (plan_tree p.now) }
+    /// An execution was exhausted. The last one, without a budget, never is, and shows nothing.
+    pub(crate) fn learn(&mut self, costing: &Costing<'_>, step: Attempt<'_>)
+        requires plan { IsPlan (block_tree costing.now.block) (plan_tree step.plan.now) }
         requires point { IfSome self.old.least (IsPoint costing.now.grid) }
-        ensures some { self.new.some ≡ true }
-        ensures levels { RulesOut (costing_tree costing.now) (plan_tree p.now) budget
-            self.old.least self.new.least }
+        ensures some { IfSome step.entry.budget (λ _. self.new.some ≡ true) }
+        ensures levels { IfSome step.entry.budget (λ budget. RulesOut (costing_tree costing.now)
+            (plan_tree step.entry.plan.now) budget self.old.least self.new.least) }
         ensures of_grid { IfSome self.new.least (IsPoint costing.now.grid) }
     {
-        self.least = rule_out(costing, self.least, p, budget);
-        self.some = true;
+        if let Some(budget) = step.budget {
+            self.least = rule_out(costing, self.least, step.plan, budget);
+            self.some = true;
+        }
     }
 }

@@ -1,6 +1,6 @@
 // The run that learns. It relies on a schedule for the order and the budgets, on the steps for rows, work and what is told, and
 // on the frontiers for what is skipped.
-ghost use Rattle.std.specs.Prelude.{◌≡◌, ◌≤◌};
+ghost use Rattle.std.specs.Prelude.{◌≡◌, ◌<◌, ◌≤◌, ◌^◌, ◌++◌, [], ◌∷◌, OnOk};
 ghost use Rattle.query_block.specs.Blocks.{block_tree, IsPutOf};
 ghost use Rattle.exec_pipe.specs.Scenes.{IsEmptyContext};
 ghost use Rattle.exec_pipe.specs.Runs.{OnlyRuns};
@@ -18,6 +18,23 @@ use query_block::Block;
 use row_stack::Space;
 use run_step::execute;
 use std::alloc::{AllocError, Global};
+
+// Adds the skip of an execution by this point. An error is want of memory.
+fn note(skips: &mut Vec<Skip>, step: Attempt<'_>, point: Point) -> Result<(), AllocError>
+    requires { step.place < 2 ^ 32 }
+    ensures { OnOk result (skips.new.items ≡ skips.old.items ++ record {
+      contour = step.entry.contour;
+      plan = step.entry.place;
+      point = point;
+    } ∷ []) }
+{
+    skips.push(Skip {
+        contour: step.contour,
+        plan: step.place as u32,
+        point,
+    })?;
+    Ok(())
+}
 
 /// Answers the query of a bouquet as a run does that skips what its exhausted executions have ruled out. An execution of a plan
 /// that was exhausted shows that the plan's work is above its budget. Where works are at most costs, each point of the grid is
@@ -65,8 +82,6 @@ pub fn learn(
         )? {
             return Ok(Learned { report, skips });
         }
-        if let Some(budget) = step.budget {
-            lesson.learn(&costing, step.plan, budget);
-        }
+        lesson.learn(&costing, step);
     }
 }
