@@ -1,24 +1,37 @@
 -- What holds between two steps of a run that learns.
-use Rattle.std.proofs.Common.{◌≡◌, ◌∙◌, inl, inr, ℕ, ◌+◌, ◌-◌, ◌<◌, ◌≤◌, ◌++◌, ◌^◌, List, [], ◌∷◌, length, refl, ap, sym, subst, arith, append_assoc}
-use Rattle.std.specs.Prelude.{All, Bool, true, false, Option, Some, None, IfSome, IsSomeAnd, is_some, slice_get, if◌then◌else◌}
+use Rattle.std.proofs.Common.{◌≡◌, ◌∙◌, inl, inr, ℕ, ℤ, ◌+◌, ◌-◌, ◌<◌, ◌≤◌, ◌++◌, ◌^◌, List, [], ◌∷◌, length, refl, ap, sym, subst, arith, append_assoc}
+use Rattle.std.specs.Prelude.{All, Bool, true, false, Option, Some, None, IfSome, IsSomeAnd, IsErrAnd, Result, Ok, Err, is_some, slice_get, if◌then◌else◌}
 use Rattle.std.proofs.lemmas.Bool.{cases_Bool}
 use Rattle.std.proofs.lemmas.List.{append-nil}
 use Rattle.std.proofs.lemmas.List.Elements.{All-nil, All-head, All-tail, All-push}
 use Rattle.std.proofs.lemmas.Option.{slice_get_within}
 use Rattle.ess_grid.specs.Points.{IsGrid, IsPoint, bottom_of}
+use Rattle.query_block.specs.Blocks.{BlockTree, IsPutOf}
 use Rattle.plan_tree.specs.Plans.{PlanTree, plan_tree}
+use Rattle.plan_tree.specs.Enumerated.{IsPlan}
+use Rattle.plan_tree.specs.Work.{work_of}
+use Rattle.plan_tree.proofs.PutPlans.{put-plan}
+use Rattle.db_catalog.specs.Database.{DatabaseState}
+use Rattle.db_catalog.specs.Meter.{MeterState}
+use Rattle.row_stack.specs.declared.space.Space.{Space}
+use Rattle.exec_pipe.specs.Runs.{OnlyRuns}
 use Rattle.cost_model.specs.Frontier.{frontier}
 use Rattle.bouquet_type.specs.Trees.{BouquetTree, ContourTree}
 use Rattle.bouquet_type.specs.Schedule.{Member, final_plan, schedule}
-use Rattle.bouquet_type.specs.Cursor.{AttemptTree, ScheduleState, StandsAtFirst, TakesNext, attempt_at, attempt_tree, first_attempt, members_behind, members_left}
+use Rattle.bouquet_type.specs.Ladders.{AreTried}
+use Rattle.bouquet_type.specs.Cursor.{AttemptTree, IsSchedule, ScheduleState, StandsAtFirst, TakesNext, attempt_at, attempt_tree, first_attempt, members_behind, members_left}
 use Rattle.bouquet_type.specs.Runs.{RunEnd, end_of}
 use Rattle.bouquet_type.specs.Skipping.{without_skipped}
 use Rattle.bouquet_type.specs.declared.schedule.Attempt.{Attempt}
-use Rattle.run_step.specs.Coming.{Coming, Passes, Ends, GoesOn, coming}
+use Rattle.bouquet_type.specs.declared.report.RunFault.{RunFault}
+use Rattle.bouquet_type.specs.declared.report.RunFault.TheVariants.{WorkLimit, NoMemory}
+use Rattle.run_step.specs.Coming.{Coming, Passes, Ends, GoesOn, TellsStep, coming}
 use Rattle.run_step.proofs.Onward.{coming_next, run_from}
 use Rattle.learned_run.specs.declared.learned.Skip.{Skip}
 use Rattle.learned_run.specs.Learning.{learned_point}
 use Rattle.learned_run.specs.Skips.{IsSkipOf, covers_above, is_skipped, learned_end, skip_by, skip_of, skip_point, skips_among, skips_of}
+use Rattle.learned_run.specs.declared.learned.Learned.{Learned}
+use Rattle.learned_run.specs.Outcomes.{AnswersLearned, RefusesLearned}
 use Rattle.learned_run.specs.Raising.{IsLearned, RulesOut}
 use Rattle.learned_run.specs.Covering.{IsMemberOf, IsStepOf, member_of, step_skip}
 use Rattle.learned_run.proofs.RuledOut.{learned-is, learned-more, nothing-learned}
@@ -79,6 +92,12 @@ pub step-of : (bouquet : BouquetTree) (left : List Member) (step : Attempt) → 
 step-of bouquet [] step members at = subst (IsStepOf bouquet step) (sym at) tt
 step-of bouquet (member ∷ more) step members at =
     subst (IsStepOf bouquet step) (sym at.0) (subst (IsMemberOf bouquet) (sym at.1) (All-head (IsMemberOf bouquet) member more members))
+
+-- its place is one on a contour
+pub place-few : (state : ScheduleState) → IsSchedule state → state.given ≤ 4096
+place-few state is =
+    let hand = All-head (AreTried state.ladder.whole.costing.block) state.ladder.hand state.ladder.ahead is.ladder.tried in
+    omega (arith, is.given, hand.few)
 
 -- by which point it is skipped
 skip-first : (bouquet : BouquetTree) (exhausted : List Member) (member : Member) (more : List Member) (step : Attempt) (learned : Option (List ℕ)) → learned ≡ learned_point bouquet.costing exhausted
@@ -205,3 +224,34 @@ module _ (bouquet : BouquetTree) (work : PlanTree → ℕ) (spent runs : ℕ) (s
     learning-on spent' some' after is_grid so =
         goes-on most left step is at spent' some' after is_grid
         (goes-so bouquet.costing bouquet.threshold work (final_plan bouquet) most spent runs is.exhausted left spent' tried (comes-so (GoesOn spent') so))
+
+-- a plan of a bouquet's block is one of the block with values put in
+pub plan-of-put : (block put : BlockTree) (p : PlanTree) → IsPutOf block put → IsPlan block p → IsPlan put p
+plan-of-put block put p is plan = subst (λ b. IsPlan b p) (sym is.is) ((put-plan is.values block p).1 plan)
+
+-- why a step that isn't skipped is refused, so the run is
+pub refused-so : (bouquet : BouquetTree) (block : BlockTree) (database : DatabaseState) (most spent : ℕ) (comes : Coming) (results : List (List ℤ)) (fault : RunFault)
+    → (comes ≡ Passes → most < (learned_end bouquet (work_of database.tables block)).total) → TellsStep database block most comes spent results (Err fault)
+    → RefusesLearned bouquet block database most spent fault × (results ≡ [])
+refused-so bouquet block database most spent comes results (WorkLimit told) past tells = ((past tells.0, tells.1, tells.2), tells.3)
+refused-so bouquet block database most spent comes results NoMemory past tells = (tt, tells)
+
+pub refused-answer : (bouquet : BouquetTree) (block : BlockTree) (database : DatabaseState) (most spent : ℕ) (results : List (List ℤ)) (answer : Result Learned RunFault) (fault : RunFault)
+    → IsErrAnd answer (λ told. told ≡ fault) → RefusesLearned bouquet block database most spent fault × (results ≡ []) → AnswersLearned bouquet block database most spent results answer
+refused-answer bouquet block database most spent results (Ok learned) fault is refused = absurd is
+refused-answer bouquet block database most spent results (Err told) fault is refused =
+    subst (λ (one : RunFault). RefusesLearned bouquet block database most spent one × (results ≡ [])) (sym is) refused
+
+-- what a step leaves alone, and the steps before it
+pub leaves-on : (first middle last : MeterState) (space between after : Space) → OnlyRuns first middle space between → OnlyRuns middle last between after → OnlyRuns first last space after
+leaves-on first middle last space between after before then_so = record {
+  never_falls = omega (arith, before.never_falls, then_so.never_falls);
+  database = then_so.database ∙ before.database;
+  work = record {
+    rows = then_so.work.rows ∙ before.work.rows;
+    width = then_so.work.width ∙ before.work.width;
+    room = omega (arith, before.work.room, then_so.work.room);
+  };
+  width = then_so.width ∙ before.width;
+  room = omega (arith, before.room, then_so.room);
+}

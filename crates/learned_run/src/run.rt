@@ -62,6 +62,7 @@ pub fn learn(
     ensures within { meter.new.account.spent ≤ max_work }
     ensures leaves { OnlyRuns meter.old meter.new space.old space.new }
 {
+    let _block = b.block();
     let costing = b.costing();
     let mut frontiers = Frontiers::new(alloc, b, &costing);
     let mut lesson = Lesson::new(&costing);
