@@ -1,11 +1,11 @@
 -- What holds between two steps of a run that learns.
-use Rattle.std.proofs.Common.{◌≡◌, ◌∙◌, inl, inr, ℕ, ℤ, ◌+◌, ◌-◌, ◌<◌, ◌≤◌, ◌++◌, ◌^◌, List, [], ◌∷◌, length, refl, ap, sym, subst, arith, append_assoc}
-use Rattle.std.specs.Prelude.{All, Bool, true, false, Option, Some, None, IfSome, IsSomeAnd, IsErrAnd, Result, Ok, Err, is_some, slice_get, if◌then◌else◌}
+use Rattle.std.proofs.Common.{◌≡◌, ◌∙◌, inl, inr, ℕ, ℤ, ◌+◌, ◌-◌, ◌<◌, ◌≤◌, ◌++◌, List, [], ◌∷◌, length, refl, ap, sym, subst, arith, append_assoc}
+use Rattle.std.specs.Prelude.{All, Bool, true, false, Option, Some, None, IfSome, IsSomeAnd, IsErrAnd, Result, Ok, Err, is_some, if◌then◌else◌}
 use Rattle.std.proofs.lemmas.Bool.{cases_Bool}
 use Rattle.std.proofs.lemmas.List.{append-nil}
 use Rattle.std.proofs.lemmas.List.Elements.{All-nil, All-head, All-tail, All-push}
 use Rattle.std.proofs.lemmas.Option.{slice_get_within}
-use Rattle.ess_grid.specs.Points.{IsGrid, IsPoint, bottom_of}
+use Rattle.ess_grid.specs.Points.{IsGrid, IsPoint}
 use Rattle.query_block.specs.Blocks.{BlockTree, IsPutOf}
 use Rattle.plan_tree.specs.Plans.{PlanTree, plan_tree}
 use Rattle.plan_tree.specs.Enumerated.{IsPlan}
@@ -20,7 +20,7 @@ use Rattle.bouquet_type.specs.Trees.{BouquetTree, ContourTree}
 use Rattle.bouquet_type.specs.Schedule.{Member, final_plan, schedule}
 use Rattle.bouquet_type.specs.Ladders.{AreTried}
 use Rattle.bouquet_type.specs.Cursor.{AttemptTree, IsSchedule, ScheduleState, StandsAtFirst, TakesNext, attempt_at, attempt_tree, first_attempt, members_behind, members_left}
-use Rattle.bouquet_type.specs.Runs.{RunEnd, end_of}
+use Rattle.bouquet_type.specs.Runs.{RunEnd}
 use Rattle.bouquet_type.specs.Skipping.{without_skipped}
 use Rattle.bouquet_type.specs.declared.schedule.Attempt.{Attempt}
 use Rattle.bouquet_type.specs.declared.report.RunFault.{RunFault}
@@ -34,9 +34,9 @@ use Rattle.learned_run.specs.declared.learned.Learned.{Learned}
 use Rattle.learned_run.specs.Outcomes.{AnswersLearned, RefusesLearned}
 use Rattle.learned_run.specs.Raising.{IsLearned, RulesOut}
 use Rattle.learned_run.specs.Covering.{IsMemberOf, IsStepOf, member_of, step_skip}
-use Rattle.learned_run.proofs.RuledOut.{learned-is, learned-more, nothing-learned}
+use Rattle.learned_run.proofs.RuledOut.{learned-is, learned-more}
 use Rattle.learned_run.proofs.Members.{members-are}
-use Rattle.learned_run.proofs.Leading.{GoesBehind, IsTriedFirst, end_from, ends-so, goes-so, passes-so, skipped-first}
+use Rattle.learned_run.proofs.Leading.{GoesBehind, IsTriedFirst, ends-so, goes-so, passes-so, skipped-first}
 
 -- of a bouquet's run so much was spent by so many executions that were exhausted, and these were skipped; those executions left
 -- these least levels, and these members are left

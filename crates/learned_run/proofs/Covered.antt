@@ -1,7 +1,6 @@
 -- Rows say which plans cover a point at or above another one.
-use Rattle.std.proofs.Common.{◌≡◌, ◌∙◌, ◌↔◌, inl, inr, ℕ, ◌-◌, ◌*◌, ◌+◌, ◌<◌, ◌≤◌, ◌++◌, List, [], ◌∷◌, get_or, length, map, take, refl, ap, ap₂, sym, subst, arith}
-use Rattle.std.specs.Prelude.{All, Bool, true, false, IsTrue, ◌&&◌, ◌||◌, Some, nat_le, slice_get, slice_index_or}
-use Rattle.std.specs.List.{list_any}
+use Rattle.std.proofs.Common.{◌≡◌, ◌∙◌, ◌↔◌, inl, inr, ℕ, ◌+◌, ◌<◌, ◌++◌, List, [], ◌∷◌, get_or, length, map, take, refl, ap, ap₂, sym, arith}
+use Rattle.std.specs.Prelude.{All, Bool, true, false, IsTrue, ◌&&◌, ◌||◌, Some, slice_get, slice_index_or}
 use Rattle.std.proofs.lemmas.Bool.{cases_Bool, and_from, and_parts, le-leb, leb-true}
 use Rattle.std.proofs.lemmas.List.{length-map, get_or-map, map-append, take_more}
 use Rattle.std.proofs.lemmas.List.Elements.{All-head, All-tail}

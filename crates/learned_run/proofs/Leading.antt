@@ -1,6 +1,6 @@
 -- What comes of the next execution that isn't skipped, in the whole run.
-use Rattle.std.proofs.Common.{◌≡◌, ◌∙◌, inl, inr, ℕ, ◌+◌, ◌<◌, ◌++◌, List, [], ◌∷◌, length, refl, ap, sym, subst, arith}
-use Rattle.std.specs.Prelude.{Bool, true, false, Option, Some, None, is_some, nat_le, nat_lt}
+use Rattle.std.proofs.Common.{◌≡◌, ◌∙◌, inl, inr, ℕ, ◌+◌, ◌<◌, ◌++◌, List, [], ◌∷◌, refl, ap, sym, subst}
+use Rattle.std.specs.Prelude.{Bool, true, false, None, is_some, nat_le, nat_lt}
 use Rattle.std.proofs.lemmas.Bool.{cases_Bool}
 use Rattle.plan_tree.specs.Plans.{PlanTree}
 use Rattle.cost_model.specs.Costing.{CostingTree}
@@ -9,9 +9,9 @@ use Rattle.bouquet_type.specs.Schedule.{Member}
 use Rattle.bouquet_type.specs.Skipping.{without_skipped}
 use Rattle.bouquet_type.specs.Cursor.{AttemptTree, first_attempt, members_behind}
 use Rattle.bouquet_type.specs.Runs.{RunEnd}
-use Rattle.run_step.specs.Coming.{Coming, Passes, Ends, GoesOn, coming, is_done}
+use Rattle.run_step.specs.Coming.{Passes, Ends, GoesOn, coming, is_done}
 use Rattle.run_step.proofs.Onward.{LeadsOn, coming_next, leads-on, run_from}
-use Rattle.learned_run.specs.Skips.{is_skipped, skip_of, skip_point, skips_among}
+use Rattle.learned_run.specs.Skips.{is_skipped, skip_point, skips_among}
 
 -- a plan that ends the run is done, and one that doesn't isn't
 done-ends : (most spent runs work : ℕ) (step : AttemptTree) (end : RunEnd) → coming most spent runs work step ≡ Ends end → is_done step.budget work ≡ true

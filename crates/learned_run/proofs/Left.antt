@@ -1,6 +1,6 @@
 -- The points that exhausted executions leave are closed upwards.
 use Rattle.std.proofs.Common.{◌≡◌, ◌∙◌, ℕ, ◌<◌, ◌++◌, List, [], ◌∷◌, refl, ap, arith}
-use Rattle.std.specs.Prelude.{Contains, true, ◌&&◌, nat_lt}
+use Rattle.std.specs.Prelude.{true, ◌&&◌, nat_lt}
 use Rattle.std.specs.List.{list_all}
 use Rattle.std.proofs.Math.Bool.{and-true}
 use Rattle.std.proofs.lemmas.Bool.{and_from, and_parts, lt-ltb, ltb-true}

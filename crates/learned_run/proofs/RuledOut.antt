@@ -1,5 +1,5 @@
 -- The least levels of the points that are left rise as is defined.
-use Rattle.std.proofs.Common.{◌≡◌, ◌∙◌, inl, inr, ℕ, ◌+◌, ◌-◌, ◌<◌, ◌≤◌, ◌++◌, List, [], ◌∷◌, refl, ap, sym, subst, arith}
+use Rattle.std.proofs.Common.{◌≡◌, ◌∙◌, inl, inr, ℕ, ◌<◌, ◌≤◌, ◌++◌, List, [], ◌∷◌, refl, ap, sym, subst, arith}
 use Rattle.std.specs.Prelude.{Bool, Option, Some, None, true, false, slice_index, IfSome, if◌then◌else◌}
 use Rattle.std.proofs.lemmas.List.{length-replicate, get_or-replicate}
 use Rattle.std.proofs.lemmas.List.Elements.{All-replicate}
@@ -13,8 +13,8 @@ use Rattle.cost_model.specs.Costing.{CostingTree}
 use Rattle.cost_model.specs.Costs.{cost_of}
 use Rattle.cost_model.proofs.Monotone.{cost-le}
 use Rattle.bouquet_type.specs.Schedule.{Member}
-use Rattle.learned_run.specs.Learning.{is_left, learned_point, least_levels, points_left}
-use Rattle.learned_run.specs.Raising.{IsLevelPast, IsRaised, RulesOut, IsLearned, are_some, corner_of}
+use Rattle.learned_run.specs.Learning.{learned_point, least_levels, points_left}
+use Rattle.learned_run.specs.Raising.{IsRaised, RulesOut, IsLearned, are_some, corner_of}
 use Rattle.learned_run.proofs.Left.{left-above, left-still, left-before, in-left, of-left}
 use Rattle.learned_run.proofs.Levels.{AreLeast, levels-are, are-levels, no-points, levels-none}
 use Rattle.learned_run.proofs.CornerPoints.{corner-level, corner-point, below-corner}
@@ -109,10 +109,10 @@ stays-raised costing p budget point is_point past =
       of_grid = is_point;
       top = above (top_of costing.grid) (PointBelow-top costing.grid point is_point);
       levels = λ axis there. record {
-          risen = omega arith;
-          past = above (corner_of costing.grid axis (slice_index point axis)) (below-corner costing.grid point axis (slice_index point axis) is_point (omega arith));
-          within = λ lower least less. absurd (omega (arith, least, less));
-        };
+        risen = omega arith;
+        past = above (corner_of costing.grid axis (slice_index point axis)) (below-corner costing.grid point axis (slice_index point axis) is_point (omega arith));
+        within = λ lower least less. absurd (omega (arith, least, less));
+      };
     }
 
 -- before an execution is exhausted all points are left

@@ -1,7 +1,7 @@
 -- Whether an execution is skipped, by the rows of its contour's frontier.
-use Rattle.std.proofs.Common.{◌≡◌, ◌∙◌, ℕ, ◌-◌, ◌<◌, ◌≤◌, List, length, map, get_or, refl, ap, sym, subst, arith}
-use Rattle.std.specs.Prelude.{All, Bool, true, false, Option, Some, None, slice_get}
-use Rattle.std.proofs.lemmas.List.{length-map, get_or-map, get_or_default}
+use Rattle.std.proofs.Common.{◌≡◌, ◌∙◌, ℕ, ◌-◌, ◌<◌, List, length, map, get_or, refl, ap, sym, subst, arith}
+use Rattle.std.specs.Prelude.{All, Bool, true, false, Some, None, slice_get}
+use Rattle.std.proofs.lemmas.List.{length-map, get_or-map}
 use Rattle.std.proofs.lemmas.Option.{slice_get_within, get_or_from_slice_get}
 use Rattle.plan_tree.specs.Plans.{plan_tree}
 use Rattle.cost_model.specs.Costing.{CostingShape, costing_tree}

@@ -1,7 +1,6 @@
 -- Of a compiled bouquet a plan that fits is never skipped, so a run that learns is within the bound.
-use Rattle.std.proofs.Common.{◌≡◌, ◌∙◌, ℕ, ◌+◌, ◌*◌, ◌<◌, ◌≤◌, List, [], ◌∷◌, Contains, get_or, refl, ap, sym, subst, arith}
-use Rattle.std.specs.Prelude.{All, Bool, true, false, IsTrue, ◌&&◌, Option, Some, None, is_some, nat_lt}
-use Rattle.std.specs.List.{list_any}
+use Rattle.std.proofs.Common.{◌≡◌, ◌∙◌, ℕ, ◌<◌, ◌≤◌, List, [], ◌∷◌, Contains, get_or, refl, ap, sym, subst, arith}
+use Rattle.std.specs.Prelude.{All, true, false, ◌&&◌, Option, Some, None, is_some}
 use Rattle.std.proofs.lemmas.Bool.{and_from, lt-ltb}
 use Rattle.std.proofs.lemmas.List.Elements.{All-head, All-tail}
 use Rattle.std.proofs.lemmas.List.Folds.{list_any_at}
@@ -23,7 +22,6 @@ use Rattle.bouquet_type.specs.Trees.{BouquetTree, ContourTree}
 use Rattle.bouquet_type.specs.Compiled.{IsCompiled}
 use Rattle.bouquet_type.specs.Schedule.{Member}
 use Rattle.bouquet_type.specs.Skipping.{AreExhausted}
-use Rattle.bouquet_type.specs.Runs.{CostPremise}
 use Rattle.bouquet_type.specs.Bounded.{IsWithinBound}
 use Rattle.bouquet_type.proofs.Bound.{FitsUnskipped, bound-skipping}
 use Rattle.bouquet_type.proofs.CompiledSound.{are-sound, covered-within}

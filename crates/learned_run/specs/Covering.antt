@@ -4,7 +4,7 @@ use Rattle.std.specs.List.{list_any}
 use Rattle.plan_tree.specs.declared.plan.Plan.{Plan}
 use Rattle.plan_tree.specs.Plans.{PlanTree, plan_tree}
 use Rattle.plan_space.specs.CostedPlans.{CostedPlansShape}
-use Rattle.cost_model.specs.Costing.{CostingShape, CostingTree, costing_tree}
+use Rattle.cost_model.specs.Costing.{CostingShape, CostingTree}
 use Rattle.cost_model.specs.Frontier.{frontier}
 use Rattle.cost_model.specs.Greedy.{covers_at}
 use Rattle.bouquet_type.specs.Trees.{BouquetTree, ContourTree, bouquet_tree}

@@ -1,5 +1,5 @@
 -- Which executions of a bouquet's schedule are skipped, and how the run goes without them.
-use Rattle.std.specs.Prelude.{◌≡◌, ℕ, ◌-◌, ◌≤◌, ◌++◌, ◌&&◌, nat_le, Bool, true, false, List, [], ◌∷◌, Option, Some, None, IsSomeAnd, is_some, length, slice_get, if◌then◌else◌}
+use Rattle.std.specs.Prelude.{ℕ, ◌-◌, ◌≤◌, ◌++◌, ◌&&◌, nat_le, Bool, true, false, List, [], ◌∷◌, Option, Some, None, IsSomeAnd, is_some, length, slice_get, if◌then◌else◌}
 use Rattle.std.specs.List.{list_any}
 use Rattle.std.specs.Option.{option_map_or}
 use Rattle.ess_grid.specs.Points.{IsPoint}

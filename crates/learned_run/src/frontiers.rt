@@ -41,7 +41,11 @@ impl<'c> Model for Frontiers<'c> {
 
 impl<'c> Frontiers<'c> {
     /// Those of a bouquet. It takes no memory.
-    pub(crate) fn new(alloc: Global, bouquet: &'c Bouquet, costing: &'c Costing<'c>) -> Frontiers<'c>
+    pub(crate) fn new(
+        alloc: Global,
+        bouquet: &'c Bouquet,
+        costing: &'c Costing<'c>,
+    ) -> Frontiers<'c>
         requires { costing.now ≡ costing_shape bouquet.now }
         ensures { result ≡ record { bouquet = bouquet.now; number = 0 } }
     {

@@ -1,6 +1,5 @@
-use Rattle.std.proofs.Common.{◌≡◌, ◌∙◌, ◌-◌, replicate, set, take, ap, sym, subst, arith}
-use Rattle.ess_grid.specs.Points.{GridShape, IsPoint}
-use Rattle.learned_run.specs.Raising.{corner_of}
+use Rattle.std.proofs.Common.{sym, subst}
+use Rattle.ess_grid.specs.Points.{IsPoint}
 use Rattle.learned_run.proofs.CornerPoints.{corner-made, corner-point}
 use Rattle.learned_run.proofs.corners.corner.Goals as goal
 

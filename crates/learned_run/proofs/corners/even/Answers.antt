@@ -1,5 +1,4 @@
-use Rattle.std.proofs.Common.{◌≡◌, ◌∙◌, replicate, ap, sym, subst}
-use Rattle.std.proofs.lemmas.List.{take-replicate}
+use Rattle.std.proofs.Common.{sym, subst}
 use Rattle.ess_grid.specs.Points.{IsPoint}
 use Rattle.learned_run.proofs.CornerPoints.{even-point, even-made}
 use Rattle.learned_run.proofs.corners.even.Goals as goal

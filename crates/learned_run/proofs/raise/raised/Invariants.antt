@@ -1,4 +1,4 @@
-use Rattle.std.proofs.Common.{ℕ, ◌<◌, ◌≤◌, ◌≡◌, length}
+use Rattle.std.proofs.Common.{ℕ, ◌<◌, ◌≡◌, length}
 use Rattle.std.specs.Prelude.{slice_index}
 use Rattle.plan_tree.specs.Plans.{plan_tree}
 use Rattle.cost_model.specs.Costing.{costing_tree}

@@ -1,5 +1,5 @@
-use Rattle.std.proofs.Common.{rules, ◌≡◌, ◌∙◌, ℕ, ◌+◌, ◌<◌, ◌≤◌, List, [], ◌∷◌, ◌++◌, length, ap, sym, subst, arith}
-use Rattle.std.specs.Prelude.{Bool, Option, Some, None, Ok, Err, IfSome, Result}
+use Rattle.std.proofs.Common.{rules, ◌≡◌, ◌∙◌, ℕ, ◌+◌, ◌≤◌, List, [], length, ap, sym, subst, arith}
+use Rattle.std.specs.Prelude.{Option, Some, None, Ok, Err, IfSome}
 use Rattle.query_block.specs.Blocks.{block_tree}
 use Rattle.plan_tree.specs.Plans.{plan_tree}
 use Rattle.plan_tree.specs.Enumerated.{IsPlan}
@@ -15,16 +15,14 @@ use Rattle.bouquet_type.specs.Cursor.{attempt_tree, first_attempt, members_behin
 use Rattle.bouquet_type.specs.Reports.{told_end}
 use Rattle.bouquet_type.specs.Runs.{RunEnd}
 use Rattle.bouquet_type.specs.declared.report.Report.{Report}
-use Rattle.bouquet_type.specs.declared.report.RunFault.{RunFault}
 use Rattle.bouquet_type.proofs.Meets.{plans-of-bouquet}
 use Rattle.db_catalog.specs.Database.{DatabaseState}
 use Rattle.known_rows.specs.Known.{AreKnown}
 use Rattle.known_rows.proofs.Laws.{nothing-known}
-use Rattle.run_step.specs.Coming.{Coming, GoesOn, TellsStep, coming}
+use Rattle.run_step.specs.Coming.{Coming, TellsStep, coming}
 use Rattle.learned_run.specs.declared.learned.Skip.{Skip}
-use Rattle.learned_run.specs.Outcomes.{AnswersLearned}
 use Rattle.learned_run.specs.Raising.{IsLearned, RulesOut}
-use Rattle.learned_run.specs.Skips.{learned_end, skips_of}
+use Rattle.learned_run.specs.Skips.{learned_end}
 use Rattle.learned_run.specs.Covering.{FrontiersShape, IsStepOf, step_skip}
 use Rattle.learned_run.proofs.Between.{IsLearning, learning-begun, learning-skipped, learning-passed, learning-ended, learning-on, leaves-on, place-few, plan-of-put, refused-answer, refused-so, step-at, step-of}
 use Rattle.learned_run.proofs.Unskipped.{learned-bound}

@@ -1,5 +1,4 @@
-use Rattle.std.proofs.Common.{◌≡◌, ◌∙◌, ap, sym, subst}
-use Rattle.bouquet_type.specs.Shapes.{BouquetShape}
+use Rattle.std.proofs.Common.{◌∙◌, ap, sym}
 use Rattle.learned_run.specs.Covering.{FrontiersShape, costing_shape}
 use Rattle.learned_run.proofs.Stepped.{frontiers-made}
 use Rattle.learned_run.proofs.frontiers.Frontiers.climb_to.Goals as goal

@@ -1,6 +1,6 @@
-use Rattle.std.proofs.Common.{◌≡◌, ◌∙◌, ℕ, [], List, replicate, ap, sym, subst}
+use Rattle.std.proofs.Common.{◌≡◌, ◌∙◌, ℕ, [], List, ap, sym, subst}
 use Rattle.std.specs.Prelude.{Some, false}
-use Rattle.ess_grid.specs.Points.{GridShape, IsGrid, bottom_of}
+use Rattle.ess_grid.specs.Points.{IsGrid, bottom_of}
 use Rattle.cost_model.specs.Costing.{costing_tree}
 use Rattle.learned_run.specs.Raising.{IsLearned}
 use Rattle.learned_run.proofs.RuledOut.{nothing-learned}
