@@ -1,11 +1,13 @@
 -- What is written by the grammar, what is read and what is printed are the same: each production's part of that, in a file
 -- of its name, and the whole.
 pub mod Audit
+pub mod BouquetUse
 pub mod Check
 pub mod Compile
 pub mod CreateIndex
 pub mod CreateTable
 pub mod Explain
+pub mod Learn
 pub mod Load
 pub mod OpenFile
 pub mod Run
@@ -41,6 +43,7 @@ use Rattle.sql_parse.proofs.Statements.Compile.{compile-reads, compile-again, co
 use Rattle.sql_parse.proofs.Statements.CreateIndex.{create_index-reads, create_index-again, create_index-printed, create_index-writable, create_index-held}
 use Rattle.sql_parse.proofs.Statements.CreateTable.{create_table-reads, create_table-again, create_table-printed, create_table-writable, create_table-held, create_table-some}
 use Rattle.sql_parse.proofs.Statements.Explain.{explain-reads, explain-again, explain-printed, explain-writable, explain-held}
+use Rattle.sql_parse.proofs.Statements.Learn.{learn-reads, learn-again, learn-printed, learn-writable, learn-held}
 use Rattle.sql_parse.proofs.Statements.Load.{load-reads, load-again, load-printed, load-writable, load-held, load-utf8}
 use Rattle.sql_parse.proofs.Statements.OpenFile.{open_file-reads, open_file-again, open_file-printed, open_file-writable, open_file-held, open_file-well_formed}
 use Rattle.sql_parse.proofs.Statements.Run.{run-reads, run-again, run-printed, run-writable, run-held}
@@ -80,6 +83,7 @@ each-read =
     & open_file-reads
     & audit-reads
     & check-reads
+    & learn-reads
     & tt
 
 after_keyword : (word : List ℕ) (tokens rest : List Lexeme) (read : Option (StatementTree × List Lexeme)) → tokens ≡ Word word ∷ rest
@@ -131,6 +135,7 @@ statement-again tokens (tree.SaveFile save) form = save_file-again tokens save f
 statement-again tokens (tree.OpenFile name file query) form = open_file-again name file query tokens form
 statement-again tokens (tree.Audit audit) form = audit-again tokens audit form
 statement-again tokens (tree.Check name) form = check-again tokens name form
+statement-again tokens (tree.Learn run) form = learn-again tokens run form
 
 -- the statement of the tokens is the one that reading gives
 pub statement_of-again : (tokens : List Lexeme) (statement : StatementTree) → IsStatement tokens statement → statement_of tokens ≡ Some statement
@@ -154,6 +159,7 @@ statement-printed tokens (tree.SaveFile save) form = save_file-printed tokens sa
 statement-printed tokens (tree.OpenFile name file query) form = open_file-printed name file tokens query form
 statement-printed tokens (tree.Audit audit) form = audit-printed tokens audit form
 statement-printed tokens (tree.Check name) form = check-printed tokens name form
+statement-printed tokens (tree.Learn run) form = learn-printed tokens run form
 
 pub statement-writable : IsWritable IsStatement statement_parts
 statement-writable tokens (tree.CreateTable table) sound form = create_table-writable tokens table sound form
@@ -167,6 +173,7 @@ statement-writable tokens (tree.SaveFile save) sound form = save_file-writable t
 statement-writable tokens (tree.OpenFile name file query) sound form = open_file-writable name file tokens query sound form
 statement-writable tokens (tree.Audit audit) sound form = audit-writable tokens audit sound form
 statement-writable tokens (tree.Check name) sound form = check-writable tokens name sound form
+statement-writable tokens (tree.Learn run) sound form = learn-writable tokens run sound form
 
 -- the operands of a statement
 abbrev pub terms_of : StatementTree → List Term
@@ -184,6 +191,7 @@ statement-held tokens (tree.SaveFile save) form = save_file-held tokens save for
 statement-held tokens (tree.OpenFile name file query) form = open_file-held name file tokens query form
 statement-held tokens (tree.Audit audit) form = audit-held tokens audit form
 statement-held tokens (tree.Check name) form = check-held tokens name form
+statement-held tokens (tree.Learn run) form = learn-held tokens run form
 
 -- a statement has the parts that the layers above rely on
 pub statement-well_formed : (tokens : List Lexeme) (statement : StatementTree) → EachSound tokens → AreNumbered (condition_of statement) → IsStatement tokens statement

@@ -1,11 +1,13 @@
 -- The statements of the language. Each has a production, in a file of its name: which tokens are written for it, how it
 -- is read, and how it is printed. Here they are put together.
 pub mod Audit
+pub mod BouquetUse
 pub mod Check
 pub mod Compile
 pub mod CreateIndex
 pub mod CreateTable
 pub mod Explain
+pub mod Learn
 pub mod Load
 pub mod OpenFile
 pub mod Run
@@ -26,6 +28,7 @@ use Rattle.sql_parse.specs.Statements.Compile.{IsCompile, compile_at, compile_pa
 use Rattle.sql_parse.specs.Statements.CreateIndex.{IsCreateIndex, create_index_at, create_index_parts}
 use Rattle.sql_parse.specs.Statements.CreateTable.{IsCreateTable, create_table_at, create_table_parts}
 use Rattle.sql_parse.specs.Statements.Explain.{IsExplain, explain_at, explain_parts}
+use Rattle.sql_parse.specs.Statements.Learn.{IsLearn, learn_at, learn_parts}
 use Rattle.sql_parse.specs.Statements.Load.{IsLoad, load_at, load_parts}
 use Rattle.sql_parse.specs.Statements.OpenFile.{IsOpenFile, open_file_at, open_file_parts}
 use Rattle.sql_parse.specs.Statements.Run.{IsRunStatement, run_at, run_parts}
@@ -44,6 +47,7 @@ IsStatement tokens (tree.SaveFile save) = IsSaveFile tokens save
 IsStatement tokens (tree.OpenFile name file query) = IsOpenFile name file tokens query
 IsStatement tokens (tree.Audit audit) = IsAudit tokens audit
 IsStatement tokens (tree.Check name) = IsCheck tokens name
+IsStatement tokens (tree.Learn run) = IsLearn tokens run
 
 unfoldable pub create_at : Reader StatementTree
 create_at tokens =
@@ -65,6 +69,7 @@ productions =
     ∷ (codes "OPEN", open_file_at)
     ∷ (codes "AUDIT", audit_at)
     ∷ (codes "CHECK", check_at)
+    ∷ (codes "LEARN", learn_at)
     ∷ []
 
 -- the statement of the first keyword that stands here, or a query
@@ -96,6 +101,7 @@ statement_parts (tree.SaveFile save) = save_file_parts save
 statement_parts (tree.OpenFile name file query) = open_file_parts name file query
 statement_parts (tree.Audit audit) = audit_parts audit
 statement_parts (tree.Check name) = check_parts name
+statement_parts (tree.Learn run) = learn_parts run
 
 -- the canonical text of a statement
 abbrev pub canonical : StatementTree → List ℕ

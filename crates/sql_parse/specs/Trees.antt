@@ -58,6 +58,7 @@ pub data StatementTree : Type 0 where
   OpenFile : (name file : List ℕ) → QueryTree → StatementTree
   Audit : AuditDef → StatementTree
   Check : (name : List ℕ) → StatementTree
+  Learn : RunDef → StatementTree
 
 -- one node, with the trees of its operands in their places
 abbrev pub condition_node : Cond-F ConditionTree → ConditionTree
@@ -91,6 +92,7 @@ statement_tree (code.SaveFile file) = SaveFile file
 statement_tree (code.OpenFile opened) = OpenFile opened.name opened.file (query_tree opened.query)
 statement_tree (code.Audit audit) = Audit audit
 statement_tree (code.Check name) = Check name
+statement_tree (code.Learn run) = Learn run
 
 abbrev pub statement_trees : List Statement → List StatementTree
 statement_trees statements = map statement_tree statements

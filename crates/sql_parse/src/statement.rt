@@ -8,11 +8,13 @@ ghost use Rattle.sql_parse.specs.Printing.{PutsParts};
 ghost use Rattle.sql_parse.specs.Statements.{create_at, statement_at, statement_of, statement_parts};
 
 mod audit;
+mod bouquet_use;
 mod check;
 mod compile;
 mod create_index;
 mod create_table;
 mod explain;
+mod learn;
 mod load;
 mod open_file;
 mod run;
@@ -34,6 +36,7 @@ use compile::{compile, print_compile};
 use create_index::{create_index, print_create_index};
 use create_table::{create_table, print_create_table};
 use explain::{explain, print_explain};
+use learn::{learn, print_learn};
 use load::{load, print_load};
 use open_file::{open_file, print_open_file};
 use run::{print_run, run};
@@ -56,6 +59,8 @@ pub enum Statement {
     Audit(AuditDef),
     /// CHECK of a bouquet.
     Check(Name),
+    /// LEARN: a run that learns.
+    Learn(RunDef),
 }
 
 // From the word after CREATE on.
@@ -102,6 +107,9 @@ fn first_statement<'s>(alloc: Global, piece: Piece<'s>) -> Result<(Statement, Pi
     if let Some(after) = piece.after_word(b"CHECK") {
         return check(alloc, after);
     }
+    if let Some(after) = piece.after_word(b"LEARN") {
+        return learn(alloc, after);
+    }
     let (query, rest) = select(alloc, piece)?;
     Ok((Statement::Select(query), rest))
 }
@@ -142,5 +150,6 @@ pub(crate) fn print_statement(writer: &mut Writer, statement: &Statement) -> Res
         Statement::OpenFile(opened) => print_open_file(writer, opened),
         Statement::Audit(audit) => print_audit(writer, audit),
         Statement::Check(name) => print_check(writer, name),
+        Statement::Learn(run) => print_learn(writer, run),
     }
 }

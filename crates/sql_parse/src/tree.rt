@@ -52,7 +52,7 @@ pub struct OpenDef {
     pub query: Query,
 }
 
-/// RUN. Without USING there are no values.
+/// RUN, or LEARN. Without USING there are no values.
 #[derive(Debug, Drop)]
 pub struct RunDef {
     pub name: Name,

@@ -1,22 +1,19 @@
 -- RUN.
 use Rattle.std.specs.Prelude.{codes, ◌≡◌, List, ◌∷◌, Some}
-use Rattle.sql_parse.specs.Productions.{Lexeme, Word, Rule, IsName, Reader, ◌>>=◌, name_at, Keyword, Part, Name}
+use Rattle.sql_parse.specs.Productions.{Lexeme, Word, Rule, Reader, ◌>>=◌, Keyword, Part}
 use Rattle.sql_parse.specs.declared.tree.RunDef.{RunDef}
 use Rattle.sql_parse.specs.Trees.{StatementTree, Run}
-use Rattle.sql_parse.specs.Statements.Using.{IsUsing, using_at, using_parts}
+use Rattle.sql_parse.specs.Statements.BouquetUse.{IsBouquetUse, bouquet_use_at, bouquet_use_parts}
 
 -- RUN name [ USING "(" literal { "," literal } ")" ]
 abbrev pub IsRunStatement : Rule RunDef
-IsRunStatement tokens run =
-    (values : List Lexeme) × (tokens ≡ Word (codes "RUN") ∷ Word run.name ∷ values)
-    × IsName run.name × IsUsing values run.values
+IsRunStatement tokens run = (used : List Lexeme) × (tokens ≡ Word (codes "RUN") ∷ used) × IsBouquetUse used run
 
 -- after RUN
 unfoldable pub run_at : Reader StatementTree
 run_at tokens = do
-  name ← name_at tokens
-  values ← using_at name.1
-  Some (Run (record { name = name.0; values = values.0 }), values.1)
+  used ← bouquet_use_at tokens
+  Some (Run used.0, used.1)
 
 abbrev pub run_parts : RunDef → List Part
-run_parts run = Keyword (codes "RUN") ∷ Name run.name ∷ using_parts run.values
+run_parts run = Keyword (codes "RUN") ∷ bouquet_use_parts run

@@ -4,7 +4,7 @@ ghost use Rattle.sql_parse.specs.Reading.{GivesStatement};
 ghost use Rattle.sql_parse.specs.Printing.{PutsParts};
 ghost use Rattle.sql_parse.specs.Statements.Run.{run_at, run_parts};
 
-use super::using::{print_using, using};
+use super::bouquet_use::{bouquet_use, print_bouquet_use};
 use crate::fault::ReadFault;
 use crate::piece::Piece;
 use crate::statement::Statement;
@@ -17,16 +17,13 @@ use std::alloc::{AllocError, Global};
 pub(crate) fn run<'s>(alloc: Global, piece: Piece<'s>) -> Result<(Statement, Piece<'s>), ReadFault>
     ensures { GivesStatement result (run_at piece.entry) }
 {
-    let (name, rest) = piece.name(alloc)?;
-    let (values, rest) = using(alloc, rest)?;
-    Ok((Statement::Run(RunDef { name, values }), rest))
+    let (used, rest) = bouquet_use(alloc, piece)?;
+    Ok((Statement::Run(used), rest))
 }
 
-#[tactic(auto, using(crate::proofs::Written::of_lines))]
 pub(crate) fn print_run(writer: &mut Writer, run: &RunDef) -> Result<(), AllocError>
     ensures { PutsParts result writer.old writer.new (run_parts run.now) }
 {
     writer.keyword(b"RUN")?;
-    writer.name(&run.name)?;
-    print_using(writer, run.values.as_slice())
+    print_bouquet_use(writer, run)
 }

@@ -1,0 +1,31 @@
+-- What is written by the grammar for a bouquet and its values, what is read and what is printed are the same.
+use Rattle.std.proofs.Common.{◌≡◌, List, [], ◌∷◌, ◌++◌, Some, refl, subst}
+use Rattle.sql_parse.proofs.Productions.{Lexeme, Word, name_at, Reads, then_read, also, name-reads, tokens_of, IsPrintedBy, EachSound, IsWritable, Holds, no_terms, hold-after}
+use Rattle.sql_parse.specs.declared.tree.RunDef.{RunDef}
+use Rattle.sql_parse.specs.Statements.Using.{using_parts}
+use Rattle.sql_parse.specs.Statements.BouquetUse.{IsBouquetUse, bouquet_use_at, bouquet_use_parts}
+use Rattle.sql_parse.proofs.Statements.Using.{using-reads, using-again, using-printed, using-writable, using-held}
+
+pub bouquet_use-reads : Reads IsBouquetUse bouquet_use_at
+unfolding bouquet_use_at
+bouquet_use-reads = record {
+  each = λ tokens.
+      then_read name-reads tokens _ _ (λ name a.
+      then_read using-reads name.1 _ _ (λ values b. (a.0 ++ b.0, also _ _ _ a.1 b.1, (b.0, rw a.2.0 refl, a.2.1, b.2))));
+}
+
+pub bouquet_use-again : (tokens : List Lexeme) (run : RunDef) → IsBouquetUse tokens run → bouquet_use_at tokens ≡ Some (run, [])
+unfolding bouquet_use_at name_at
+bouquet_use-again tokens run form = rw (form.1, form.2, using-again form.0 run.values form.3) refl
+
+pub bouquet_use-printed : IsPrintedBy IsBouquetUse bouquet_use_parts
+bouquet_use-printed tokens run form = (tokens_of (using_parts run.values), refl, form.2, using-printed form.0 run.values form.3)
+
+pub bouquet_use-writable : IsWritable IsBouquetUse bouquet_use_parts
+bouquet_use-writable tokens run sound form =
+    let all : EachSound (Word run.name ∷ form.0) = subst EachSound form.1 sound in
+    (all.0, tt, using-writable form.0 run.values all.1 form.3)
+
+pub bouquet_use-held : Holds IsBouquetUse no_terms
+bouquet_use-held tokens run form =
+    rw form.1 (hold-after (Word run.name) form.0 [] refl (using-held form.0 run.values form.3))
