@@ -9,9 +9,11 @@ pub mod CreateTable
 pub mod Explain
 pub mod Learn
 pub mod Load
+pub mod Numbers
 pub mod OpenFile
 pub mod Run
 pub mod SaveFile
+pub mod Turns
 pub mod Using
 use Rattle.std.proofs.Common.{ℕ, codes, ◌≡◌, cond, eqb, List, [], ◌∷◌, ◌++◌, length, Option, Some, None, refl, sym, ap, subst, ◌∙◌}
 use Rattle.std.proofs.Math.Dec.{eqb-suc-zero}
@@ -48,6 +50,7 @@ use Rattle.sql_parse.proofs.Statements.Load.{load-reads, load-again, load-printe
 use Rattle.sql_parse.proofs.Statements.OpenFile.{open_file-reads, open_file-again, open_file-printed, open_file-writable, open_file-held, open_file-well_formed}
 use Rattle.sql_parse.proofs.Statements.Run.{run-reads, run-again, run-printed, run-writable, run-held}
 use Rattle.sql_parse.proofs.Statements.SaveFile.{save_file-reads, save_file-again, save_file-printed, save_file-writable, save_file-held, save_file-utf8}
+use Rattle.sql_parse.proofs.Statements.Turns.{turns-reads, turns-again, turns-printed, turns-writable, turns-held}
 
 -- what is read is written by the grammar
 
@@ -84,6 +87,7 @@ each-read =
     & audit-reads
     & check-reads
     & learn-reads
+    & turns-reads
     & tt
 
 after_keyword : (word : List ℕ) (tokens rest : List Lexeme) (read : Option (StatementTree × List Lexeme)) → tokens ≡ Word word ∷ rest
@@ -136,6 +140,7 @@ statement-again tokens (tree.OpenFile name file query) form = open_file-again na
 statement-again tokens (tree.Audit audit) form = audit-again tokens audit form
 statement-again tokens (tree.Check name) form = check-again tokens name form
 statement-again tokens (tree.Learn run) form = learn-again tokens run form
+statement-again tokens (tree.Turns turns) form = turns-again tokens turns form
 
 -- the statement of the tokens is the one that reading gives
 pub statement_of-again : (tokens : List Lexeme) (statement : StatementTree) → IsStatement tokens statement → statement_of tokens ≡ Some statement
@@ -160,6 +165,7 @@ statement-printed tokens (tree.OpenFile name file query) form = open_file-printe
 statement-printed tokens (tree.Audit audit) form = audit-printed tokens audit form
 statement-printed tokens (tree.Check name) form = check-printed tokens name form
 statement-printed tokens (tree.Learn run) form = learn-printed tokens run form
+statement-printed tokens (tree.Turns turns) form = turns-printed tokens turns form
 
 pub statement-writable : IsWritable IsStatement statement_parts
 statement-writable tokens (tree.CreateTable table) sound form = create_table-writable tokens table sound form
@@ -174,6 +180,7 @@ statement-writable tokens (tree.OpenFile name file query) sound form = open_file
 statement-writable tokens (tree.Audit audit) sound form = audit-writable tokens audit sound form
 statement-writable tokens (tree.Check name) sound form = check-writable tokens name sound form
 statement-writable tokens (tree.Learn run) sound form = learn-writable tokens run sound form
+statement-writable tokens (tree.Turns turns) sound form = turns-writable tokens turns sound form
 
 -- the operands of a statement
 abbrev pub terms_of : StatementTree → List Term
@@ -192,6 +199,7 @@ statement-held tokens (tree.OpenFile name file query) form = open_file-held name
 statement-held tokens (tree.Audit audit) form = audit-held tokens audit form
 statement-held tokens (tree.Check name) form = check-held tokens name form
 statement-held tokens (tree.Learn run) form = learn-held tokens run form
+statement-held tokens (tree.Turns turns) form = turns-held tokens turns form
 
 -- a statement has the parts that the layers above rely on
 pub statement-well_formed : (tokens : List Lexeme) (statement : StatementTree) → EachSound tokens → AreNumbered (condition_of statement) → IsStatement tokens statement

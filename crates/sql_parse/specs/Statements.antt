@@ -9,9 +9,11 @@ pub mod CreateTable
 pub mod Explain
 pub mod Learn
 pub mod Load
+pub mod Numbers
 pub mod OpenFile
 pub mod Run
 pub mod SaveFile
+pub mod Turns
 pub mod Using
 use Rattle.std.specs.Prelude.{codes, ℕ, List, [], ◌∷◌, length, Option, Some, None, if◌then◌else◌, ◌==◌}
 use Rattle.sql_parse.specs.declared.mark.Mark.{Mark}
@@ -33,6 +35,7 @@ use Rattle.sql_parse.specs.Statements.Load.{IsLoad, load_at, load_parts}
 use Rattle.sql_parse.specs.Statements.OpenFile.{IsOpenFile, open_file_at, open_file_parts}
 use Rattle.sql_parse.specs.Statements.Run.{IsRunStatement, run_at, run_parts}
 use Rattle.sql_parse.specs.Statements.SaveFile.{IsSaveFile, save_file_at, save_file_parts}
+use Rattle.sql_parse.specs.Statements.Turns.{IsTurns, turns_at, turns_parts}
 
 -- a statement, by its form
 abbrev pub IsStatement : Rule StatementTree
@@ -48,6 +51,7 @@ IsStatement tokens (tree.OpenFile name file query) = IsOpenFile name file tokens
 IsStatement tokens (tree.Audit audit) = IsAudit tokens audit
 IsStatement tokens (tree.Check name) = IsCheck tokens name
 IsStatement tokens (tree.Learn run) = IsLearn tokens run
+IsStatement tokens (tree.Turns turns) = IsTurns tokens turns
 
 unfoldable pub create_at : Reader StatementTree
 create_at tokens =
@@ -70,6 +74,7 @@ productions =
     ∷ (codes "AUDIT", audit_at)
     ∷ (codes "CHECK", check_at)
     ∷ (codes "LEARN", learn_at)
+    ∷ (codes "TURNS", turns_at)
     ∷ []
 
 -- the statement of the first keyword that stands here, or a query
@@ -102,6 +107,7 @@ statement_parts (tree.OpenFile name file query) = open_file_parts name file quer
 statement_parts (tree.Audit audit) = audit_parts audit
 statement_parts (tree.Check name) = check_parts name
 statement_parts (tree.Learn run) = learn_parts run
+statement_parts (tree.Turns turns) = turns_parts turns
 
 -- the canonical text of a statement
 abbrev pub canonical : StatementTree → List ℕ

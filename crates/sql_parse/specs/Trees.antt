@@ -9,6 +9,7 @@ use Rattle.sql_parse.specs.declared.tree.IndexDef.{IndexDef}
 use Rattle.sql_parse.specs.declared.tree.LoadDef.{LoadDef}
 use Rattle.sql_parse.specs.declared.tree.FileDef.{FileDef}
 use Rattle.sql_parse.specs.declared.tree.RunDef.{RunDef}
+use Rattle.sql_parse.specs.declared.tree.TurnsDef.{TurnsDef}
 use Rattle.sql_parse.specs.declared.tree.AuditDef.{AuditDef}
 use Rattle.sql_parse.specs.declared.tree.Cond.{Cond}
 use Rattle.sql_parse.specs.declared.tree.Cond.TheOpen.{Cond-F}
@@ -59,6 +60,7 @@ pub data StatementTree : Type 0 where
   Audit : AuditDef → StatementTree
   Check : (name : List ℕ) → StatementTree
   Learn : RunDef → StatementTree
+  Turns : TurnsDef → StatementTree
 
 -- one node, with the trees of its operands in their places
 abbrev pub condition_node : Cond-F ConditionTree → ConditionTree
@@ -93,6 +95,7 @@ statement_tree (code.OpenFile opened) = OpenFile opened.name opened.file (query_
 statement_tree (code.Audit audit) = Audit audit
 statement_tree (code.Check name) = Check name
 statement_tree (code.Learn run) = Learn run
+statement_tree (code.Turns turns) = Turns turns
 
 abbrev pub statement_trees : List Statement → List StatementTree
 statement_trees statements = map statement_tree statements

@@ -27,5 +27,5 @@ pub use script::{one_parsing_is_due, one_statement, operands_are_tokens, read_sc
 pub use statement::Statement;
 pub use tree::{
     AuditDef, ColRef, CompileDef, Cond, FileDef, IndexDef, Item, LoadDef, Name, OpenDef, Query,
-    RunDef, TableDef, Term,
+    RunDef, TableDef, Term, TurnsDef,
 };

@@ -16,9 +16,11 @@ mod create_table;
 mod explain;
 mod learn;
 mod load;
+mod numbers;
 mod open_file;
 mod run;
 mod save_file;
+mod turns;
 mod using;
 
 use crate::canonical::print_select;
@@ -28,6 +30,7 @@ use crate::piece::Piece;
 use crate::query::select;
 use crate::tree::{
     AuditDef, CompileDef, FileDef, IndexDef, LoadDef, Name, OpenDef, Query, RunDef, TableDef,
+    TurnsDef,
 };
 use crate::writer::Writer;
 use audit::{audit, print_audit};
@@ -42,6 +45,7 @@ use open_file::{open_file, print_open_file};
 use run::{print_run, run};
 use save_file::{print_save_file, save_file};
 use std::alloc::{AllocError, Global};
+use turns::{print_turns, turns};
 
 /// A statement of a script.
 #[derive(Debug, Drop)]
@@ -61,6 +65,8 @@ pub enum Statement {
     Check(Name),
     /// LEARN: a run that learns.
     Learn(RunDef),
+    /// TURNS: several bouquets side by side.
+    Turns(TurnsDef),
 }
 
 // From the word after CREATE on.
@@ -110,6 +116,9 @@ fn first_statement<'s>(alloc: Global, piece: Piece<'s>) -> Result<(Statement, Pi
     if let Some(after) = piece.after_word(b"LEARN") {
         return learn(alloc, after);
     }
+    if let Some(after) = piece.after_word(b"TURNS") {
+        return turns(alloc, after);
+    }
     let (query, rest) = select(alloc, piece)?;
     Ok((Statement::Select(query), rest))
 }
@@ -151,5 +160,6 @@ pub(crate) fn print_statement(writer: &mut Writer, statement: &Statement) -> Res
         Statement::Audit(audit) => print_audit(writer, audit),
         Statement::Check(name) => print_check(writer, name),
         Statement::Learn(run) => print_learn(writer, run),
+        Statement::Turns(turns) => print_turns(writer, turns),
     }
 }

@@ -60,6 +60,15 @@ pub struct RunDef {
     pub values: Sequence<Value>,
 }
 
+/// TURNS. Without BY there are no numbers.
+#[derive(Debug, Drop)]
+pub struct TurnsDef {
+    /// The bouquets, at least one, each with its values.
+    pub uses: Sequence<RunDef>,
+    /// Whose turn it is, from 1, in order.
+    pub by: Sequence<u64>,
+}
+
 /// AUDIT. Without AT there are no levels, and without USING no values.
 #[derive(Debug, Drop)]
 pub struct AuditDef {

@@ -1,5 +1,5 @@
 -- What is written by the grammar for USING, what is read and what is printed are the same.
-use Rattle.std.proofs.Common.{codes, ◌≡◌, ◌∙◌, List, [], ◌∷◌, Some, None, refl, ap, subst}
+use Rattle.std.proofs.Common.{codes, ◌≡◌, ◌∙◌, List, [], ◌∷◌, ◌++◌, Some, None, refl, ap, subst}
 use Rattle.sql_values.specs.declared.value.Value.{Value}
 use Rattle.sql_parse.proofs.Productions.{Lexeme, mark, Separated, after_word, after_mark, list_at, in_parentheses_at, Reads, list-reads, in_parentheses-reads, IsReadAgain, list-again, read_to_end, tokens_of, IsPrintedBy, separated-printed, EachSound, mark-sound, IsWritable, listed-writable, Holds, no_terms, hold-none}
 use Rattle.sql_parse.specs.declared.mark.Mark.TheVariants as m
@@ -30,18 +30,29 @@ using-reads = record {
       ((in_parentheses-reads (list-reads literal-reads m.Comma)).each rest));
 }
 
+after_using : (rest : List Lexeme) → after_mark m.Using (mark m.Using ∷ rest) ≡ Some rest
+unfolding after_mark
+after_using rest = refl
+
+none_after : after_mark m.Using [] ≡ None
+unfolding after_mark
+none_after = refl
+
 values-again : IsReadAgain AreValues (in_parentheses_at (list_at literal_at m.Comma)) (λ rest. Unit {0})
 unfolding after_mark
 values-again =
     in_parentheses-again (Separated m.Comma IsLiteral) (list_at literal_at m.Comma) (λ rest. Unit {0} × (after_mark m.Comma rest ≡ None)) (λ rest. (tt, refl))
     (list-again m.Comma IsLiteral literal_at (λ rest. Unit {0}) (λ rest. refl) (λ rest. tt) literal-again)
 
+pub using-read_again : IsReadAgain IsUsing using_at (λ rest. after_mark m.Using rest ≡ None)
+unfolding using_at
+using-read_again tokens [] rest form follows = rw (form, follows) refl
+using-read_again tokens (value ∷ values) rest form follows =
+    let found = values-again form.0 (value ∷ values) rest form.2 tt in
+    rw (form.1, after_using (form.0 ++ rest), found) refl
+
 pub using-again : (tokens : List Lexeme) (values : List Value) → IsUsing tokens values → using_at tokens ≡ Some (values, [])
-unfolding using_at after_mark
-using-again tokens [] form = rw form refl
-using-again tokens (value ∷ values) form =
-    let found = read_to_end AreValues (in_parentheses_at (list_at literal_at m.Comma)) (λ rest. Unit {0}) values-again form.0 (value ∷ values) form.2 tt in
-    rw (form.1, found) refl
+using-again tokens values form = read_to_end IsUsing using_at (λ rest. after_mark m.Using rest ≡ None) using-read_again tokens values form none_after
 
 -- neither AT nor a comma stands first
 pub using-begins : (tokens : List Lexeme) (values : List Value) → IsUsing tokens values → (after_word (codes "AT") tokens ≡ None) × (after_mark m.Comma tokens ≡ None)

@@ -5,7 +5,9 @@ ghost use Rattle.sql_parse.specs.Printing.{PutsParts};
 ghost use Rattle.sql_parse.specs.Statements.BouquetUse.{bouquet_use_at, bouquet_use_parts};
 
 use super::using::{print_using, using};
+use crate::canonical::Printed;
 use crate::fault::ReadFault;
+use crate::parse::Parse;
 use crate::piece::Piece;
 use crate::tree::RunDef;
 use crate::writer::Writer;
@@ -30,4 +32,20 @@ pub(crate) fn print_bouquet_use(writer: &mut Writer, run: &RunDef) -> Result<(),
 {
     writer.name(&run.name)?;
     print_using(writer, run.values.as_slice())
+}
+
+impl Parse for RunDef {
+    ghost reads = { bouquet_use_at };
+
+    fn parse<'s>(alloc: Global, piece: Piece<'s>) -> Result<(RunDef, Piece<'s>), ReadFault> {
+        bouquet_use(alloc, piece)
+    }
+}
+
+impl Printed for RunDef {
+    ghost parts = { bouquet_use_parts };
+
+    fn print_to(&self, writer: &mut Writer) -> Result<(), AllocError> {
+        print_bouquet_use(writer, self)
+    }
 }

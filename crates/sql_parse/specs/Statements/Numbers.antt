@@ -1,0 +1,25 @@
+-- Numbers behind a word: the levels of AUDIT, the turns of TURNS.
+use Rattle.std.specs.Prelude.{ℕ, ◌≡◌, List, [], ◌∷◌, Some}
+use Rattle.sql_parse.specs.Productions.{Lexeme, Word, Rule, Separated, after_word, Reader, choose, number_at, list_at, Keyword, Part, Number, listed}
+use Rattle.sql_parse.specs.declared.mark.Mark.TheVariants as m
+use Rattle.sql_parse.specs.Lexemes.{Number as NumberToken}
+
+-- a number
+abbrev pub IsNumber : Rule ℕ
+IsNumber tokens n = tokens ≡ NumberToken n ∷ []
+
+-- [ word number { "," number } ]
+abbrev pub IsNumbers : (word : List ℕ) → Rule (List ℕ)
+IsNumbers word tokens [] = tokens ≡ []
+IsNumbers word tokens (n ∷ ns) =
+    (rest : List Lexeme) × (tokens ≡ Word word ∷ rest)
+    × Separated m.Comma IsNumber rest (n ∷ ns)
+
+-- the numbers, where the word stands
+unfoldable pub numbers_at : (word : List ℕ) → Reader (List ℕ)
+numbers_at word tokens = choose (after_word word tokens) (Some ([], tokens)) (list_at number_at m.Comma)
+
+-- the word is written where there are numbers
+abbrev pub numbers_parts : (word : List ℕ) → List ℕ → List Part
+numbers_parts word [] = []
+numbers_parts word (n ∷ ns) = Keyword word ∷ listed (λ number. Number number ∷ []) (n ∷ ns)
