@@ -1,11 +1,11 @@
--- The answer of a query, and the bound on the work that it prints; the verdict on a bouquet.
+-- The answer of a query, and the bound on the work that it prints, of a run that learns too; the verdict on a bouquet.
 use Rattle.std.specs.Prelude.{◌≡◌, ⊤, ℕ, List, [], None, Option, Result, Vec, IfOk, IfSome, OnOk}
 use Rattle.std.specs.declared.alloc.Global.{Global}
 use Rattle.sql_values.specs.Limits.{default_threshold}
 use Rattle.sql_values.specs.declared.value.Value.{Value}
 use Rattle.query_block.specs.Blocks.{put_of}
 use Rattle.plan_tree.specs.Plans.{PlanTree}
-use Rattle.sql_parse.specs.Trees.{StatementTree, Select, Run, Check}
+use Rattle.sql_parse.specs.Trees.{StatementTree, Select, Run, Check, Learn}
 use Rattle.db_catalog.specs.Database.{DatabaseState}
 use Rattle.bouquet_type.specs.Trees.{BouquetTree}
 use Rattle.bouquet_type.specs.Compiled.{IsCompiled}
@@ -15,6 +15,7 @@ use Rattle.bouquet_type.specs.Bounded.{IsWithinBound, MeetsBound}
 use Rattle.bouquet_check.specs.Verdicts.{Sound, verdict_of}
 use Rattle.bouquet_check.specs.Evidence.{IsEvidence}
 use Rattle.bouquet_run.specs.Outcomes.{works_over}
+use Rattle.learned_run.specs.Skips.{learned_end}
 use Rattle.session.specs.Bouquets.{bouquet_due}
 use Rattle.session.specs.Counted.{HasCountsOf}
 use Rattle.session.specs.Returns.{PaysAtMost, ReturnsDue}
@@ -29,6 +30,11 @@ pub record RunsWithinBound (database : DatabaseState) (values : List Value) (bou
   pub bound : let work = works_over database (put_of values bouquet.costing.block) in MeetsBound bouquet work (total_work bouquet work)
   pub sound : IsCompiled bouquet → IsSound bouquet
 
+-- its counts are those of the tables, and where it is compiled the work of its run that learns with these values is within the bound
+pub record LearnsWithinBound (database : DatabaseState) (values : List Value) (bouquet : BouquetTree) : Type 0 where
+  pub counts : HasCountsOf database.tables bouquet
+  pub bound : let work = works_over database (put_of values bouquet.costing.block) in IsCompiled bouquet → IsWithinBound bouquet work (learned_end bouquet work).total
+
 -- it is as its verdict says, and where that is sound the work of each of its runs is within the bound, whatever its plans work
 pub record VerdictHolds (bouquet : BouquetTree) : Type 0 where
   pub shown : IsEvidence bouquet (verdict_of bouquet)
@@ -41,6 +47,7 @@ IsAnsweredWithin world (Select query) =
     IfOk (bouquet_due world.database query None default_threshold) (λ bouquet. IsSound bouquet × RunsWithinBound world.database [] bouquet)
 IsAnsweredWithin world (Run run) = IfSome (bouquet_in run.name world.bouquets) (RunsWithinBound world.database run.values)
 IsAnsweredWithin world (Check name) = IfSome (bouquet_in name world.bouquets) VerdictHolds
+IsAnsweredWithin world (Learn run) = IfSome (bouquet_in run.name world.bouquets) (LearnsWithinBound world.database run.values)
 IsAnsweredWithin world other = ⊤
 
 -- what a query's statement returned is due to it, an answer is within its bound, and no more was paid than may be

@@ -16,6 +16,7 @@ pub mod Compile
 pub mod Run
 pub mod Audit
 pub mod Explain
+pub mod Learn
 pub mod Check
 pub mod Save
 pub mod Open

@@ -1,10 +1,11 @@
 -- The texts that statements print.
-use Rattle.std.specs.Prelude.{Bool, true, false, ℕ, ◌+◌, ◌^◌, List, [], ◌∷◌, ◌++◌, map, length, slice_index_or, codes, decimal}
+use Rattle.std.specs.Prelude.{Bool, true, false, ℕ, ◌+◌, ◌-◌, ◌^◌, List, [], ◌∷◌, ◌++◌, map, length, slice_index_or, codes, decimal}
+use Rattle.std.specs.List.{flat_map}
 use Rattle.sql_values.specs.declared.column.ColumnDef.{ColumnDef}
 use Rattle.query_block.specs.declared.edge.ColumnAt.{ColumnAt}
 use Rattle.query_block.specs.Blocks.{RelationTree, BlockTree, relation_at}
 use Rattle.query_block.specs.Meaning.{meaning_of}
-use Rattle.plan_tree.specs.Plans.{PlanTree}
+use Rattle.plan_tree.specs.Plans.{PlanTree, Scan}
 use Rattle.plan_tree.specs.Text.{plan_text_of}
 use Rattle.db_catalog.specs.Database.{DatabaseState, table_at}
 use Rattle.bouquet_type.specs.Trees.{BouquetTree, ContourTree}
@@ -12,6 +13,7 @@ use Rattle.bouquet_type.specs.Budgets.{budget_of, most_plans}
 use Rattle.bouquet_type.specs.Runs.{RunEnd}
 use Rattle.audit_run.specs.Audits.{AuditTree}
 use Rattle.bouquet_check.specs.Verdicts.{VerdictTree, First, Step, Last, Uncovered, Sound}
+use Rattle.learned_run.specs.declared.learned.Skip.{Skip}
 use Rattle.result_text.specs.Combined.{printed}
 
 -- the line below the rows of an answer: how many there are, and how the run of the bouquet ended
@@ -19,6 +21,11 @@ abbrev pub report_line : (rows : ℕ) → RunEnd → List ℕ
 report_line rows end =
     codes "-- rows=" ++ (decimal rows ++ (codes " work=" ++ (decimal end.total ++ (codes " runs=" ++ (decimal end.runs
     ++ (codes " contour=" ++ (decimal end.contour ++ (codes " plan=" ++ (plan_text_of end.plan ++ codes "\n")))))))))
+
+-- a plan of a contour of a bouquet, both by their places, from 1
+abbrev pub plan_on : BouquetTree → (contour place : ℕ) → PlanTree
+plan_on bouquet contour place =
+    slice_index_or (slice_index_or bouquet.contours (contour - 1) (record { cost = 0; plans = [] })).plans (place - 1) (Scan 0)
 
 -- the names of columns
 abbrev pub column_names : List ColumnDef → List (List ℕ)
@@ -38,6 +45,28 @@ abbrev pub answer_text : DatabaseState → BlockTree → RunEnd → List ℕ
 answer_text database block end =
     printed (header_of database block) database.tables block
     ++ report_line (length (meaning_of database.tables block)) end
+
+-- the levels of a point, a comma before each but the first; a dash where there is no axis
+abbrev pub levels_text : List ℕ → List ℕ
+levels_text [] = []
+levels_text (level ∷ []) = decimal level
+levels_text (level ∷ other ∷ more) = decimal level ++ (codes "," ++ levels_text (other ∷ more))
+
+abbrev pub point_text : List ℕ → List ℕ
+point_text [] = codes "-"
+point_text (level ∷ more) = levels_text (level ∷ more)
+
+-- an execution that a run skips: its contour, its plan, and the point that shows why
+abbrev pub skip_line : BouquetTree → Skip → List ℕ
+skip_line bouquet skip =
+    codes "-- skip contour=" ++ (decimal skip.contour ++ (codes " plan=" ++ (plan_text_of (plan_on bouquet skip.contour skip.plan)
+    ++ (codes " point=" ++ (point_text skip.point ++ codes "\n")))))
+
+-- what a block prints by a run that learns: its rows, what the run skips, and the line below them
+abbrev pub learned_text : DatabaseState → BouquetTree → BlockTree → List Skip → RunEnd → List ℕ
+learned_text database bouquet block skips end =
+    printed (header_of database block) database.tables block
+    ++ (flat_map (skip_line bouquet) skips ++ report_line (length (meaning_of database.tables block)) end)
 
 -- what a load prints
 abbrev pub load_line : ℕ → List ℕ
@@ -71,16 +100,6 @@ contour_lines threshold number (contour ∷ more) =
 -- the contours of a bouquet
 abbrev pub explain_text : BouquetTree → List ℕ
 explain_text bouquet = contour_lines bouquet.threshold 1 bouquet.contours
-
--- the levels of a point, a comma before each but the first; a dash where there is no axis
-abbrev pub levels_text : List ℕ → List ℕ
-levels_text [] = []
-levels_text (level ∷ []) = decimal level
-levels_text (level ∷ other ∷ more) = decimal level ++ (codes "," ++ levels_text (other ∷ more))
-
-abbrev pub point_text : List ℕ → List ℕ
-point_text [] = codes "-"
-point_text (level ∷ more) = levels_text (level ∷ more)
 
 abbrev pub yes_or_no : Bool → List ℕ
 yes_or_no true = codes "yes"

@@ -1,6 +1,6 @@
 -- What comes of each statement.
 use Rattle.std.specs.Prelude.{◌≡◌, ℕ, List, Option, Some, None, IsSome}
-use Rattle.sql_parse.specs.Trees.{StatementTree, CreateTable, CreateIndex, Load, Select, Compile, Run, Explain, SaveFile, OpenFile, Audit, Check}
+use Rattle.sql_parse.specs.Trees.{StatementTree, CreateTable, CreateIndex, Load, Select, Compile, Run, Explain, SaveFile, OpenFile, Audit, Check, Learn}
 use Rattle.db_catalog.specs.Database.{table_number}
 use Rattle.session.specs.Audit.{audit_outcome}
 use Rattle.session.specs.Check.{check_outcome}
@@ -8,6 +8,7 @@ use Rattle.session.specs.Compile.{compile_outcome}
 use Rattle.session.specs.CreateIndex.{create_index_outcome}
 use Rattle.session.specs.CreateTable.{create_table_outcome}
 use Rattle.session.specs.Explain.{explain_outcome}
+use Rattle.session.specs.Learn.{learn_outcome}
 use Rattle.session.specs.Load.{load_outcome}
 use Rattle.session.specs.Outcome.{Outcome}
 use Rattle.session.specs.Run.{run_outcome}
@@ -29,6 +30,7 @@ statement_outcome max_work world (SaveFile save) file = save_outcome world save
 statement_outcome max_work world (OpenFile name file_name query) file = open_outcome world name file_name query file
 statement_outcome max_work world (Audit audit) file = audit_outcome max_work world audit
 statement_outcome max_work world (Check name) file = check_outcome world name
+statement_outcome max_work world (Learn run) file = learn_outcome max_work world run
 
 -- the name of the file that a statement may ask for: only LOAD and OPEN ask for one
 abbrev pub asked_name : StatementTree → Option (List ℕ)

@@ -10,6 +10,7 @@ ghost use Rattle.exec_pipe.specs.Executions.{AreRowsOf};
 ghost use Rattle.bouquet_type.specs.Trees.{bouquet_tree};
 ghost use Rattle.bouquet_type.specs.Ladders.{StandsAtFoot};
 ghost use Rattle.bouquet_type.specs.Reports.{told_end};
+ghost use Rattle.result_text.specs.Combined.{printed};
 ghost use Rattle.session.specs.Bouquets.{answer_with, block_answer, bouquet_answer};
 ghost use Rattle.session.specs.Bounds.{RunsWithinBound};
 ghost use Rattle.session.specs.Counted.{HasCountsOf};
@@ -30,6 +31,25 @@ use row_stack::{RowStack, Space};
 use sql_values::{Text, Value};
 use std::alloc::{AllocError, Global};
 
+/// The rows of a block under these names, as a run left them.
+pub(crate) fn rows_text(
+    alloc: Global,
+    database: &Database,
+    block: &Block,
+    names: &[Text],
+    rows: &RowStack,
+) -> Result<Vec<u8>, AllocError>
+    requires fits { Fits database.now (block_tree block.now) }
+    requires names { names.now ≡ header_of database.now (block_tree block.now) }
+    requires rows { AreRowsOf database.now (block_tree block.now) rows.now.rows }
+    requires wide { rows.now.width ≡ width_of (block_tree block.now) }
+    ensures { IfOk result (λ text. text.items ≡ printed
+        (header_of database.now (block_tree block.now)) database.now.tables (block_tree block.now)) }
+{
+    let text = print_rows(alloc, database.texts(), block, names, rows)?;
+    Ok(text)
+}
+
 // What a block prints under these names, whose rows a run left that ended as the report tells.
 fn print_answer(
     alloc: Global,
@@ -48,7 +68,7 @@ fn print_answer(
     ensures { IfOk result (λ text. text.items
         ≡ answer_text database.now (block_tree block.now) (told_end report.now)) }
 {
-    let mut text = print_rows(alloc, database.texts(), block, names, rows)?;
+    let mut text = rows_text(alloc, database, block, names, rows)?;
     lines::push_report(alloc, &mut text, report)?;
     Ok(text)
 }

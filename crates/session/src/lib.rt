@@ -20,6 +20,7 @@ mod create_table;
 mod explain;
 mod files;
 mod keep;
+mod learn;
 mod lines;
 mod load;
 mod named;

@@ -1,17 +1,20 @@
 // The printed lines that are neither rows nor refusals.
-ghost use Rattle.std.specs.Prelude.{◌≡◌, ◌+◌, ◌^◌, ◌<◌, ◌≤◌, [], ◌++◌, length, map, IfOk, OnOk, codes, decimal, vec_len, vec_capacity};
+ghost use Rattle.std.specs.Prelude.{◌≡◌, ◌+◌, ◌^◌, ◌<◌, ◌≤◌, [], ◌++◌, All, length, map, IfOk, OnOk, codes, decimal, vec_len, vec_capacity};
+ghost use Rattle.std.specs.List.{flat_map};
 ghost use Rattle.plan_tree.specs.Plans.{plan_tree};
 ghost use Rattle.audit_run.specs.Audits.{told_audit};
 ghost use Rattle.bouquet_check.specs.Verdicts.{verdict_tree};
 ghost use Rattle.plan_tree.specs.Text.{plan_text_of};
 ghost use Rattle.bouquet_type.specs.Reports.{told_end};
 ghost use Rattle.bouquet_type.specs.Trees.{bouquet_tree, contour_tree};
-ghost use Rattle.session.specs.Printed.{report_line, load_line, size_line, contour_line, explain_text, plan_texts, point_text, yes_or_no, audit_line, verdict_text, check_line};
+ghost use Rattle.learned_run.specs.Skips.{IsSkipOf};
+ghost use Rattle.session.specs.Printed.{skip_line, report_line, load_line, size_line, contour_line, explain_text, plan_texts, point_text, yes_or_no, audit_line, verdict_text, check_line};
 
 use audit_run::Audit;
 use bouquet_check::Verdict;
 use bouquet_type::{Bouquet, Contour, Report};
 use itoa::Buffer;
+use learned_run::Skip;
 use plan_tree::{Plan, plan_text};
 use std::alloc::{AllocError, Global};
 
@@ -162,6 +165,44 @@ fn push_point(text: &mut Vec<u8>, levels: &[u8]) -> Result<(), AllocError>
     text.extend_from_slice(Buffer::new().format(*first).as_bytes())?;
     for level in others {
         push_labelled(text, ",", u128::from(*level))?;
+    }
+    Ok(())
+}
+
+// Appends the line of an execution that a run of a bouquet skipped.
+fn push_skip(
+    alloc: Global,
+    text: &mut Vec<u8>,
+    bouquet: &Bouquet,
+    skip: &Skip,
+) -> Result<(), AllocError>
+    requires { IsSkipOf (bouquet_tree bouquet.now) skip.now }
+    ensures { OnOk result (text.new.items
+        ≡ text.old.items ++ skip_line (bouquet_tree bouquet.now) skip.now) }
+{
+    let contour = &bouquet.contours()[skip.contour as usize - 1];
+    push_labelled(text, "-- skip contour=", u128::from(skip.contour))?;
+    text.extend_from_slice(b" plan=")?;
+    push_plan(alloc, text, &contour.plans[skip.plan as usize - 1])?;
+    text.extend_from_slice(b" point=")?;
+    push_point(text, skip.point.levels())?;
+    text.push(b'\n')?;
+    Ok(())
+}
+
+/// Appends a line for each execution that a run of a bouquet skipped.
+pub(crate) fn push_skips(
+    alloc: Global,
+    text: &mut Vec<u8>,
+    bouquet: &Bouquet,
+    skips: &[Skip],
+) -> Result<(), AllocError>
+    requires { All (IsSkipOf (bouquet_tree bouquet.now)) skips.now }
+    ensures { OnOk result (text.new.items
+        ≡ text.old.items ++ flat_map (skip_line (bouquet_tree bouquet.now)) skips.now) }
+{
+    for skip in skips {
+        push_skip(alloc, text, bouquet, skip)?;
     }
     Ok(())
 }

@@ -49,7 +49,7 @@ pub enum Refusal {
     PastWork {
         /// So many units were spent on it.
         spent: u128,
-        /// The book has them: those of a query are entered there, those of an audit are not.
+        /// The book has them: those of SELECT and RUN are entered there, those of a run that learns and of an audit are not.
         entered: bool,
     },
 }

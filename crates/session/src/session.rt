@@ -64,8 +64,8 @@ impl Session {
     }
 
     /// Begins a statement: it is carried out to its end, or until it asks for a file. One that stops changes nothing. A query
-    /// has a budget of `max_work` units, and what it paid is entered in the book, whatever the answer; an audit may spend as
-    /// much, which no book has.
+    /// has a budget of `max_work` units, and what it paid is entered in the book, whatever the answer; an audit and a run that
+    /// learns may spend as much, which no book has.
     pub fn begin(
         &mut self,
         alloc: Global,
@@ -95,6 +95,7 @@ impl Session {
             Statement::OpenFile(opened) => self.open_file(alloc, opened),
             Statement::Audit(audit) => prints(self.audit(alloc, max_work, audit)),
             Statement::Check(name) => prints(self.check(alloc, name)),
+            Statement::Learn(run) => prints(self.learn(alloc, max_work, run)),
         }
     }
 }

@@ -1,24 +1,10 @@
--- The rows print as those that the block means.
-use Rattle.std.proofs.Common.{◌≡◌, ◌∙◌, ◌++◌, ℕ, List, ap}
-use Rattle.query_block.specs.Blocks.{block_tree}
+-- The rows are followed by the line below them.
+use Rattle.std.proofs.Common.{◌≡◌, ◌∙◌, ◌++◌}
 use Rattle.bouquet_type.specs.Reports.{told_end}
-use Rattle.result_text.specs.Combined.{printed, printed_rows}
-use Rattle.result_text.specs.Printed.{table_text}
-use Rattle.session.specs.Printed.{header_of, report_line}
-use Rattle.session.proofs.RowsPrinted.{printed_meaning}
+use Rattle.session.specs.Printed.{report_line}
 use Rattle.session.proofs.answers.print_answer.Goals as goal
-
-pub print_rows-requires-clause-words : goal.print_rows-requires-clause-words
-print_rows-requires-clause-words c = rw c.texts.ensures.texts c.requires.rows.allowed
 
 pub returns : goal.returns
 returns c =
-    let database = c.args.database.now in
-    let block = block_tree c.args.block.now in
-    let words = c.args.rows.now.rows in
-    let found : printed_rows c.texts.result.now block words ≡ printed_rows database.texts block words =
-    ap (λ (texts : List (List ℕ)). printed_rows texts block words) c.texts.ensures.texts in
-    let text : table_text c.args.names.now (printed_rows c.texts.result.now block words) ≡ printed (header_of database block) database.tables block =
-    (λ i. table_text (c.requires.names i) (found i)) ∙ printed_meaning database block words c.requires.rows (header_of database block) in
     c.in_ok-push_report.ensures
-    ∙ (λ i. (c.in_ok-text.ensures ∙ text) i ++ report_line (c.requires.count i) (told_end c.args.report.now))
+    ∙ (λ i. c.in_ok-text.ensures i ++ report_line (c.requires.count i) (told_end c.args.report.now))

@@ -1,5 +1,5 @@
 -- What a statement prints it prints as it begins.
-use Rattle.sql_parse.specs.Trees.{Audit, Check, Compile, CreateIndex, CreateTable, Explain, Run, Select, query_tree}
+use Rattle.sql_parse.specs.Trees.{Audit, Check, Compile, CreateIndex, CreateTable, Explain, Learn, Run, Select, query_tree}
 use Rattle.session.specs.States.{world_of}
 use Rattle.session.proofs.Beginning.{begins_due, begins_free}
 use Rattle.session.proofs.session.Session.begin.Goals as goal
@@ -29,6 +29,9 @@ returns-in-Audit-clause-begins c = rw (c.in-Audit.is, c.prints-in-Audit.ensures)
 
 pub returns-in-Check-clause-begins : goal.returns-in-Check-clause-begins
 returns-in-Check-clause-begins c = rw (c.in-Check.is, c.prints-in-Check.ensures) (begins_free c.args.max_work (world_of c.args.self.now) (Check c.in-Check.name) (world_of c.args.self.now) c.check.result c.args.book.now (λ file. c.check.ensures.due))
+
+pub returns-in-Learn-clause-begins : goal.returns-in-Learn-clause-begins
+returns-in-Learn-clause-begins c = rw (c.in-Learn.is, c.prints-in-Learn.ensures) (begins_free c.args.max_work (world_of c.args.self.now) (Learn c.in-Learn.run') (world_of c.args.self.now) c.learn.result c.args.book.now (λ file. c.learn.ensures.due))
 
 pub returns-in-Load-clause-begins : goal.returns-in-Load-clause-begins
 returns-in-Load-clause-begins c = rw c.in-Load.is (c.load.ensures c.args.max_work c.args.book.now)

@@ -1,0 +1,37 @@
+-- A run of a compiled bouquet that learns is within the bound.
+use Rattle.std.proofs.Common.{◌≡◌, ◌∙◌, ap, subst, sym}
+use Rattle.query_block.specs.Shape.{BlockShape}
+use Rattle.query_block.specs.Blocks.{BlockTree, block_tree, put_of}
+use Rattle.bouquet_type.specs.Trees.{bouquet_tree}
+use Rattle.bouquet_run.specs.Outcomes.{works_over}
+use Rattle.bouquet_type.proofs.Meets.{plans-of-bouquet}
+use Rattle.learned_run.proofs.Unskipped.{learned-bound}
+use Rattle.exec_pipe.proofs.Joins.{on-ok}
+use Rattle.db_catalog.specs.Fits.{Fits}
+use Rattle.db_catalog.proofs.PutBlocks.{put-fits-tables}
+use Rattle.session.specs.Learn.{learned_block_answer}
+use Rattle.session.specs.Outcome.{Outcome}
+use Rattle.session.specs.Returns.{ReturnsFree}
+use Rattle.session.proofs.learn.learned_with.Goals as goal
+
+pub learned_block_answer-requires-clause-fits : goal.learned_block_answer-requires-clause-fits
+learned_block_answer-requires-clause-fits c =
+    let put : BlockShape → BlockTree = λ shape. put_of c.args.values.now (block_tree shape) in
+    subst (Fits c.args.database.now) (sym (c.in_ok-block.ensures ∙ ap put c.block.ensures.block))
+    (put-fits-tables c.args.database.now c.args.values.now (block_tree c.args.bouquet.now.block) c.requires.fits)
+
+pub returns-clause-due : goal.returns-clause-due
+returns-clause-due c = λ world is.
+    let put : BlockShape → BlockTree = λ shape. put_of c.args.values.now (block_tree shape) in
+    let same : block_tree c.in_ok-block.block ≡ put c.args.bouquet.now.block = c.in_ok-block.ensures ∙ ap put c.block.ensures.block in
+    subst (λ (due : Outcome). ReturnsFree due c.learned_block_answer.result world)
+    (λ i. learned_block_answer c.args.max_work world (bouquet_tree c.args.bouquet.now) (same i)) (c.learned_block_answer.ensures world is)
+
+pub returns-clause-bound : goal.returns-clause-bound
+returns-clause-bound c =
+    let bouquet = bouquet_tree c.args.bouquet.now in
+    let block = put_of c.args.values.now bouquet.costing.block in
+    on-ok c.learned_block_answer.result (record {
+      counts = c.requires.counts;
+      bound = learned-bound bouquet (works_over c.args.database.now block) c.block.ensures.bouquet.costing (plans-of-bouquet c.args.bouquet.now c.block.ensures.bouquet);
+    })

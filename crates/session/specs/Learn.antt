@@ -1,0 +1,37 @@
+-- What comes of LEARN.
+use Rattle.std.specs.Prelude.{ℕ, nat_le, false, List, if◌then◌else◌}
+use Rattle.sql_parse.specs.declared.tree.RunDef.{RunDef}
+use Rattle.sql_values.specs.declared.value.Value.{Value}
+use Rattle.query_block.specs.Blocks.{BlockTree, put_of}
+use Rattle.query_block.specs.Values.{value_fault}
+use Rattle.bouquet_type.specs.Trees.{BouquetTree}
+use Rattle.bouquet_run.specs.Outcomes.{works_over}
+use Rattle.learned_run.specs.Skips.{learned_end, skips_of}
+use Rattle.session.specs.Bouquets.{unless_misfit}
+use Rattle.session.specs.Outcome.{Outcome, Prints, Refuses}
+use Rattle.session.specs.Present.{at_present}
+use Rattle.session.specs.Printed.{learned_text}
+use Rattle.session.specs.World.{World}
+use Rattle.session.specs.declared.refusal.Refusal.TheVariants as refusal
+
+-- the answer on a block, by a run of a bouquet that learns: the block's rows, what the run skipped, and how it ends. It costs
+-- nothing: no book has its work. Where that is more than may be spent it is refused
+abbrev pub learned_block_answer : (max_work : ℕ) → World → BouquetTree → BlockTree → Outcome
+learned_block_answer max_work world bouquet block =
+    let work = works_over world.database block in
+    let end = learned_end bouquet work in
+    if nat_le end.total max_work then Prints (learned_text world.database bouquet block (skips_of bouquet work) end) 0 world
+    else Refuses (refusal.PastWork max_work false)
+
+-- the answer of a bouquet with values that fit: that on its block with them in place of its parameters
+abbrev pub learned_with : (max_work : ℕ) → World → List Value → BouquetTree → Outcome
+learned_with max_work world values bouquet = learned_block_answer max_work world bouquet (put_of values bouquet.costing.block)
+
+-- the answer of a bouquet with values, unless they don't fit
+abbrev pub learned_answer : (max_work : ℕ) → World → List Value → BouquetTree → Outcome
+learned_answer max_work world values bouquet =
+    unless_misfit (value_fault bouquet.costing.block.parameters values) (learned_with max_work world values bouquet)
+
+-- that of the bouquet of this name with the statement's values, whose counts have to be those of the tables
+abbrev pub learn_outcome : (max_work : ℕ) → World → RunDef → Outcome
+learn_outcome max_work world run = at_present world run.name (learned_answer max_work world run.values)
