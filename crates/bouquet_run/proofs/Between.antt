@@ -1,19 +1,17 @@
 -- From one execution of a run to the next.
-use Rattle.std.proofs.Common.{◌≡◌, ◌∙◌, ℕ, ℤ, ◌+◌, ◌≤◌, ◌<◌, ◌^◌, List, [], length, ap, subst, sym, arith}
+use Rattle.std.proofs.Common.{◌≡◌, ◌∙◌, ℕ, ℤ, ◌+◌, ◌≤◌, List, length, ap, subst, sym, arith}
 use Rattle.std.specs.Prelude.{All, Option, None, Some, Result, Ok, Err}
 use Rattle.row_stack.specs.declared.space.Space.{Space}
-use Rattle.row_stack.specs.Stack.{Stays}
 use Rattle.query_block.specs.Blocks.{BlockTree, IsPutOf}
 use Rattle.plan_tree.specs.Plans.{PlanTree}
 use Rattle.plan_tree.specs.Enumerated.{IsPlan}
 use Rattle.plan_tree.proofs.PutPlans.{put-plan}
 use Rattle.db_catalog.specs.Database.{DatabaseState}
 use Rattle.db_catalog.specs.Meter.{MeterState}
-use Rattle.exec_pipe.specs.Executions.{AreRowsOf}
 use Rattle.exec_pipe.specs.Runs.{OnlyRuns, OnlyRunsWithin}
-use Rattle.bouquet_type.specs.Trees.{BouquetTree, ContourTree}
+use Rattle.bouquet_type.specs.Trees.{BouquetTree}
 use Rattle.bouquet_type.specs.Schedule.{final_plan}
-use Rattle.bouquet_type.specs.Cursor.{AttemptTree, ScheduleState, TakesNext, attempt_at, first_attempt, members_behind, members_left}
+use Rattle.bouquet_type.specs.Cursor.{AttemptTree, ScheduleState, TakesNext, attempt_at, first_attempt, members_left}
 use Rattle.bouquet_type.specs.Bounded.{MeetsBound}
 use Rattle.bouquet_type.specs.Reports.{told_end}
 use Rattle.bouquet_type.specs.Runs.{RunEnd, run_end}

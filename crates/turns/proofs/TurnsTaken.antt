@@ -6,7 +6,7 @@ use Rattle.std.proofs.lemmas.Option.{get_or_from_slice_get, slice_get-get_or, sl
 use Rattle.std.proofs.lemmas.List.Elements.{All-nil, All-cons, All-append, All-weaker}
 use Rattle.turns.specs.Standing.{JobTask, Standing, Lost, job_after, turns_of, fresh_job}
 use Rattle.turns.specs.Jobs.{JobShape, JobTree, job_tree, task_of}
-use Rattle.turns.specs.Taking.{EachStands, NamesNoLost, StopsAmong, StopsAt, TakesAll, job_lost, job_turned, jobs_turned, named, turn_told, turn_told_of, turns_told}
+use Rattle.turns.specs.Taking.{EachStands, NamesNoLost, StopsAmong, StopsAtTurn, TakesAll, job_lost, job_turned, jobs_turned, named, turn_told, turn_told_of, turns_told}
 use Rattle.turns.specs.declared.turn.Turn.{Turn}
 use Rattle.turns.proofs.JobsTurned.{stays-lost, turned-at, turned-none, turned-one, turned-turned, turns-add}
 
@@ -52,7 +52,7 @@ stops-on xs ys zs old at new turned stop = record {
   after = stop.after ++ zs;
   split = ap (λ all. xs ++ (all ++ zs)) stop.split ∙ ap (λ all. xs ++ all) (append_assoc stop.before (stop.number ∷ stop.after) zs)
       ∙ sym (append_assoc xs stop.before (stop.number ∷ (stop.after ++ zs)));
-  stops = subst (λ (jobs : List JobTree). StopsAt stop.number jobs new)
+  stops = subst (λ (jobs : List JobTree). StopsAtTurn stop.number jobs new)
       (sym (ap (jobs_turned stop.before 0) turned) ∙ turned-turned xs stop.before 0 old) stop.stops;
 }
 
@@ -98,17 +98,17 @@ set-same jobs number job there = ap (set jobs number) (sym (get_or_from_slice_ge
 
 -- a stop at the turn of one job
 pub stops-at : (number : ℕ) (jobs : List JobTree) (job one : JobTree) → slice_get jobs number ≡ Some job → (one ≡ job) ⊎ (one ≡ job_lost job)
-    → StopsAt number jobs (set jobs number one)
+    → StopsAtTurn number jobs (set jobs number one)
 stops-at number jobs job one there (inl same) = record { job = job; there = there; jobs = inl (ap (set jobs number) same ∙ set-same jobs number job there) }
 stops-at number jobs job one there (inr lost) = record { job = job; there = there; jobs = inr (ap (set jobs number) lost) }
 
-pub stops-one : (number : ℕ) (old new : List JobTree) → StopsAt number old new → StopsAmong (number ∷ []) old new
+pub stops-one : (number : ℕ) (old new : List JobTree) → StopsAtTurn number old new → StopsAmong (number ∷ []) old new
 stops-one number old new stops = record {
   before = [];
   number = number;
   after = [];
   split = refl;
-  stops = subst (λ jobs. StopsAt number jobs new) (sym (turned-none 0 old)) stops;
+  stops = subst (λ jobs. StopsAtTurn number jobs new) (sym (turned-none 0 old)) stops;
 }
 
 pub stops-before : (number : ℕ) (jobs : List JobTree) → number < length jobs → StopsAmong (number ∷ []) jobs jobs
@@ -128,7 +128,7 @@ pub same-tasks : (numbers : List ℕ) (first : ℕ) (jobs : List JobTree) → ta
 same-tasks numbers first [] = refl
 same-tasks numbers first (job ∷ more) = ap (λ others. job.task ∷ others) (same-tasks numbers (first + 1) more)
 
-tasks-at : (number : ℕ) (old new : List JobTree) → StopsAt number old new → tasks_of new ≡ tasks_of old
+tasks-at : (number : ℕ) (old new : List JobTree) → StopsAtTurn number old new → tasks_of new ≡ tasks_of old
 tasks-at number old new stops =
     let task : JobTree → JobTask = λ job. job.task in
     elim stops.jobs [

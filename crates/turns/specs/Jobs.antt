@@ -62,11 +62,11 @@ abbrev pub job_tree : JobShape → JobTree
 job_tree job = record { task = task_of job; standing = standing_at job.meter.account.spent (schedule_in job) job.progress }
 
 -- what `state` and `report` tell of it
-abbrev pub state_of : Progress → JobState
-state_of (Running place) = state.Running place
-state_of (Answered report) = state.Answered
-state_of Limited = state.Limited
-state_of Broken = state.Broken
+abbrev pub job_state_of : Progress → JobState
+job_state_of (Running place) = state.Running place
+job_state_of (Answered report) = state.Answered
+job_state_of Limited = state.Limited
+job_state_of Broken = state.Broken
 
 abbrev pub report_of : Progress → Option Report
 report_of (Running place) = None

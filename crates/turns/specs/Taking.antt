@@ -75,7 +75,7 @@ pub record TakesRunning (numbers : List ℕ) (old new : List JobTree) (told told
   pub told_all : numbers_told told' ≡ numbers_told told ++ numbers
 
 -- memory ran out at the turn of this number: all jobs are as before, or that one is lost
-pub record StopsAt (number : ℕ) (old new : List JobTree) : Type 0 where
+pub record StopsAtTurn (number : ℕ) (old new : List JobTree) : Type 0 where
   pub job : JobTree
   pub there : slice_get old number ≡ Some job
   pub jobs : (new ≡ old) ⊎ (new ≡ set old number (job_lost job))
@@ -86,7 +86,7 @@ pub record StopsAmong (numbers : List ℕ) (old new : List JobTree) : Type 0 whe
   pub number : ℕ
   pub after : List ℕ
   pub split : numbers ≡ before ++ number ∷ after
-  pub stops : StopsAt number (jobs_turned before 0 old) new
+  pub stops : StopsAtTurn number (jobs_turned before 0 old) new
 
 -- each job that stood where its first turns lead stands where those lead with as many more as it is named
 abbrev pub EachStands : List ℕ → (old new : List JobTree) → Type 0

@@ -4,7 +4,7 @@ ghost use Rattle.query_block.specs.Blocks.{block_tree, IsPutOf};
 ghost use Rattle.db_catalog.specs.Fits.{Fits};
 ghost use Rattle.bouquet_type.specs.Trees.{bouquet_tree};
 ghost use Rattle.turns.specs.Standing.{fresh_job};
-ghost use Rattle.turns.specs.Jobs.{IsJob, job_tree, report_of, state_of, task_of};
+ghost use Rattle.turns.specs.Jobs.{IsJob, job_tree, report_of, job_state_of, task_of};
 ghost use Rattle.turns.specs.Taking.{TakesTurn, is_running};
 ghost use Rattle.turns.specs.declared.progress.Progress.TheVariants.{Running};
 
@@ -103,7 +103,7 @@ impl<'d> Job<'d> {
 
     /// How it stands.
     pub fn state(&self) -> JobState
-        ensures state { result ≡ state_of self.now.progress }
+        ensures state { result ≡ job_state_of self.now.progress }
         ensures job { IsJob self.now }
     {
         self.progress.state()

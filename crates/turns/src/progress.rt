@@ -1,6 +1,6 @@
 // How far a job is, with its report once there is one.
 ghost use Rattle.std.specs.Prelude.{◌≡◌, option_map};
-ghost use Rattle.turns.specs.Jobs.{progress_by, report_of, state_of};
+ghost use Rattle.turns.specs.Jobs.{progress_by, report_of, job_state_of};
 
 use crate::state::JobState;
 use bouquet_type::{Report, RunFault};
@@ -16,7 +16,7 @@ pub enum Progress {
 
 impl Progress {
     pub(crate) fn state(&self) -> JobState
-        ensures { result ≡ state_of self.now }
+        ensures { result ≡ job_state_of self.now }
     {
         match self {
             Progress::Running { place } => JobState::Running { place: *place },

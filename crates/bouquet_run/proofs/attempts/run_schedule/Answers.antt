@@ -1,5 +1,5 @@
 use Rattle.std.proofs.Common.{rules, ◌≡◌, ◌∙◌, subst, sym}
-use Rattle.std.specs.Prelude.{◌+◌, All, Option, Some, Ok}
+use Rattle.std.specs.Prelude.{◌+◌, All, Option, Ok}
 use Rattle.query_block.specs.Blocks.{block_tree}
 use Rattle.plan_tree.specs.Plans.{plan_tree}
 use Rattle.plan_tree.specs.Enumerated.{IsPlan}
