@@ -1,5 +1,5 @@
 -- Whether an execution is skipped, by the rows of its contour's frontier.
-use Rattle.std.proofs.Common.{◌≡◌, ◌∙◌, ℕ, ◌-◌, ◌<◌, List, length, map, get_or, refl, ap, sym, subst, arith}
+use Rattle.std.proofs.Common.{◌≡◌, ◌∙◌, ℕ, ◌-◌, ◌≤◌, ◌<◌, List, length, map, get_or, refl, ap, sym, subst, arith}
 use Rattle.std.specs.Prelude.{All, Bool, true, false, Some, None, slice_get}
 use Rattle.std.proofs.lemmas.List.{length-map, get_or-map}
 use Rattle.std.proofs.lemmas.Option.{slice_get_within, get_or_from_slice_get}
@@ -38,6 +38,12 @@ frontiers-made b costing outlook contours held number threshold rows same_costin
       (subst (λ (n : ℕ). AreFrontierRows (bouquet_tree b).costing n (contour_tree held) rows) same_threshold
       (subst (λ (shape : CostingShape). AreFrontierRows (costing_tree shape) threshold (contour_tree held) rows) same_outlook are));
 }
+
+-- there is such a contour
+pub step-there : (b : BouquetShape) (step : Attempt) (budget : ℕ) → IsMemberOf (bouquet_tree b) (member_of step budget) → step.contour ≤ length b.contours
+step-there b step budget is =
+    let trees = map contour_tree b.contours in
+    omega (arith, is.numbered.0, slice_get_within trees (step.contour - 1) is.contour is.numbered.1, length-map b.contours contour_tree)
 
 -- and these are the rows at hand
 pub held-rows : (b : BouquetShape) (inside view : FrontiersShape) (rows held : List FrontierRow) → inside ≡ view → view.bouquet ≡ b → held ≡ rows

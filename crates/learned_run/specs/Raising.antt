@@ -29,7 +29,8 @@ RulesOut costing p budget None after = after ≡ None
 RulesOut costing p budget (Some before) None = cost_of costing p (top_of costing.grid) ≤ budget
 RulesOut costing p budget (Some before) (Some after) = IsRaised costing p budget before after
 
-abbrev pub are_some : List Member → Bool
+-- whether there are executions
+abbrev pub are_some : (exhausted : List Member) → Bool
 are_some [] = false
 are_some (member ∷ more) = true
 

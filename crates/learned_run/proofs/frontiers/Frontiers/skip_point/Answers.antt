@@ -2,8 +2,13 @@ use Rattle.std.proofs.Common.{◌≡◌, ◌∙◌, ℕ, List, ap, sym, subst}
 use Rattle.std.specs.Prelude.{Option, Some, None}
 use Rattle.bouquet_type.specs.Trees.{bouquet_tree}
 use Rattle.learned_run.specs.Covering.{FrontiersShape, IsStepOf, step_skip}
-use Rattle.learned_run.proofs.Stepped.{held-rows, step-kept, step-skipped, step-wide}
+use Rattle.learned_run.proofs.Stepped.{held-rows, step-kept, step-skipped, step-there, step-wide}
 use Rattle.learned_run.proofs.frontiers.Frontiers.skip_point.Goals as goal
+
+pub climb_to-requires-clause-there : goal.climb_to-requires-clause-there
+climb_to-requires-clause-there c =
+    let b = c.args.self.now.bouquet in
+    step-there b c.args.step c.in-Some._budget (subst (IsStepOf (bouquet_tree b) c.args.step) c.in-Some.is c.requires)
 
 pub any_row_covers-requires : goal.any_row_covers-requires
 any_row_covers-requires c =
