@@ -3,8 +3,10 @@ pub mod Beginning
 pub mod Compiling
 pub mod ContourTexts
 pub mod Counting
+pub mod Executed
 pub mod Given
 pub mod Growing
+pub mod JobTurns
 pub mod LoadLine
 pub mod NamedColumns
 pub mod NamedLists

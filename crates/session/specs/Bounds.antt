@@ -1,11 +1,11 @@
 -- The answer of a query, and the bound on the work that it prints, of a run that learns too; the verdict on a bouquet.
-use Rattle.std.specs.Prelude.{◌≡◌, ⊤, ℕ, List, [], None, Option, Result, Vec, IfOk, IfSome, OnOk}
+use Rattle.std.specs.Prelude.{◌≡◌, ⊤, ℕ, List, [], None, Option, Result, Vec, All, IfOk, IfSome, OnOk}
 use Rattle.std.specs.declared.alloc.Global.{Global}
 use Rattle.sql_values.specs.Limits.{default_threshold}
 use Rattle.sql_values.specs.declared.value.Value.{Value}
 use Rattle.query_block.specs.Blocks.{put_of}
 use Rattle.plan_tree.specs.Plans.{PlanTree}
-use Rattle.sql_parse.specs.Trees.{StatementTree, Select, Run, Check, Learn}
+use Rattle.sql_parse.specs.Trees.{StatementTree, Select, Run, Check, Learn, Turns}
 use Rattle.db_catalog.specs.Database.{DatabaseState}
 use Rattle.bouquet_type.specs.Trees.{BouquetTree}
 use Rattle.bouquet_type.specs.Compiled.{IsCompiled}
@@ -40,13 +40,14 @@ pub record VerdictHolds (bouquet : BouquetTree) : Type 0 where
   pub shown : IsEvidence bouquet (verdict_of bouquet)
   pub bound : verdict_of bouquet ≡ Sound → (work : PlanTree → ℕ) → IsWithinBound bouquet work (total_work bouquet work)
 
--- so it is for the bouquet by which a query is answered, with the statement's values; that of a SELECT is sound. Of a bouquet that
+-- so it is for each bouquet by which a query is answered, with the statement's values; that of a SELECT is sound. Of a bouquet that
 -- is checked the verdict holds
 abbrev pub IsAnsweredWithin : World → StatementTree → Type 0
 IsAnsweredWithin world (Select query) =
     IfOk (bouquet_due world.database query None default_threshold) (λ bouquet. IsSound bouquet × RunsWithinBound world.database [] bouquet)
 IsAnsweredWithin world (Run run) = IfSome (bouquet_in run.name world.bouquets) (RunsWithinBound world.database run.values)
 IsAnsweredWithin world (Check name) = IfSome (bouquet_in name world.bouquets) VerdictHolds
+IsAnsweredWithin world (Turns turns) = All (λ run. IfSome (bouquet_in run.name world.bouquets) (RunsWithinBound world.database run.values)) turns.uses
 IsAnsweredWithin world (Learn run) = IfSome (bouquet_in run.name world.bouquets) (LearnsWithinBound world.database run.values)
 IsAnsweredWithin world other = ⊤
 

@@ -19,8 +19,10 @@ pub mod Explain
 pub mod Learn
 pub mod Check
 pub mod Save
+pub mod Turns
 pub mod Open
 pub mod Statements
 pub mod Returns
 pub mod Begins
 pub mod Bounds
+pub mod Uses

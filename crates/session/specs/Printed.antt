@@ -1,6 +1,7 @@
 -- The texts that statements print.
-use Rattle.std.specs.Prelude.{Bool, true, false, ℕ, ◌+◌, ◌-◌, ◌^◌, List, [], ◌∷◌, ◌++◌, map, length, slice_index_or, codes, decimal}
+use Rattle.std.specs.Prelude.{Bool, true, false, ℕ, ◌+◌, ◌-◌, ◌^◌, List, [], ◌∷◌, ◌++◌, map, drop, length, slice_get, slice_index_or, codes, decimal}
 use Rattle.std.specs.List.{flat_map}
+use Rattle.std.specs.Option.{option_map_or}
 use Rattle.sql_values.specs.declared.column.ColumnDef.{ColumnDef}
 use Rattle.query_block.specs.declared.edge.ColumnAt.{ColumnAt}
 use Rattle.query_block.specs.Blocks.{RelationTree, BlockTree, relation_at}
@@ -13,7 +14,12 @@ use Rattle.bouquet_type.specs.Budgets.{budget_of, most_plans}
 use Rattle.bouquet_type.specs.Runs.{RunEnd}
 use Rattle.audit_run.specs.Audits.{AuditTree}
 use Rattle.bouquet_check.specs.Verdicts.{VerdictTree, First, Step, Last, Uncovered, Sound}
+use Rattle.bouquet_type.specs.Schedule.{final_plan, schedule}
+use Rattle.bouquet_type.specs.Cursor.{first_attempt}
 use Rattle.learned_run.specs.declared.learned.Skip.{Skip}
+use Rattle.turns.specs.Standing.{JobTask, Standing, Runs, Ended, Past, Lost}
+use Rattle.turns.specs.Jobs.{JobTree}
+use Rattle.turns.specs.declared.turn.Turn.{Turn}
 use Rattle.result_text.specs.Combined.{printed}
 
 -- the line below the rows of an answer: how many there are, and how the run of the bouquet ended
@@ -67,6 +73,27 @@ abbrev pub learned_text : DatabaseState → BouquetTree → BlockTree → List S
 learned_text database bouquet block skips end =
     printed (header_of database block) database.tables block
     ++ (flat_map (skip_line bouquet) skips ++ report_line (length (meaning_of database.tables block)) end)
+
+-- the plan of the execution at this place of a bouquet's schedule, from 1: behind those under budgets the final plan
+abbrev pub executed_plan : BouquetTree → (place : ℕ) → PlanTree
+executed_plan bouquet place = (first_attempt (drop (place - 1) (schedule bouquet)) (final_plan bouquet)).plan
+
+-- a turn that a job of one of these bouquets took: the job, from 1, the contour, the plan, and what the job has spent after it
+abbrev pub turn_line : List BouquetTree → Turn → List ℕ
+turn_line bouquets turn =
+    codes "-- turn job=" ++ (decimal (turn.job + 1) ++ (codes " contour=" ++ (decimal turn.contour
+    ++ (codes " plan=" ++ (option_map_or (λ (bouquet : BouquetTree). plan_text_of (executed_plan bouquet turn.place)) (slice_get bouquets turn.job) []
+    ++ (codes " spent=" ++ (decimal turn.spent ++ codes "\n")))))))
+
+-- the answer of a job that has ended, and nothing of another one
+abbrev pub standing_text : JobTask → Standing → List ℕ
+standing_text task (Ended end) = answer_text task.database task.block end
+standing_text task (Runs place spent left) = []
+standing_text task Past = []
+standing_text task Lost = []
+
+abbrev pub job_text : JobTree → List ℕ
+job_text job = standing_text job.task job.standing
 
 -- what a load prints
 abbrev pub load_line : ℕ → List ℕ

@@ -126,4 +126,6 @@ line_of (refusal.AbsentFile name) = error_line (codes "E09 absent " ++ name)
 line_of (refusal.NotLoaded fault) = not_loaded_line fault
 line_of (refusal.NotOpened fault) = not_opened_line fault
 line_of (refusal.PastLimit limit value) = limit_line limit value
+line_of (refusal.TooManyJobs count) = error_line (codes "E12 limit " ++ (codes "jobs" ++ spaced count))
+line_of (refusal.NoTurn number) = error_line (codes "E12 limit " ++ (codes "turn" ++ spaced number))
 line_of (refusal.PastWork spent entered) = error_line (codes "E16 " ++ (codes "work" ++ spaced spent))

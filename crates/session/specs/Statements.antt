@@ -1,6 +1,6 @@
 -- What comes of each statement.
 use Rattle.std.specs.Prelude.{◌≡◌, ℕ, List, Option, Some, None, IsSome}
-use Rattle.sql_parse.specs.Trees.{StatementTree, CreateTable, CreateIndex, Load, Select, Compile, Run, Explain, SaveFile, OpenFile, Audit, Check, Learn}
+use Rattle.sql_parse.specs.Trees.{StatementTree, CreateTable, CreateIndex, Load, Select, Compile, Run, Explain, SaveFile, OpenFile, Audit, Check, Learn, Turns}
 use Rattle.db_catalog.specs.Database.{table_number}
 use Rattle.session.specs.Audit.{audit_outcome}
 use Rattle.session.specs.Check.{check_outcome}
@@ -15,6 +15,7 @@ use Rattle.session.specs.Run.{run_outcome}
 use Rattle.session.specs.Select.{select_outcome}
 use Rattle.session.specs.Save.{save_outcome}
 use Rattle.session.specs.Open.{open_outcome, open_refusal}
+use Rattle.session.specs.Turns.{turns_outcome}
 use Rattle.session.specs.World.{World, named_in}
 
 -- what comes of a statement, with the file that the folder gives for it
@@ -31,6 +32,7 @@ statement_outcome max_work world (OpenFile name file_name query) file = open_out
 statement_outcome max_work world (Audit audit) file = audit_outcome max_work world audit
 statement_outcome max_work world (Check name) file = check_outcome world name
 statement_outcome max_work world (Learn run) file = learn_outcome max_work world run
+statement_outcome max_work world (Turns turns) file = turns_outcome max_work world turns
 
 -- the name of the file that a statement may ask for: only LOAD and OPEN ask for one
 abbrev pub asked_name : StatementTree → Option (List ℕ)

@@ -50,8 +50,8 @@ pub(crate) fn rows_text(
     Ok(text)
 }
 
-// What a block prints under these names, whose rows a run left that ended as the report tells.
-fn print_answer(
+/// What a block prints under these names, whose rows a run left that ended as the report tells.
+pub(crate) fn print_answer(
     alloc: Global,
     database: &Database,
     block: &Block,

@@ -139,6 +139,12 @@ impl Session {
         ensures bounded { OnOk result (IsAnsweredWithin (world_of self.now) (Learn run.now)) }
     {
         let bouquet = self.present(&run.name)?;
-        learned_answer(alloc, max_work, &self.database, bouquet, run.values.as_slice())
+        learned_answer(
+            alloc,
+            max_work,
+            &self.database,
+            bouquet,
+            run.values.as_slice(),
+        )
     }
 }

@@ -12,6 +12,7 @@ mod answers;
 mod audit;
 mod begun;
 mod bouquets;
+mod by_turns;
 mod check;
 mod columns;
 mod compile;
@@ -33,6 +34,8 @@ mod save_file;
 mod select;
 mod session;
 mod stop;
+mod turn_lines;
+mod uses;
 
 pub use begun::{Asked, Begun, GivenFile};
 pub use files::file_name;

@@ -53,16 +53,16 @@ fn write(text: &mut Vec<u8>, bytes: &[u8])
     };
 }
 
-// Appends a label and a number.
-fn push_labelled(text: &mut Vec<u8>, label: &str, number: u128) -> Result<(), AllocError>
+/// Appends a label and a number.
+pub(crate) fn push_labelled(text: &mut Vec<u8>, label: &str, number: u128) -> Result<(), AllocError>
     ensures { OnOk result (text.new.items ≡ text.old.items ++ (label.now ++ decimal number)) }
 {
     text.extend_from_slice(label.as_bytes())?;
     text.extend_from_slice(Buffer::new().format(number).as_bytes())
 }
 
-// Appends a plan.
-fn push_plan(alloc: Global, text: &mut Vec<u8>, plan: &Plan) -> Result<(), AllocError>
+/// Appends a plan.
+pub(crate) fn push_plan(alloc: Global, text: &mut Vec<u8>, plan: &Plan) -> Result<(), AllocError>
     ensures { OnOk result (text.new.items ≡ text.old.items ++ plan_text_of (plan_tree plan.now)) }
 {
     let plan = plan_text(alloc, plan)?;

@@ -52,6 +52,10 @@ pub enum Refusal {
         /// The book has them: those of SELECT and RUN are entered there, those of a run that learns and of an audit are not.
         entered: bool,
     },
+    /// So many bouquets are to take turns, which are more than 64.
+    TooManyJobs(usize),
+    /// No bouquet that takes turns has this number.
+    NoTurn(u64),
 }
 
 // `error `, the kind of the refusal, and what it is about.
@@ -276,5 +280,7 @@ pub fn refusal_line(alloc: Global, refusal: &Refusal) -> Result<Vec<u8>, AllocEr
         Refusal::NotOpened(fault) => not_opened_line(alloc, *fault),
         Refusal::PastLimit(limit, value) => limit_line(alloc, *limit, *value),
         Refusal::PastWork { spent, .. } => number_line(alloc, "E16 ", "work", *spent),
+        Refusal::TooManyJobs(count) => number_line(alloc, "E12 limit ", "jobs", *count as u128),
+        Refusal::NoTurn(number) => number_line(alloc, "E12 limit ", "turn", u128::from(*number)),
     }
 }

@@ -96,6 +96,7 @@ impl Session {
             Statement::Audit(audit) => prints(self.audit(alloc, max_work, audit)),
             Statement::Check(name) => prints(self.check(alloc, name)),
             Statement::Learn(run) => prints(self.learn(alloc, max_work, run)),
+            Statement::Turns(turns) => prints(self.turns(alloc, max_work, turns)),
         }
     }
 }

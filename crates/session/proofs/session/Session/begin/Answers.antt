@@ -1,5 +1,5 @@
 -- What a statement prints it prints as it begins.
-use Rattle.sql_parse.specs.Trees.{Audit, Check, Compile, CreateIndex, CreateTable, Explain, Learn, Run, Select, query_tree}
+use Rattle.sql_parse.specs.Trees.{Audit, Check, Compile, CreateIndex, CreateTable, Explain, Learn, Run, Select, Turns, query_tree}
 use Rattle.session.specs.States.{world_of}
 use Rattle.session.proofs.Beginning.{begins_due, begins_free}
 use Rattle.session.proofs.session.Session.begin.Goals as goal
@@ -32,6 +32,9 @@ returns-in-Check-clause-begins c = rw (c.in-Check.is, c.prints-in-Check.ensures)
 
 pub returns-in-Learn-clause-begins : goal.returns-in-Learn-clause-begins
 returns-in-Learn-clause-begins c = rw (c.in-Learn.is, c.prints-in-Learn.ensures) (begins_free c.args.max_work (world_of c.args.self.now) (Learn c.in-Learn.run') (world_of c.args.self.now) c.learn.result c.args.book.now (λ file. c.learn.ensures.due))
+
+pub returns-in-Turns-clause-begins : goal.returns-in-Turns-clause-begins
+returns-in-Turns-clause-begins c = rw (c.in-Turns.is, c.prints-in-Turns.ensures) (begins_free c.args.max_work (world_of c.args.self.now) (Turns c.in-Turns.turns) (world_of c.args.self.now) c.turns.result c.args.book.now (λ file. c.turns.ensures.due))
 
 pub returns-in-Load-clause-begins : goal.returns-in-Load-clause-begins
 returns-in-Load-clause-begins c = rw c.in-Load.is (c.load.ensures c.args.max_work c.args.book.now)

@@ -1,0 +1,95 @@
+-- What comes of TURNS.
+use Rattle.std.specs.Prelude.{ℕ, ◌-◌, ◌||◌, nat_eq, nat_lt, Bool, true, false, List, [], ◌∷◌, ◌++◌, length, map, option_map, Option, Some, None, if◌then◌else◌}
+use Rattle.std.specs.List.{flat_map, list_any}
+use Rattle.sql_values.specs.declared.value.Value.{Value}
+use Rattle.sql_parse.specs.declared.tree.RunDef.{RunDef}
+use Rattle.sql_parse.specs.declared.tree.TurnsDef.{TurnsDef}
+use Rattle.query_block.specs.Blocks.{put_of}
+use Rattle.query_block.specs.Values.{value_fault}
+use Rattle.bouquet_type.specs.Trees.{BouquetTree}
+use Rattle.turns.specs.Standing.{JobTask, Standing, Runs, Ended, Past, Lost, fresh_job}
+use Rattle.turns.specs.Jobs.{JobTree}
+use Rattle.turns.specs.Taking.{jobs_turned, numbers_to_end, turns_told}
+use Rattle.turns.specs.declared.turn.Turn.{Turn}
+use Rattle.session.specs.Bouquets.{unless_misfit}
+use Rattle.session.specs.Compile.{unless_refused}
+use Rattle.session.specs.Outcome.{Outcome, Prints, Refuses}
+use Rattle.session.specs.Present.{at_present}
+use Rattle.session.specs.Printed.{job_text, turn_line}
+use Rattle.session.specs.World.{World}
+use Rattle.session.specs.declared.refusal.Refusal.{Refusal}
+use Rattle.session.specs.declared.refusal.Refusal.TheVariants as refusal
+
+-- so many bouquets at the most take turns side by side
+abbrev pub max_jobs : ℕ
+max_jobs = 64
+
+-- what is asked of the job of a bouquet, with values that fit
+abbrev pub task_with : (max_work : ℕ) → World → List Value → BouquetTree → JobTask
+task_with max_work world values bouquet =
+    record { database = world.database; bouquet = bouquet; block = put_of values bouquet.costing.block; most = max_work }
+
+-- what comes of the tasks of these bouquets, each of which has to be present, with values that fit it; the first for which that isn't
+-- so refuses all
+abbrev pub at_tasks : (max_work : ℕ) → World → List RunDef → (List JobTask → Outcome) → Outcome
+at_tasks max_work world [] go = go []
+at_tasks max_work world (run ∷ more) go =
+    at_present world run.name (λ bouquet.
+    unless_misfit (value_fault bouquet.costing.block.parameters run.values)
+    (at_tasks max_work world more (λ tasks. go (task_with max_work world run.values bouquet ∷ tasks))))
+
+-- the first of some numbers that isn't one of so many jobs, from 1
+abbrev pub wrong_turn : (count : ℕ) → List ℕ → Option ℕ
+wrong_turn count [] = None
+wrong_turn count (n ∷ ns) = if nat_eq n 0 || nat_lt count n then Some n else wrong_turn count ns
+
+-- jobs before their first turns
+abbrev pub fresh_jobs : List JobTask → List JobTree
+fresh_jobs tasks = map (λ task. record { task = task; standing = fresh_job task }) tasks
+
+-- they take turns by these numbers, from 1, and then round by round until none runs: how they stand after the first and after all, and
+-- the turns
+abbrev pub numbers_from_0 : (by : List ℕ) → List ℕ
+numbers_from_0 by = map (λ n. n - 1) by
+
+abbrev pub jobs_by : List JobTask → (by : List ℕ) → List JobTree
+jobs_by tasks by = jobs_turned (numbers_from_0 by) 0 (fresh_jobs tasks)
+
+abbrev pub jobs_ended : List JobTask → (by : List ℕ) → List JobTree
+jobs_ended tasks by = let jobs = jobs_by tasks by in jobs_turned (numbers_to_end jobs) 0 jobs
+
+abbrev pub turns_taken : List JobTask → (by : List ℕ) → List Turn
+turns_taken tasks by =
+    let jobs = jobs_by tasks by in
+    turns_told (numbers_from_0 by) (fresh_jobs tasks) ++ turns_told (numbers_to_end jobs) jobs
+
+-- whether a job is past the most work
+abbrev is_past_standing : Standing → Bool
+is_past_standing (Runs place spent left) = false
+is_past_standing (Ended end) = false
+is_past_standing Past = true
+is_past_standing Lost = false
+
+abbrev pub is_past : JobTree → Bool
+is_past job = is_past_standing job.standing
+
+-- a line for each turn, and the answer of each job, at no cost: no book has their work. Where one of them is past the most work, that
+-- refuses all
+abbrev pub turns_answer : (max_work : ℕ) → World → (by : List ℕ) → List JobTask → Outcome
+turns_answer max_work world by tasks =
+    let jobs = jobs_ended tasks by in
+    if list_any is_past jobs then Refuses (refusal.PastWork max_work false)
+    else Prints (flat_map (turn_line (map (λ task. task.bouquet) tasks)) (turns_taken tasks by) ++ flat_map job_text jobs) 0 world
+
+-- too many bouquets; and a number that isn't that of one of the jobs
+abbrev pub jobs_refusal : (count : ℕ) → Option Refusal
+jobs_refusal count = if nat_lt max_jobs count then Some (refusal.TooManyJobs count) else None
+
+abbrev pub turn_refusal : (count : ℕ) → (by : List ℕ) → Option Refusal
+turn_refusal count by = option_map (λ number. refusal.NoTurn number) (wrong_turn count by)
+
+abbrev pub turns_outcome : (max_work : ℕ) → World → TurnsDef → Outcome
+turns_outcome max_work world turns =
+    let count = length turns.uses in
+    unless_refused (jobs_refusal count)
+    (at_tasks max_work world turns.uses (λ tasks. unless_refused (turn_refusal count turns.by) (turns_answer max_work world turns.by tasks)))

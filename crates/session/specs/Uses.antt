@@ -1,0 +1,58 @@
+-- Bouquets that take turns, each with the block that is executed.
+use Rattle.std.specs.Prelude.{◌≡◌, ◌<◌, ◌≤◌, ℕ, ◌∷◌, All, List, IfSome, length, map}
+use Rattle.query_block.specs.Blocks.{IsPutOf, block_tree}
+use Rattle.sql_parse.specs.declared.tree.RunDef.{RunDef}
+use Rattle.db_catalog.specs.Database.{DatabaseState}
+use Rattle.db_catalog.specs.Fits.{Fits}
+use Rattle.bouquet_type.specs.Trees.{BouquetTree, bouquet_tree}
+use Rattle.turns.specs.Standing.{JobTask}
+use Rattle.turns.specs.declared.turn.Turn.{Turn}
+use Rattle.session.specs.Bounds.{RunsWithinBound}
+use Rattle.session.specs.Outcome.{Outcome}
+use Rattle.session.specs.Stop.{StopsAt}
+use Rattle.session.specs.Turns.{at_tasks}
+use Rattle.session.specs.World.{World, bouquet_in}
+use Rattle.session.specs.declared.stop.Stop.{Stop}
+use Rattle.session.specs.declared.uses.Used.{Used}
+
+-- what is asked of its job
+abbrev pub task_of_use : (max_work : ℕ) → DatabaseState → Used → JobTask
+task_of_use max_work database used = record { database = database; bouquet = bouquet_tree used.bouquet.now; block = block_tree used.block; most = max_work }
+
+abbrev pub bouquets_of : List Used → List BouquetTree
+bouquets_of all = map (λ used. bouquet_tree used.bouquet.now) all
+
+-- a turn is of one of so many jobs, and not before its first
+pub record IsTurnOf (count : ℕ) (turn : Turn) : Type 0 where
+  pub job : turn.job < count
+  pub place : 1 ≤ turn.place
+
+-- it can be executed over a database: its block is the bouquet's own, with values in place of its parameters
+pub record IsExecutable (database : DatabaseState) (used : Used) : Type 0 where
+  pub put : IsPutOf (bouquet_tree used.bouquet.now).costing.block (block_tree used.block)
+  pub fits : Fits database (block_tree used.block)
+
+-- the bouquet of a name is within its bound, with these values
+abbrev pub IsUsedWithin : World → RunDef → Type 0
+IsUsedWithin world run = IfSome (bouquet_in run.name world.bouquets) (RunsWithinBound world.database run.values)
+
+-- it is the one of this name, present, with its values, which fit
+pub record IsUsedOf (world : World) (run : RunDef) (used : Used) : Type 0 where
+  pub due : (max_work : ℕ) (more : List RunDef) (go : List JobTask → Outcome)
+      → at_tasks max_work world (run ∷ more) go ≡ at_tasks max_work world more (λ tasks. go (task_of_use max_work world.database used ∷ tasks))
+  pub usable : IsExecutable world.database used
+  pub within : IsUsedWithin world run
+
+-- there is none: whatever else is asked for stops so
+abbrev pub RefusesUse : World → RunDef → Stop → Type 0
+RefusesUse world run why = (max_work : ℕ) (more : List RunDef) (go : List JobTask → Outcome) → StopsAt (at_tasks max_work world (run ∷ more) go) why
+
+-- they are those of these names; or there is a name without one
+pub record AreUsedOf (world : World) (runs : List RunDef) (all : List Used) : Type 0 where
+  pub due : (max_work : ℕ) (go : List JobTask → Outcome) → at_tasks max_work world runs go ≡ go (map (task_of_use max_work world.database) all)
+  pub count : length all ≡ length runs
+  pub usable : All (IsExecutable world.database) all
+  pub within : All (IsUsedWithin world) runs
+
+abbrev pub RefusesUses : World → List RunDef → Stop → Type 0
+RefusesUses world runs why = (max_work : ℕ) (go : List JobTask → Outcome) → StopsAt (at_tasks max_work world runs go) why

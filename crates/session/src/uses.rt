@@ -1,0 +1,53 @@
+// The bouquets of a statement that names several: each is looked up with its values before the next.
+ghost use Rattle.std.specs.Prelude.{◌++◌, ◌∷◌, [], IfErr, IfOk, OnOk, ◌≡◌};
+ghost use Rattle.session.specs.States.{world_of};
+ghost use Rattle.session.specs.Uses.{AreUsedOf, IsUsedOf, RefusesUse, RefusesUses};
+
+use crate::session::Session;
+use crate::stop::Stop;
+use bouquet_type::Bouquet;
+use query_block::Block;
+use sql_parse::RunDef;
+use std::alloc::{AllocError, Global};
+
+/// A bouquet, and the block that is executed: its own, with some values in place of its parameters.
+#[derive(Drop)]
+pub(crate) struct Used<'s> {
+    pub(crate) bouquet: &'s Bouquet,
+    pub(crate) block: Block,
+}
+
+// Puts one behind others.
+fn push_used<'s>(all: &mut Vec<Used<'s>>, used: Used<'s>) -> Result<(), AllocError>
+    ensures { OnOk result (all.new.items ≡ all.old.items ++ used.entry ∷ []) }
+{
+    all.push(used)?;
+    Ok(())
+}
+
+impl Session {
+    // The bouquet of this name, whose counts are those of the tables, with the values of a use, which fit.
+    fn used(&self, alloc: Global, run: &RunDef) -> Result<Used<'_>, Stop>
+        ensures used { IfOk result (IsUsedOf (world_of self.now) run.now) }
+        ensures refused { IfErr result (RefusesUse (world_of self.now) run.now) }
+    {
+        let bouquet = self.present(&run.name)?;
+        let values = run.values.as_slice();
+        bouquet.block().fits_values(values)?;
+        let block = bouquet.block().put(alloc, values)?;
+        Ok(Used { bouquet, block })
+    }
+
+    /// Those of all uses, in order.
+    pub(crate) fn all_used(&self, alloc: Global, runs: &[RunDef]) -> Result<Vec<Used<'_>>, Stop>
+        ensures used { IfOk result (λ all. AreUsedOf (world_of self.now) runs.now all.items) }
+        ensures refused { IfErr result (RefusesUses (world_of self.now) runs.now) }
+    {
+        let mut all = Vec::new(alloc);
+        for run in runs {
+            let used = self.used(alloc, run)?;
+            push_used(&mut all, used)?;
+        }
+        Ok(all)
+    }
+}
