@@ -10,6 +10,7 @@ mod bouquets;
 mod canonical;
 mod costs;
 mod fixture;
+mod job_turns;
 mod rules;
 mod runs;
 mod stores;
@@ -34,13 +35,14 @@ enum Question {
     UsableIndex,
     Bouquet,
     BouquetRun,
+    JobTurns,
     Stack,
     Index,
     Heap,
     Append,
 }
 
-const FILES: [(&str, Question); 14] = [
+const FILES: [(&str, Question); 15] = [
     ("canonical.txt", Question::CanonicalText),
     ("runs.txt", Question::Run),
     ("large.txt", Question::Run),
@@ -51,6 +53,7 @@ const FILES: [(&str, Question); 14] = [
     ("conditions.txt", Question::UsableIndex),
     ("bouquets.txt", Question::Bouquet),
     ("bouquet_runs.txt", Question::BouquetRun),
+    ("job_turns.txt", Question::JobTurns),
     ("stacks.txt", Question::Stack),
     ("indexes.txt", Question::Index),
     ("heaps.txt", Question::Heap),
@@ -81,6 +84,7 @@ fn answered(
         Question::UsableIndex => rules::usable_line(alloc, db, line),
         Question::Bouquet => bouquets::bouquet_line(alloc, db, line),
         Question::BouquetRun => bouquet_runs::bouquet_run_line(alloc, db, line),
+        Question::JobTurns => job_turns::job_turn_line(alloc, db, line),
         Question::Stack => stores::stack_line(alloc, line),
         Question::Index => stores::index_line(alloc, line),
         Question::Heap => stores::heap_line(alloc, line),
