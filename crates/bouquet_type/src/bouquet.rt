@@ -1,6 +1,8 @@
 // A bouquet. Its parts never change.
-ghost use Rattle.std.specs.Prelude.{◌≡◌, ◌^◌, ◌<◌, ◌≤◌, length};
+ghost use Rattle.std.specs.Prelude.{◌≡◌, ◌^◌, ◌<◌, ◌≤◌, IfSome, length, map};
 ghost use Rattle.sql_values.specs.Limits.{max_points, max_threshold, max_contour_cost};
+ghost use Rattle.ess_grid.specs.Points.{points_of};
+ghost use Rattle.cost_model.specs.Optimal.{optimal_cost};
 ghost use Rattle.bouquet_type.specs.Shapes.{bouquet_shape, cost_on};
 ghost use Rattle.bouquet_type.specs.Trees.{IsBouquet, bouquet_tree};
 ghost use Rattle.bouquet_type.specs.Budgets.{budget_of, most_plans};
@@ -29,6 +31,8 @@ pub struct Bouquet {
     grid: Grid,
     threshold: u32,
     contours: Vec<Contour>,
+    // The optimal cost at each point of the grid, in the grid's order, where whoever made the bouquet knew them.
+    optimal_costs: Option<Vec<u128>>,
 }
 
 impl Model for Bouquet {
@@ -36,7 +40,7 @@ impl Model for Bouquet {
     ghost use Rattle.plan_tree.specs.contracts.plan.Plan as plan;
     ghost use Rattle.std.specs.Coded.{codes};
     ghost use Rattle.bouquet_type.specs.Shapes.{BouquetShape};
-    ghost use Rattle.bouquet_type.specs.Trees.{IsBouquet};
+    ghost use Rattle.bouquet_type.specs.Trees.{KeepsBouquet};
 
     ghost Value = { BouquetShape };
 
@@ -50,13 +54,13 @@ impl Model for Bouquet {
       contours = b.contours.items;
     } };
 
-    ghost invariant = { λ b. IsBouquet (record {
+    ghost invariant = { λ b. KeepsBouquet (record {
       block = b.block;
       stats = b.stats;
       grid = b.grid;
       threshold = b.threshold;
       contours = b.contours.items;
-    }) };
+    }) b.optimal_costs };
 }
 
 impl Bouquet {
@@ -78,6 +82,19 @@ impl Bouquet {
             grid,
             threshold,
             contours,
+            optimal_costs: None,
+        }
+    }
+
+    /// The same bouquet, which keeps the optimal cost at each point of its grid, in the grid's order. It takes no memory.
+    pub fn with_optimal_costs(self, costs: Vec<u128>) -> Bouquet
+        requires { costs.items
+            ≡ map (optimal_cost (bouquet_tree self).costing) (points_of self.grid) }
+        ensures { result ≡ self }
+    {
+        Bouquet {
+            optimal_costs: Some(costs),
+            ..self
         }
     }
 
@@ -127,6 +144,17 @@ impl Bouquet {
         } }
     {
         Costing::new(&self.block, &self.stats, &self.grid)
+    }
+
+    /// The optimal cost at each point of its grid, in the grid's order, in units of work. None where it doesn't keep them.
+    pub fn optimal_costs(&self) -> Option<&[u128]>
+        ensures { IfSome result (λ costs. costs.now
+            ≡ map (optimal_cost (bouquet_tree self.now).costing) (points_of self.now.grid)) }
+    {
+        match &self.optimal_costs {
+            Some(costs) => Some(costs.as_slice()),
+            None => None,
+        }
     }
 
     /// The budget of each execution on the contour of this number, from 1, in units of work.
