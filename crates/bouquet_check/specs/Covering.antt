@@ -6,7 +6,7 @@ use Rattle.plan_tree.specs.declared.plan.Plan.{Plan}
 use Rattle.plan_tree.specs.Plans.{plan_tree}
 use Rattle.plan_tree.specs.Enumerated.{IsPlan}
 use Rattle.cost_model.specs.Costing.{CostingShape, costing_tree}
-use Rattle.plan_space.specs.CostedPlans.{CostedPlansShape}
+use Rattle.plan_space.specs.CostedPlans.{CostedPlansShape, HoldsPlans}
 use Rattle.bouquet_check.specs.Verdicts.{fits_at}
 
 -- by which costs, which plans, and under which budget
@@ -14,11 +14,6 @@ pub record CoverShape : Type 0 where
   pub costing : CostingShape
   pub plans : List Plan
   pub budget : ℕ
-
--- all plans are there, in their order
-pub record HoldsPlans (shape : CostingShape) (all : List Plan) (costed : CostedPlansShape) : Type 0 where
-  pub costing : costed.costing ≡ shape
-  pub plans : costed.plans ≡ map plan_tree all
 
 -- the plans are those of the block, and one of them is at hand; where all are held, these are they
 pub record IsCover (cover : CoverShape) (last : ℕ) (held : Option CostedPlansShape) : Type 0 where

@@ -11,7 +11,7 @@ use crate::cover::Cover;
 use crate::verdict::Verdict;
 use bouquet_type::{Bouquet, Contour};
 use ess_grid::Point;
-use plan_space::Outlook;
+use plan_space::CostSurface;
 use std::alloc::{AllocError, Global};
 
 // What the first contour costs.
@@ -45,19 +45,19 @@ fn wrong_step(b: &Bouquet) -> Option<u32>
 // The first point of a contour's frontier at which each of its plans costs more than this budget.
 fn uncovered_point(
     alloc: Global,
-    outlook: &Outlook<'_>,
+    surface: &CostSurface<'_>,
     contour: &Contour,
     budget: u128,
 ) -> Result<Option<Point>, AllocError>
-    requires { IsContour (costing_tree outlook.now).block contour.now }
-    ensures { IfOk result (λ found. found ≡ uncovered_point (costing_tree outlook.now)
+    requires { IsContour (costing_tree surface.now).block contour.now }
+    ensures { IfOk result (λ found. found ≡ uncovered_point (costing_tree surface.now)
         contour.now.cost budget (map plan_tree contour.now.plans.items)) }
 {
-    let costing = outlook.costing();
+    let costing = surface.costing();
     let grid = costing.grid();
     let mut cover = Cover::new(costing, &contour.plans, budget);
     for place in 0..grid.points() {
-        if outlook.is_on_frontier(contour.cost, place) {
+        if surface.is_on_frontier(contour.cost, place) {
             let q = grid.point(place);
             if !cover.fits(alloc, &q)? {
                 return Ok(Some(q));
@@ -68,14 +68,18 @@ fn uncovered_point(
 }
 
 // The first contour with such a point; without one the bouquet is sound.
-fn cover_verdict(alloc: Global, outlook: &Outlook<'_>, b: &Bouquet) -> Result<Verdict, AllocError>
-    requires { costing_tree outlook.now ≡ (bouquet_tree b.now).costing }
+fn cover_verdict(
+    alloc: Global,
+    surface: &CostSurface<'_>,
+    b: &Bouquet,
+) -> Result<Verdict, AllocError>
+    requires { costing_tree surface.now ≡ (bouquet_tree b.now).costing }
     ensures { IfOk result (λ verdict. verdict_tree verdict
-        ≡ cover_verdict (costing_tree outlook.now) b.now.threshold 1 (bouquet_tree b.now).contours) }
+        ≡ cover_verdict (costing_tree surface.now) b.now.threshold 1 (bouquet_tree b.now).contours) }
 {
     for (place, contour) in b.contours().iter().enumerate() {
         let budget = b.budget(place + 1);
-        if let Some(point) = uncovered_point(alloc, outlook, contour, budget)? {
+        if let Some(point) = uncovered_point(alloc, surface, contour, budget)? {
             return Ok(Verdict::Uncovered {
                 contour: place as u32 + 1,
                 point,
@@ -85,21 +89,21 @@ fn cover_verdict(alloc: Global, outlook: &Outlook<'_>, b: &Bouquet) -> Result<Ve
     Ok(Verdict::Sound)
 }
 
-// The verdict by an outlook.
-fn verdict(alloc: Global, outlook: &Outlook<'_>, b: &Bouquet) -> Result<Verdict, AllocError>
-    requires { costing_tree outlook.now ≡ (bouquet_tree b.now).costing }
+// The verdict by an surface.
+fn verdict(alloc: Global, surface: &CostSurface<'_>, b: &Bouquet) -> Result<Verdict, AllocError>
+    requires { costing_tree surface.now ≡ (bouquet_tree b.now).costing }
     ensures { IfOk result (λ verdict. verdict_tree verdict ≡ verdict_of (bouquet_tree b.now)) }
 {
-    if first_cost(b) > outlook.bottom_cost() {
+    if first_cost(b) > surface.bottom_cost() {
         return Ok(Verdict::First);
     }
     if let Some(contour) = wrong_step(b) {
         return Ok(Verdict::Step { contour });
     }
-    if last_cost(b) < outlook.top_cost() {
+    if last_cost(b) < surface.top_cost() {
         return Ok(Verdict::Last);
     }
-    cover_verdict(alloc, outlook, b)
+    cover_verdict(alloc, surface, b)
 }
 
 /// The verdict on a bouquet: the first that applies, in the order of `Verdict`. An error is want of memory.
@@ -110,7 +114,7 @@ pub fn check(alloc: Global, b: &Bouquet) -> Result<Verdict, AllocError>
 {
     let _contours = b.contours();
     let costing = b.costing();
-    let outlook = Outlook::new(alloc, &costing)?;
-    let verdict = verdict(alloc, &outlook, b)?;
+    let surface = CostSurface::new(alloc, &costing, b.optimal_costs())?;
+    let verdict = verdict(alloc, &surface, b)?;
     Ok(verdict)
 }

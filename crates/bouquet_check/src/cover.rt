@@ -7,7 +7,8 @@ ghost use Rattle.plan_tree.specs.Plans.{plan_tree};
 ghost use Rattle.plan_tree.specs.Enumerated.{IsPlan};
 ghost use Rattle.cost_model.specs.Costing.{costing_tree};
 ghost use Rattle.bouquet_check.specs.Verdicts.{fits_at};
-ghost use Rattle.bouquet_check.specs.Covering.{FindsWithin, HoldsPlans};
+ghost use Rattle.plan_space.specs.CostedPlans.{HoldsPlans};
+ghost use Rattle.bouquet_check.specs.Covering.{FindsWithin};
 
 use cost_model::Costing;
 use ess_grid::Point;
@@ -51,22 +52,6 @@ impl<'c> Model for Cover<'c> {
     }) c.last c.all };
 }
 
-// Plans of a block, to be costed together. An error is want of memory.
-fn costed_plans<'c>(
-    alloc: Global,
-    costing: &'c Costing<'c>,
-    plans: &[Plan],
-) -> Result<CostedPlans<'c>, AllocError>
-    requires { All (λ p. IsPlan (block_tree costing.now.block) (plan_tree p)) plans.now }
-    ensures { IfOk result (HoldsPlans costing.now plans.now) }
-{
-    let mut all = CostedPlans::new(alloc, costing, plans.len())?;
-    for p in plans {
-        all.add(p)?;
-    }
-    Ok(all)
-}
-
 // Of so many plans that are costed at a point the place of the first that is within a budget there.
 fn place_within(all: &CostedPlans<'_>, count: usize, budget: u128) -> Option<usize>
     requires { count ≡ length all.now.plans }
@@ -103,7 +88,7 @@ impl<'c> Cover<'c> {
     {
         match self.all.take() {
             Some(all) => Ok(all),
-            None => costed_plans(alloc, self.costing, self.plans),
+            None => CostedPlans::of_plans(alloc, self.costing, self.plans),
         }
     }
 

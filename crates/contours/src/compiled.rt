@@ -5,7 +5,7 @@ ghost use Rattle.query_block.specs.Blocks.{axes_of, block_tree};
 ghost use Rattle.cost_model.specs.Fits.{FitsBlock};
 ghost use Rattle.contours.specs.Contours.{IsCompiledOver};
 
-use crate::contours::contours;
+use crate::contours::make;
 use bouquet_type::Bouquet;
 use cost_model::{Costing, Stats};
 use ess_grid::Grid;
@@ -13,7 +13,7 @@ use query_block::Block;
 use std::alloc::{AllocError, Global};
 
 /// The compiled bouquet of a block, by the counts of its tables, on a grid with the axes of the block, with a threshold in
-/// percent. An error is want of memory alone.
+/// percent. It keeps the optimal costs of the grid's points, which it was made by. An error is want of memory alone.
 pub fn compile(
     alloc: Global,
     block: Block,
@@ -27,6 +27,7 @@ pub fn compile(
     ensures { IfOk result
         (IsCompiledOver (record { block = block; stats = stats; grid = grid }) threshold) }
 {
-    let contours = contours(alloc, &Costing::new(&block, &stats, &grid), threshold)?;
-    Ok(Bouquet::new(block, stats, grid, threshold, contours))
+    let made = make(alloc, &Costing::new(&block, &stats, &grid), threshold)?;
+    let bouquet = Bouquet::new(block, stats, grid, threshold, made.contours);
+    Ok(bouquet.with_optimal_costs(made.costs))
 }

@@ -8,7 +8,7 @@ ghost use Rattle.contours.specs.Lazy.{Makes};
 
 use anorexic::reduce;
 use bouquet_type::Contour;
-use plan_space::Outlook;
+use plan_space::{CostSurface, Outlook};
 use std::alloc::{AllocError, Global};
 use std::marker::Model;
 
@@ -41,12 +41,12 @@ impl<'o> Model for Maker<'o> {
 }
 
 // How many contours there are.
-fn count(outlook: &Outlook<'_>) -> u32
-    ensures { result ≡ contour_count (costing_tree outlook.now) }
+fn count(surface: &CostSurface<'_>) -> u32
+    ensures { result ≡ contour_count (costing_tree surface.now) }
 {
-    let _costing = outlook.costing();
-    let top = outlook.top_cost();
-    let mut last = outlook.bottom_cost();
+    let _costing = surface.costing();
+    let top = surface.top_cost();
+    let mut last = surface.bottom_cost();
     let mut count = 1;
     while last < top {
         last *= 2;
@@ -82,9 +82,9 @@ impl<'o> Maker<'o> {
         Maker {
             outlook,
             threshold,
-            count: count(outlook),
+            count: count(outlook.surface()),
             made: 0,
-            cost: outlook.bottom_cost(),
+            cost: outlook.surface().bottom_cost(),
         }
     }
 

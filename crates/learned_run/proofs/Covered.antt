@@ -13,7 +13,6 @@ use Rattle.cost_model.specs.Greedy.{covers_at}
 use Rattle.bouquet_type.specs.Trees.{ContourTree}
 use Rattle.learned_run.specs.declared.rows.FrontierRow.{FrontierRow}
 use Rattle.learned_run.specs.Skips.{is_at_or_below, covers_above}
-use Rattle.cost_model.specs.declared.frontier_point.FrontierPoint.{FrontierPoint}
 use Rattle.learned_run.specs.Covering.{AreFrontierRows, IsFrontierRow, any_row_covers, row_covers}
 
 -- the test of the order of points
@@ -81,14 +80,3 @@ pub row-off : (told : Bool) (point : List ℕ) (row : FrontierRow) (place : ℕ)
 row-off told point row place is fails =
     let above : is_at_or_below point row.point ≡ false = sym (below-told told point row.point is) ∙ fails in
     fails ∙ rw above refl
-
--- one row more is that of the next point
-pub next-row : (rows : List FrontierRow) (row : FrontierRow) (points : List FrontierPoint) (place : ℕ) (at : FrontierPoint) → place < length points → at ≡ get_or points place at
-    → row.point ≡ at.point → map (λ (one : FrontierRow). one.point) rows ≡ map (λ (one : FrontierPoint). one.point) (take place points)
-    → map (λ (one : FrontierRow). one.point) (rows ++ row ∷ []) ≡ map (λ (one : FrontierPoint). one.point) (take (place + 1) points)
-next-row rows row points place at there is same before =
-    let point_of : FrontierPoint → List ℕ = λ (one : FrontierPoint). one.point in
-    let here : row.point ≡ point_of (get_or points place at) = same ∙ ap point_of is in
-    map-append (λ (one : FrontierRow). one.point) rows (row ∷ [])
-    ∙ ap₂ (λ (ones : List (List ℕ)) (point : List ℕ). ones ++ point ∷ []) before here
-    ∙ sym (ap (map point_of) (take_more points place at there) ∙ map-append point_of (take place points) (get_or points place at ∷ []))

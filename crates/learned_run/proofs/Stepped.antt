@@ -26,17 +26,17 @@ numbered-is contours number contour held at is =
     ∙ ap contour_tree (sym is)
 
 -- the rows that are worked out are those of this contour
-pub frontiers-made : (b : BouquetShape) (costing outlook : CostingShape) (contours : List Contour) (held : Contour) (number threshold : ℕ) (rows : List FrontierRow)
-    → costing ≡ costing_shape b → outlook ≡ costing_shape b → contours ≡ b.contours → held ≡ get_or contours (number - 1) held → threshold ≡ b.threshold
-    → AreFrontierRows (costing_tree outlook) threshold (contour_tree held) rows → AreFrontiers (record { bouquet = b; number = number }) costing (Some outlook) rows
-frontiers-made b costing outlook contours held number threshold rows same_costing same_outlook same_contours is same_threshold are = record {
+pub frontiers-made : (b : BouquetShape) (costing surface : CostingShape) (contours : List Contour) (held : Contour) (number threshold : ℕ) (rows : List FrontierRow)
+    → costing ≡ costing_shape b → surface ≡ costing_shape b → contours ≡ b.contours → held ≡ get_or contours (number - 1) held → threshold ≡ b.threshold
+    → AreFrontierRows (costing_tree surface) threshold (contour_tree held) rows → AreFrontiers (record { bouquet = b; number = number }) costing (Some surface) rows
+frontiers-made b costing surface contours held number threshold rows same_costing same_surface same_contours is same_threshold are = record {
   same = same_costing;
-  made = same_outlook;
+  made = same_surface;
   those = λ contour numbered.
       let at = subst (λ (cs : List Contour). slice_get (map contour_tree cs) (number - 1) ≡ Some contour) (sym same_contours) numbered.1 in
       subst (λ (one : ContourTree). AreFrontierRows (bouquet_tree b).costing b.threshold one rows) (sym (numbered-is contours number contour held at is))
       (subst (λ (n : ℕ). AreFrontierRows (bouquet_tree b).costing n (contour_tree held) rows) same_threshold
-      (subst (λ (shape : CostingShape). AreFrontierRows (costing_tree shape) threshold (contour_tree held) rows) same_outlook are));
+      (subst (λ (shape : CostingShape). AreFrontierRows (costing_tree shape) threshold (contour_tree held) rows) same_surface are));
 }
 
 -- there is such a contour

@@ -1,9 +1,7 @@
 -- Which plans of a contour cover which points of its frontier; and the members of a schedule, by their places.
 use Rattle.std.specs.Prelude.{◌≡◌, ℕ, ◌-◌, ◌≤◌, ◌&&◌, Bool, false, All, IfSome, List, Option, Some, None, map, slice_get, slice_index_or}
 use Rattle.std.specs.List.{list_any}
-use Rattle.plan_tree.specs.declared.plan.Plan.{Plan}
 use Rattle.plan_tree.specs.Plans.{PlanTree, plan_tree}
-use Rattle.plan_space.specs.CostedPlans.{CostedPlansShape}
 use Rattle.cost_model.specs.Costing.{CostingShape, CostingTree}
 use Rattle.cost_model.specs.Frontier.{frontier}
 use Rattle.cost_model.specs.Greedy.{covers_at}
@@ -62,11 +60,6 @@ abbrev pub step_skip : BouquetTree → Attempt → (learned : Option (List ℕ))
 step_skip bouquet step learned None = None
 step_skip bouquet step learned (Some budget) = skip_by bouquet.costing bouquet.threshold (member_of step budget) learned
 
--- all of some plans are there, in their order, to be costed
-pub record HoldsAll (shape : CostingShape) (all : List Plan) (costed : CostedPlansShape) : Type 0 where
-  pub costing : costed.costing ≡ shape
-  pub plans : costed.plans ≡ map plan_tree all
-
 -- what the plans of a bouquet cost by
 abbrev pub costing_shape : BouquetShape → CostingShape
 costing_shape bouquet = record { block = bouquet.block; stats = bouquet.stats; grid = bouquet.grid }
@@ -76,8 +69,8 @@ pub record FrontiersShape : Type 0 where
   pub bouquet : BouquetShape
   pub number : ℕ
 
--- what is worked out of a bouquet's frontiers: an outlook, once there is one, and the rows of one contour
-pub record AreFrontiers (frontiers : FrontiersShape) (costing : CostingShape) (outlook : Option CostingShape) (rows : List FrontierRow) : Type 0 where
+-- what is worked out of a bouquet's frontiers: the optimal costs, once they are asked for, and the rows of one contour
+pub record AreFrontiers (frontiers : FrontiersShape) (costing : CostingShape) (surface : Option CostingShape) (rows : List FrontierRow) : Type 0 where
   pub same : costing ≡ costing_shape frontiers.bouquet
-  pub made : IfSome outlook (λ shape. shape ≡ costing_shape frontiers.bouquet)
+  pub made : IfSome surface (λ shape. shape ≡ costing_shape frontiers.bouquet)
   pub those : AreRowsOfContour (bouquet_tree frontiers.bouquet) frontiers.number rows

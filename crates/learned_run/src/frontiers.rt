@@ -7,7 +7,7 @@ use crate::rows::{FrontierRow, any_row_covers, frontier_rows};
 use bouquet_type::{Attempt, Bouquet};
 use cost_model::Costing;
 use ess_grid::Point;
-use plan_space::Outlook;
+use plan_space::CostSurface;
 use std::alloc::{AllocError, Global};
 use std::marker::Model;
 
@@ -16,8 +16,8 @@ use std::marker::Model;
 pub(crate) struct Frontiers<'c> {
     bouquet: &'c Bouquet,
     costing: &'c Costing<'c>,
-    // What is worked out once for all contours, once it is asked for.
-    outlook: Option<Outlook<'c>>,
+    // The optimal costs at all points, once they are asked for.
+    surface: Option<CostSurface<'c>>,
     // The rows of one contour, and its number, from 1; 0 while there are none.
     number: u32,
     rows: Vec<FrontierRow>,
@@ -36,7 +36,7 @@ impl<'c> Model for Frontiers<'c> {
     ghost view = { λ f. record { bouquet = f.bouquet.now; number = f.number } };
 
     ghost invariant = { λ f. AreFrontiers (record { bouquet = f.bouquet.now; number = f.number })
-        f.costing.now f.outlook f.rows.items };
+        f.costing.now f.surface f.rows.items };
 }
 
 impl<'c> Frontiers<'c> {
@@ -52,20 +52,20 @@ impl<'c> Frontiers<'c> {
         Frontiers {
             bouquet,
             costing,
-            outlook: None,
+            surface: None,
             number: 0,
             rows: Vec::new(alloc),
         }
     }
 
-    // The outlook, to be put back. It is made where it isn't there yet. An error is want of memory.
-    fn take_outlook(&mut self, alloc: Global) -> Result<Outlook<'c>, AllocError>
-        ensures outlook { IfOk result (λ outlook. outlook ≡ costing_shape self.old.bouquet) }
+    // The optimal costs, to be put back. They are found where they aren't there yet. An error is want of memory.
+    fn take_surface(&mut self, alloc: Global) -> Result<CostSurface<'c>, AllocError>
+        ensures surface { IfOk result (λ surface. surface ≡ costing_shape self.old.bouquet) }
         ensures same { self.new ≡ self.old }
     {
-        match self.outlook.take() {
-            Some(outlook) => Ok(outlook),
-            None => Outlook::new(alloc, self.costing),
+        match self.surface.take() {
+            Some(surface) => Ok(surface),
+            None => CostSurface::new(alloc, self.costing, self.bouquet.optimal_costs()),
         }
     }
 
@@ -79,10 +79,10 @@ impl<'c> Frontiers<'c> {
         if self.number == number {
             return Ok(());
         }
-        let outlook = self.take_outlook(alloc)?;
+        let surface = self.take_surface(alloc)?;
         let contour = &self.bouquet.contours()[number as usize - 1];
-        let rows = frontier_rows(alloc, &outlook, contour, self.bouquet.threshold());
-        self.outlook = Some(outlook);
+        let rows = frontier_rows(alloc, &surface, contour, self.bouquet.threshold());
+        self.surface = Some(surface);
         self.rows = rows?;
         self.number = number;
         Ok(())

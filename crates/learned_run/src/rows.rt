@@ -2,20 +2,16 @@
 ghost use Rattle.std.specs.Prelude.{◌≡◌, ◌*◌, ◌+◌, ◌<◌, ◌≤◌, All, IfOk, Some, length, map, nat_le};
 ghost use Rattle.sql_values.specs.Limits.{max_threshold};
 ghost use Rattle.query_block.specs.Blocks.{block_tree};
-ghost use Rattle.plan_tree.specs.Plans.{plan_tree};
-ghost use Rattle.plan_tree.specs.Enumerated.{IsPlan};
 ghost use Rattle.cost_model.specs.Costing.{costing_tree, IsCosting};
 ghost use Rattle.cost_model.specs.Costs.{cost_of};
-ghost use Rattle.cost_model.specs.FrontierPoints.{IsFrontierPoint};
+ghost use Rattle.plan_space.specs.SurfacePoints.{IsSurfacePoint};
 ghost use Rattle.plan_space.specs.CostedPlans.{costed_at};
 ghost use Rattle.bouquet_type.specs.Trees.{IsContour, contour_tree};
-ghost use Rattle.learned_run.specs.Covering.{AreFrontierRows, IsFrontierRow, HoldsAll, any_row_covers, row_covers};
+ghost use Rattle.learned_run.specs.Covering.{AreFrontierRows, IsFrontierRow, any_row_covers, row_covers};
 
 use bouquet_type::Contour;
-use cost_model::{Costing, FrontierPoint};
 use ess_grid::{Point, below};
-use plan_space::{CostedPlans, Outlook};
-use plan_tree::Plan;
+use plan_space::{CostSurface, CostedPlans, SurfacePoint};
 use std::alloc::{AllocError, Global};
 
 /// A point of a contour's frontier.
@@ -27,28 +23,12 @@ pub(crate) struct FrontierRow {
     pub(crate) covers: Vec<bool>,
 }
 
-// Some plans of a block, to be costed together. An error is want of memory.
-fn gather<'c>(
-    alloc: Global,
-    costing: &'c Costing<'c>,
-    plans: &[Plan],
-) -> Result<CostedPlans<'c>, AllocError>
-    requires { All (λ p. IsPlan (block_tree costing.now.block) (plan_tree p)) plans.now }
-    ensures { IfOk result (HoldsAll costing.now plans.now) }
-{
-    let mut all = CostedPlans::new(alloc, costing, plans.len())?;
-    for p in plans {
-        all.add(p)?;
-    }
-    Ok(all)
-}
-
 // Which of so many plans, costed at a point, cost at most this there, a hundredfold. An error is want of memory.
 fn tests(
     alloc: Global,
     all: &CostedPlans<'_>,
     count: usize,
-    at: &FrontierPoint,
+    at: &SurfacePoint,
     limit: u128,
 ) -> Result<Vec<bool>, AllocError>
     requires count { count ≡ length all.now.plans }
@@ -69,12 +49,12 @@ fn row(
     all: &mut CostedPlans<'_>,
     count: usize,
     threshold: u32,
-    at: &FrontierPoint,
+    at: &SurfacePoint,
 ) -> Result<FrontierRow, AllocError>
     requires count { count ≡ length all.old.plans }
     requires threshold { threshold ≤ max_threshold }
     requires costing { IsCosting (costing_tree all.old.costing) }
-    requires point { IsFrontierPoint (costing_tree all.old.costing) at.now }
+    requires point { IsSurfacePoint (costing_tree all.old.costing) at.now }
     ensures costed { all.new ≡ costed_at all.old at.now.point }
     ensures point { IfOk result (λ row. row.point ≡ at.now.point) }
     ensures row { IfOk result
@@ -92,17 +72,17 @@ fn row(
 /// The rows of a contour. An error is want of memory.
 pub(crate) fn frontier_rows(
     alloc: Global,
-    outlook: &Outlook<'_>,
+    surface: &CostSurface<'_>,
     contour: &Contour,
     threshold: u32,
 ) -> Result<Vec<FrontierRow>, AllocError>
     requires threshold { threshold ≤ max_threshold }
-    requires contour { IsContour (costing_tree outlook.now).block contour.now }
-    ensures { IfOk result (λ rows. AreFrontierRows (costing_tree outlook.now) threshold
+    requires contour { IsContour (costing_tree surface.now).block contour.now }
+    ensures { IfOk result (λ rows. AreFrontierRows (costing_tree surface.now) threshold
         (contour_tree contour.now) rows.items) }
 {
-    let frontier = outlook.frontier(alloc, contour.cost)?;
-    let mut all = gather(alloc, outlook.costing(), &contour.plans)?;
+    let frontier = surface.frontier(alloc, contour.cost)?;
+    let mut all = CostedPlans::of_plans(alloc, surface.costing(), &contour.plans)?;
     let mut rows = Vec::new(alloc);
     let points = frontier.as_slice();
     for at in points {

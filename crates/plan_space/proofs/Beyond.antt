@@ -10,7 +10,7 @@ use Rattle.ess_grid.specs.Order.{successors}
 use Rattle.cost_model.specs.Costing.{CostingTree}
 use Rattle.cost_model.specs.Optimal.{optimal_cost}
 use Rattle.cost_model.specs.Frontier.{is_within_cost, is_on_frontier}
-use Rattle.plan_space.specs.Outlook.{past_all_costs, least_with, cost_beyond}
+use Rattle.plan_space.specs.Surface.{past_all_costs, least_with, cost_beyond}
 
 -- ---- the least of one number more
 

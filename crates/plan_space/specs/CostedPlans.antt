@@ -1,7 +1,8 @@
 -- Plans of a block with their costs at a point.
-use Rattle.std.specs.Prelude.{◌≡◌, ℕ, ◌<◌, ◌≤◌, All, IfSome, List, [], ◌∷◌, ◌++◌, None, Option, Some, length, slice_index}
+use Rattle.std.specs.Prelude.{◌≡◌, ℕ, ◌<◌, ◌≤◌, All, IfSome, List, [], ◌∷◌, ◌++◌, None, Option, Some, length, map, slice_index}
 use Rattle.sql_values.specs.Limits.{cost_bound}
-use Rattle.plan_tree.specs.Plans.{PlanTree}
+use Rattle.plan_tree.specs.declared.plan.Plan.{Plan}
+use Rattle.plan_tree.specs.Plans.{PlanTree, plan_tree}
 use Rattle.cost_model.specs.Costing.{CostingShape, costing_tree}
 use Rattle.cost_model.specs.Costs.{cost_of}
 use Rattle.plan_space.specs.Parts.{PartsShape, nth_plan}
@@ -23,6 +24,11 @@ with_plan costed p = record { costing = costed.costing; plans = costed.plans ++ 
 -- costed at a point
 abbrev pub costed_at : CostedPlansShape → (point : List ℕ) → CostedPlansShape
 costed_at costed point = record { costing = costed.costing; plans = costed.plans; point = Some point }
+
+-- these plans, in their order, of a costing
+pub record HoldsPlans (shape : CostingShape) (all : List Plan) (costed : CostedPlansShape) : Type 0 where
+  pub costing : costed.costing ≡ shape
+  pub plans : costed.plans ≡ map plan_tree all
 
 -- what the plan at this place costs at that point
 abbrev pub IsCostThere : CostedPlansShape → (place cost : ℕ) → Type 0

@@ -2,7 +2,8 @@ pub mod Table
 pub mod Search
 pub mod Steps
 pub mod Alike
-pub mod Outlook
+pub mod Surface
+pub mod SurfacePoints
 pub mod Places
 pub mod CostedPlans
 -- what only proofs need

@@ -6,7 +6,7 @@ ghost use Rattle.query_block.specs.Blocks.{block_tree};
 ghost use Rattle.plan_tree.specs.Plans.{plan_tree};
 ghost use Rattle.plan_tree.specs.Enumerated.{IsPlan};
 ghost use Rattle.plan_space.specs.Parts.{IsNthPlan};
-ghost use Rattle.plan_space.specs.CostedPlans.{without_plans, with_plan, costed_at, IsCostThere, KeepsFirstCosts};
+ghost use Rattle.plan_space.specs.CostedPlans.{without_plans, with_plan, costed_at, HoldsPlans, IsCostThere, KeepsFirstCosts};
 
 use crate::parts::Parts;
 use cost_model::{Costing, PriceRoom, Prices};
@@ -121,6 +121,22 @@ impl<'c> CostedPlans<'c> {
             room: PriceRoom::new(),
             point: None,
         })
+    }
+
+    /// Some plans of the block, in their order. An error is want of memory.
+    pub fn of_plans(
+        alloc: Global,
+        costing: &'c Costing<'c>,
+        plans: &[Plan],
+    ) -> Result<CostedPlans<'c>, AllocError>
+        requires { All (λ p. IsPlan (block_tree costing.now.block) (plan_tree p)) plans.now }
+        ensures { IfOk result (HoldsPlans costing.now plans.now) }
+    {
+        let mut all = CostedPlans::new(alloc, costing, plans.len())?;
+        for p in plans {
+            all.add(p)?;
+        }
+        Ok(all)
     }
 
     /// Puts a plan behind the others, and says at which place it is, from 0: at that of an equal one, if one was found, else

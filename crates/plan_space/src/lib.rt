@@ -18,9 +18,11 @@ mod parts;
 mod search;
 mod sets;
 mod steps;
+mod surface;
 mod table;
 
 pub use all_points::{BestPlans, best_at_all_points};
 pub use costed_plans::CostedPlans;
 pub use outlook::Outlook;
 pub use search::best;
+pub use surface::{CostSurface, SurfacePoint};

@@ -7,5 +7,5 @@ use Rattle.bouquet_check.proofs.checked.cover_verdict.Given as goal
 
 abbrev pub invariant-loop-place : goal.invariant-loop-place
 invariant-loop-place l =
-    covers_from (costing_tree l.outlook) l.b.threshold l.place l.b.contours
-    ≡ cover_verdict (costing_tree l.outlook) l.b.threshold 1 (map contour_tree l.b.contours)
+    covers_from (costing_tree l.surface) l.b.threshold l.place l.b.contours
+    ≡ cover_verdict (costing_tree l.surface) l.b.threshold 1 (map contour_tree l.b.contours)

@@ -14,12 +14,12 @@ use Rattle.bouquet_check.proofs.checked.uncovered_point.Goals.{then-is_on_fronti
 pub loop-place-init : goal.loop-place-init
 loop-place-init c = record {
   same = cc (c.new-cover.ensures, c.costing-costing.ensures.same, c.deref.ensures.value);
-  left = points-first (costing_tree c.args.outlook.now) c.args.contour.now.cost c.args.budget (map plan_tree c.args.contour.now.plans.items);
+  left = points-first (costing_tree c.args.surface.now) c.args.contour.now.cost c.args.budget (map plan_tree c.args.contour.now.plans.items);
 }
 
 pub returns-then-not-branch : goal.returns-then-not-branch
 returns-then-not-branch c =
-    let costing = costing_tree c.args.outlook.now in
+    let costing = costing_tree c.args.surface.now in
     let cost = c.args.contour.now.cost in
     let budget = c.args.budget in
     let plans = map plan_tree c.args.contour.now.plans.items in
@@ -39,7 +39,7 @@ returns-then-not-branch c =
 
 pub loop-place-preserved : goal.loop-place-preserved
 loop-place-preserved c =
-    let costing = costing_tree c.args.outlook.now in
+    let costing = costing_tree c.args.surface.now in
     let cost = c.args.contour.now.cost in
     let budget = c.args.budget in
     let plans = map plan_tree c.args.contour.now.plans.items in
@@ -79,7 +79,7 @@ loop-place-preserved c =
 
 pub returns : goal.returns
 returns c =
-    let costing = costing_tree c.args.outlook.now in
+    let costing = costing_tree c.args.surface.now in
     let grid : c.grid-grid.result.now ≡ costing.grid = c.grid-grid.ensures ∙ ap (λ (one : CostingShape). one.grid) c.costing-costing.ensures.same in
     let all : length (points_of costing.grid) ≤ c.loop-place.place =
     omega (arith, c.loop-place-test.false, c.points-place-end.ensures.count, ap (λ (one : GridShape). length (points_of one)) grid) in

@@ -9,11 +9,11 @@ use Rattle.contours.proofs.compiled.compile.Goals as goal
 
 pub returns : goal.returns
 returns c =
-    let made = c.new-2.ensures in
-    let contours = c.in_ok-contours.contours.items in
+    let made = c.with_optimal_costs.ensures ∙ c.new-bouquet.ensures in
+    let contours = c.in_ok-made.made.contours.items in
     let costing : CostingShape = record { block = c.args.block; stats = c.args.stats; grid = c.args.grid } in
-    let are = subst (λ (one : CostingShape). AreContours (costing_tree one) c.args.threshold contours) c.new.ensures c.in_ok-contours.ensures in
-    let tree : bouquet_tree c.new-2.result ≡ bouquet_of (costing_tree costing) c.args.threshold contours = ap bouquet_tree made in
+    let are = subst (λ (one : CostingShape). AreContours (costing_tree one) c.args.threshold contours) c.new.ensures c.in_ok-made.ensures.contours in
+    let tree : bouquet_tree c.with_optimal_costs.result ≡ bouquet_of (costing_tree costing) c.args.threshold contours = ap bouquet_tree made in
     record {
       block = ap (λ (b : BouquetShape). b.block) made;
       stats = ap (λ (b : BouquetShape). b.stats) made;

@@ -7,8 +7,8 @@ use Rattle.learned_run.proofs.rows.frontier_rows.Given as goal
 
 abbrev pub invariant-loop-at : goal.invariant-loop-at
 invariant-loop-at l = record {
-  costing : l.all.costing ≡ l.outlook;
+  costing : l.all.costing ≡ l.surface;
   plans : l.all.plans ≡ map plan_tree l.contour.plans.items;
   points : map (λ row. row.point) l.rows.items ≡ map (λ at. at.point) (take l.at-index l.points);
-  each : All (IsFrontierRow (costing_tree l.outlook) l.threshold (map plan_tree l.contour.plans.items)) l.rows.items;
+  each : All (IsFrontierRow (costing_tree l.surface) l.threshold (map plan_tree l.contour.plans.items)) l.rows.items;
 }

@@ -1,60 +1,46 @@
-use Rattle.std.proofs.Common.{◌≤◌, ◌<◌, ◌∙◌, ◌++◌, ◌∷◌, [], All, cond, get_or, take, length, append-nil, ap, arith, subst, sym}
-use Rattle.std.specs.List.{filter}
+use Rattle.std.proofs.Common.{◌≤◌, ◌∙◌, All, map, length, ap, arith, subst, sym}
 use Rattle.std.proofs.lemmas.List.{length-map, take_all}
-use Rattle.std.proofs.lemmas.Option.{slice_get-get_or}
 use Rattle.std.proofs.lemmas.List.Elements.{All-push}
-use Rattle.ess_grid.specs.Points.{points_of}
-use Rattle.cost_model.specs.Costing.{costing_tree}
-use Rattle.cost_model.specs.Frontier.{is_on_frontier, frontier}
+use Rattle.ess_grid.specs.Points.{GridShape, IsGrid}
+use Rattle.cost_model.specs.Costing.{CostingShape, costing_tree}
+use Rattle.cost_model.specs.Frontier.{frontier}
 use Rattle.cost_model.specs.FrontierPoints.{IsFrontierPoint, frontier_points}
 use Rattle.cost_model.specs.declared.frontier_point.FrontierPoint.{FrontierPoint}
 use Rattle.cost_model.proofs.Frontiers.{frontier-few}
-use Rattle.plan_space.proofs.ByPlaces.{point-there}
-use Rattle.plan_space.proofs.FrontierPoints.{point-more, filtered-next}
+use Rattle.plan_space.specs.declared.surface.SurfacePoint.{SurfacePoint}
+use Rattle.plan_space.proofs.FrontierPoints.{next-same}
 use Rattle.plan_space.proofs.outlook.Outlook.frontier.Goals as goal
-use Rattle.plan_space.proofs.outlook.Outlook.frontier.Goals.{then-is_on_frontier+in_ok-frontier_point+in_ok-push, else-is_on_frontier}
 
 pub returns-clause-points : goal.returns-clause-points
-unfolding frontier
 returns-clause-points c =
-    let points = points_of c.args.self.now.grid in
-    let all : length points ≤ c.loop-place.place = omega (arith, c.loop-place-test.false, c.points-place-end.ensures.count) in
-    c.loop-place.invariant.points ∙ ap (filter (is_on_frontier (costing_tree c.args.self.now) c.args.cost)) (take_all c.loop-place.place points all)
+    let points = c.as_slice-points.result.now in
+    let all : length points ≤ c.loop-at.at-index = omega (arith, c.loop-at-test.false) in
+    c.loop-at.invariant.points
+    ∙ ap (map (λ (at : SurfacePoint). at.point)) (take_all c.loop-at.at-index points all ∙ c.as_slice-points.ensures.value)
+    ∙ c.in_ok-frontier.ensures.points
+    ∙ ap (λ (one : CostingShape). frontier (costing_tree one) c.args.cost) c.self.view_is
 
 pub returns-clause-frontier : goal.returns-clause-frontier
 returns-clause-frontier c =
-    let found = c.loop-place.found.items in
+    let found = c.loop-at.found.items in
     let costing = costing_tree c.args.self.now in
     let points = returns-clause-points c in
+    let grid : IsGrid c.args.self.now.grid =
+    subst IsGrid (c.grid.ensures ∙ ap (λ (one : CostingShape). one.grid) c.costing.ensures.same) c.levels-levels.ensures.grid in
     record {
-      each = c.loop-place.invariant.best;
-      few = omega (arith, length-map found (λ (at : FrontierPoint). at.point), ap length points, frontier-few costing c.args.cost c.points-place-end.ensures.grid);
+      each = c.loop-at.invariant.best;
+      few = omega (arith, length-map found (λ (at : FrontierPoint). at.point), ap length points, frontier-few costing c.args.cost grid);
     }
 
-pub loop-place-preserved : goal.loop-place-preserved
-loop-place-preserved c =
+pub loop-at-preserved : goal.loop-at-preserved
+loop-at-preserved c =
     let costing = costing_tree c.args.self.now in
-    let points = points_of c.args.self.now.grid in
-    let place = c.loop-place.place in
-    let point = get_or points place [] in
-    let test = is_on_frontier costing c.args.cost in
-    let found = c.loop-place.found.items in
-    let below : place < length points = omega (arith, c.loop-place-test.true, c.points-place-end.ensures.count) in
-    let next = filtered-next test points place below in
-    let is_on = c.is_on_frontier.ensures point (slice_get-get_or points place [] below) in
-    elim c.if-is_on_frontier.branch [
-      | then-is_on_frontier+in_ok-frontier_point+in_ok-push w ↦
-          let at = w.in_ok-frontier_point.field-0 in
-          let items = w.in_ok-push.ensures.items in
-          let more = point-more found at (test point) point (point-there points place at.point w.in_ok-frontier_point.ensures.point) (sym is_on ∙ w.if-is_on_frontier.true) in
-          rw w.found-is (record {
-            points = ap frontier_points items ∙ more ∙ ap (λ before. before ++ cond (test point) (point ∷ []) []) c.loop-place.invariant.points ∙ sym next;
-            best = subst (All (IsFrontierPoint costing)) (sym items) (All-push (IsFrontierPoint costing) found at c.loop-place.invariant.best w.in_ok-frontier_point.ensures.best);
-          })
-      | else-is_on_frontier w ↦
-          let off = ap (λ on. filter test (take place points) ++ cond on (point ∷ []) []) (sym is_on ∙ w.if-is_on_frontier.false) in
-          rw w.found-is (record {
-            points = c.loop-place.invariant.points ∙ sym (next ∙ off ∙ append-nil (filter test (take place points)));
-            best = c.loop-place.invariant.best;
-          })
-    ]
+    let found = c.loop-at.found.items in
+    let at = c.in_ok-frontier_point.field-0 in
+    let items = c.in_ok-push.ensures.items in
+    record {
+      points = ap frontier_points items
+          ∙ next-same (λ (one : FrontierPoint). one.point) (λ (one : SurfacePoint). one.point) found at c.as_slice-points.result.now c.loop-at.at-index c.at-item.result
+          c.loop-at-test.true c.at-item.is c.in_ok-frontier_point.ensures.point c.loop-at.invariant.points;
+      best = subst (All (IsFrontierPoint costing)) (sym items) (All-push (IsFrontierPoint costing) found at c.loop-at.invariant.best c.in_ok-frontier_point.ensures.best);
+    }

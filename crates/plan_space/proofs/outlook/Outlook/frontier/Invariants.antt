@@ -1,13 +1,10 @@
-use Rattle.std.proofs.Common.{◌≡◌, All, take}
-use Rattle.std.specs.List.{filter}
-use Rattle.ess_grid.specs.Points.{points_of}
+use Rattle.std.proofs.Common.{◌≡◌, All, map, take}
 use Rattle.cost_model.specs.Costing.{costing_tree}
-use Rattle.cost_model.specs.Frontier.{is_on_frontier}
 use Rattle.cost_model.specs.FrontierPoints.{IsFrontierPoint, frontier_points}
 use Rattle.plan_space.proofs.outlook.Outlook.frontier.Given as goal
 
-abbrev pub invariant-loop-place : goal.invariant-loop-place
-invariant-loop-place l = record {
-  points : frontier_points l.found.items ≡ filter (is_on_frontier (costing_tree l.self) l.cost) (take l.place (points_of l.self.grid));
+abbrev pub invariant-loop-at : goal.invariant-loop-at
+invariant-loop-at l = record {
+  points : frontier_points l.found.items ≡ map (λ at. at.point) (take l.at-index l.points);
   best : All (IsFrontierPoint (costing_tree l.self)) l.found.items;
 }

@@ -4,7 +4,7 @@ use Rattle.ess_grid.specs.Order.{next_point}
 use Rattle.cost_model.specs.Costing.{costing_tree}
 use Rattle.cost_model.specs.Optimal.{optimal_cost}
 use Rattle.plan_space.proofs.Beyond.{least_up_to}
-use Rattle.plan_space.proofs.outlook.OptimalCosts.least_above.Given as goal
+use Rattle.plan_space.proofs.surface.OptimalCosts.least_above.Given as goal
 
 abbrev pub invariant-loop-axis : goal.invariant-loop-axis
 invariant-loop-axis l =

@@ -2,9 +2,9 @@ use Rattle.std.proofs.Common.{◌∙◌, sym, ap}
 use Rattle.std.specs.Prelude.{slice_get}
 use Rattle.ess_grid.specs.Points.{points_of}
 use Rattle.cost_model.specs.Costing.{CostingShape, costing_tree}
-use Rattle.plan_space.specs.Outlook.{cost_beyond}
+use Rattle.plan_space.specs.Surface.{cost_beyond}
 use Rattle.plan_space.proofs.ByPlaces.{number-more}
-use Rattle.plan_space.proofs.outlook.OptimalCosts.costs_beyond.Goals as goal
+use Rattle.plan_space.proofs.surface.OptimalCosts.costs_beyond.Goals as goal
 
 pub loop-place-preserved : goal.loop-place-preserved
 loop-place-preserved c =

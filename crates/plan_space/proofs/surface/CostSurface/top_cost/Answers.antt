@@ -7,7 +7,7 @@ use Rattle.ess_grid.proofs.GridPoints.{slice_get-top}
 use Rattle.cost_model.specs.Costing.{CostingShape, costing_tree}
 use Rattle.cost_model.specs.Optimal.{optimal_cost}
 use Rattle.plan_space.proofs.ByPlaces.{number-of-point}
-use Rattle.plan_space.proofs.outlook.Outlook.top_cost.Goals as goal
+use Rattle.plan_space.proofs.surface.CostSurface.top_cost.Goals as goal
 
 pub overflow_sub-points : goal.overflow_sub-points
 overflow_sub-points c =

@@ -5,7 +5,7 @@ use Rattle.ess_grid.proofs.GridPoints.{slice_get-bottom}
 use Rattle.cost_model.specs.Costing.{CostingShape, costing_tree}
 use Rattle.cost_model.specs.Optimal.{optimal_cost}
 use Rattle.plan_space.proofs.ByPlaces.{number-of-point}
-use Rattle.plan_space.proofs.outlook.Outlook.bottom_cost.Goals as goal
+use Rattle.plan_space.proofs.surface.CostSurface.bottom_cost.Goals as goal
 
 pub prove-unreachable-requires : goal.prove-unreachable-requires
 prove-unreachable-requires c =

@@ -5,10 +5,10 @@ use Rattle.ess_grid.specs.Points.{points_of, point_at}
 use Rattle.cost_model.specs.Costing.{CostingShape, costing_tree}
 use Rattle.cost_model.specs.Frontier.{is_on_frontier}
 use Rattle.cost_model.specs.Optimal.{optimal_cost}
-use Rattle.plan_space.specs.Outlook.{cost_beyond}
+use Rattle.plan_space.specs.Surface.{cost_beyond}
 use Rattle.plan_space.proofs.ByPlaces.{number-of-point}
 use Rattle.plan_space.proofs.Beyond.{past-or-on}
-use Rattle.plan_space.proofs.outlook.Outlook.is_on_frontier.Goals as goal
+use Rattle.plan_space.proofs.surface.CostSurface.is_on_frontier.Goals as goal
 
 pub returns-then-index-cost : goal.returns-then-index-cost
 returns-then-index-cost c =

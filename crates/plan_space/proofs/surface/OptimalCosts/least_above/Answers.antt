@@ -6,9 +6,9 @@ use Rattle.ess_grid.specs.Points.{GridShape}
 use Rattle.ess_grid.specs.Order.{next_point}
 use Rattle.cost_model.specs.Costing.{CostingShape, costing_tree}
 use Rattle.cost_model.specs.Optimal.{optimal_cost}
-use Rattle.plan_space.specs.Outlook.{past_all_costs, least_with}
+use Rattle.plan_space.specs.Surface.{past_all_costs, least_with}
 use Rattle.plan_space.proofs.Beyond.{least-axis, least_up_to}
-use Rattle.plan_space.proofs.outlook.OptimalCosts.least_above.Goals as goal
+use Rattle.plan_space.proofs.surface.OptimalCosts.least_above.Goals as goal
 
 pub loop-axis-preserved : goal.loop-axis-preserved
 loop-axis-preserved c =

@@ -5,7 +5,7 @@ use Rattle.ess_grid.specs.Points.{GridShape, points_of}
 use Rattle.cost_model.specs.Costing.{CostingShape, costing_tree}
 use Rattle.cost_model.specs.Optimal.{optimal_cost}
 use Rattle.plan_space.proofs.ByPlaces.{number-more}
-use Rattle.plan_space.proofs.outlook.optimal_costs.Goals as goal
+use Rattle.plan_space.proofs.surface.optimal_costs.Goals as goal
 
 pub loop-place-preserved : goal.loop-place-preserved
 loop-place-preserved c =

@@ -1,4 +1,4 @@
--- What is worked out once for all contours: the optimal cost at each point, and the least one next above it.
+-- What decides which points are on which frontier: the optimal cost at each point, and the least one next above it.
 use Rattle.std.specs.Prelude.{◌≡◌, ℕ, ◌-◌, ◌^◌, min, List, [], ◌∷◌, map}
 use Rattle.ess_grid.specs.Points.{points_of}
 use Rattle.ess_grid.specs.Order.{successors}
@@ -25,9 +25,8 @@ optimal_costs costing = map (optimal_cost costing) (points_of costing.grid)
 abbrev pub costs_beyond : CostingTree → List ℕ
 costs_beyond costing = map (cost_beyond costing) (points_of costing.grid)
 
--- the best plans of a costing, and both costs
-pub record IsOutlook (shape best : CostingShape) (numbers above : List ℕ) : Type 0 where
+-- both costs are those of a costing
+pub record IsSurface (shape : CostingShape) (numbers above : List ℕ) : Type 0 where
   pub costing : IsCosting (costing_tree shape)
-  pub same : best ≡ shape
   pub costs : numbers ≡ optimal_costs (costing_tree shape)
   pub beyond : above ≡ costs_beyond (costing_tree shape)
