@@ -1,5 +1,6 @@
 #!/usr/bin/env python3
 """Times joins against SQLite: a small answer from three large tables, and six joins of a star of a million sales.
+Then it times LEARN beside RUN, for the same queries.
 
   python3 bench/joins.py [--scale N] [--rows N] [--runs N] [--only WORD] [--clock wall|cpu] [--program PATH]
 
@@ -7,15 +8,15 @@ The proved program is the one that `rt run` left in crates/bouquet/out; sqlite3 
 Both are whole processes over the same files in the same run, by turns, with their output in a file each, and sqlite3
 once without ANALYZE and once with it. Both have the same indexes, one on each column that an equality names.
 
-A query's time is a difference of medians: of a script that loads, makes the indexes, for the third side runs ANALYZE, and
-asks the query some times in turn, and of one that does the same without asking; divided by how often it is asked. So it
-holds the query's compiling and printing, and none of the loading. Behind `+-` stands how uncertain it is: the median
-deviations of both scripts from their medians, together, divided as well. Where a wanted time is met or missed only within
-that, it is said to be unclear: take more runs, or a quieter machine. With `--clock cpu` times are the processor's instead
-of the wall clock's: on a machine that is at other work these say more, and on a quiet one the same, since either side is
-one thread and the files are read from memory.
+A query's time is a difference of medians: of a script that loads, makes the indexes, for the third side runs ANALYZE,
+and asks the query some times in turn, and of one that does the same without asking; divided by how often it is asked.
+So it holds the query's compiling and printing, and none of the loading. Behind `+-` stands how uncertain it is: the
+median deviations of both scripts from their medians, together, divided as well. Where a wanted time is met or missed
+only within that, it is said to be unclear: take more runs, or a quieter machine. With `--clock cpu` times are the
+processor's instead of the wall clock's: on a machine that is at other work these say more, and on a quiet one the same,
+since either side is one thread and the files are read from memory.
 
-  three       CUSTOMER, ORDERS and LINEITEM, 76,500 rows a scale: the ten orders of a customer that have the wanted line
+  three       CUSTOMER, ORDERS and LINEITEM, 76,500 rows a scale: the ten orders of a customer with the wanted line
   frequent    two tables: ten of 10,000 items, of which one has a tenth of all sales
   days        three, uniform: three days of 1,000, and buyers of a city; few rows
   uniform     three, uniform: a seventh of the days, a sixth of the buyers, a tenth of the sales; no condition on a key
@@ -23,14 +24,25 @@ one thread and the files are read from memory.
   correlated  four: the most frequent store, the city of nine in ten of its buyers, and ten rare items
   all         five: the quarter of the stores, a month, the ten items of `frequent`, and the city of `correlated`
 
-All but the first are joins of SALE, which has `--rows` rows, with STORE, DAY, ITEM and BUYER, which have 100 rows, and a
-thousandth, a hundredth and a tenth of `--rows`, but never less than 100. Store and item number n are drawn as often as
-1/n, days uniformly, and buyers uniformly from the store's city for nine sales of ten, else from all. `--only` takes the
-queries with this word in their name.
+All but the first are joins of SALE, which has `--rows` rows, with STORE, DAY, ITEM and BUYER, which have 100 rows, and
+a thousandth, a hundredth and a tenth of `--rows`, but never less than 100. Store and item number n are drawn as often
+as 1/n, days uniformly, and buyers uniformly from the store's city for nine sales of ten, else from all. `--only` takes
+the queries with this word in their name.
+
+Our side also compiles each query once, and then runs it some times in turn by RUN, or as often by LEARN. The time of
+one is a difference of medians too: of such a script, and of one that ends with the COMPILE. Printed are for each query
+
+  the times of a RUN and of a LEARN, and how many times as long LEARN takes
+  the work of both, and LEARN's divided by RUN's
+  the executions of both, and how many skips LEARN tells
+
+and at the end, of both quotients, the greatest, the 95th of a hundred and the middle one; the executions of all queries
+by RUN and by LEARN; and all skips. A quotient of times is left out where it can't be said.
 
 Wanted: the rows are the same; `three` is answered 2 times as fast as by sqlite3 without ANALYZE, the other six together
-3 times as fast; and none of the six takes more than 10 times as long and more than 50 ms. The status is 1 where rows
-differ.
+3 times as fast; none of the six takes more than 10 times as long and more than 50 ms; and a LEARN takes at most a
+twentieth longer than a RUN. The status is 1 where rows differ, those of RUN and LEARN among them, or where RUN has
+another report than SELECT.
 """
 import bisect
 import collections
@@ -41,16 +53,20 @@ import statistics
 import sys
 
 from beside_sqlite import DATA, PROCESSOR, SEED, SQLITE, WALL, arguments, by_turns, first_difference, write_csv
+from bound import quotients
 
 TIMES_THREE = 2
 TIMES_STAR = 3
+TIMES_LEARN = 1.05
 MOST_TIMES_SLOWER = 10
 MOST_SECONDS_ANYWAY = 0.05
 ROWS_A_SCALE = 76_500
 STORES = 100
 SIDES = OURS, PLAIN, ANALYSED = "bouquet", "sqlite3", "sqlite3 after ANALYZE"
+COMPILE, RUN, LEARN = "COMPILE", "RUN", "LEARN"
 
-Query = collections.namedtuple("Query", "name, columns, tables, where, times")
+# `times` is how often a query is asked in turn, and `compiled_times` how often it is run in turn once it is compiled.
+Query = collections.namedtuple("Query", "name, columns, tables, where, times, compiled_times")
 
 
 class Table:
@@ -113,6 +129,7 @@ THREE_QUERIES = [
         "C_CUSTKEY = O_CUSTKEY AND O_ORDERKEY = L_ORDERKEY AND C_CUSTKEY BETWEEN 14 AND 16 "
         "AND L_QTY = 50 AND L_LINE = 1",
         100,
+        1000,
     ),
 ]
 
@@ -210,7 +227,7 @@ class Star:
                 (store, day, item, buyer, "ST_SIZE = 2", "D_MONTH = 3", frequent, "B_CITY = 1"),
             ),
         ]
-        return [Query(name, columns, tables, " AND ".join(where), 5) for name, columns, tables, where in asked]
+        return [Query(name, columns, tables, " AND ".join(where), 5, 20) for name, columns, tables, where in asked]
 
 
 def zipf(draw, most):
@@ -219,8 +236,13 @@ def zipf(draw, most):
     return lambda: 1 + min(bisect.bisect(sums, draw.random() * sums[-1]), most - 1)
 
 
+def select(query):
+    return f"SELECT {query.columns} FROM {query.tables} WHERE {query.where}"
+
+
 class Scripts:
-    """What one side is given over some tables: loading alone, with the indexes, and with a query."""
+    """What one side is given over some tables: loading alone, with the indexes, and with a query. Only ours compiles
+    one."""
 
     def __init__(self, side, program, tables, size):
         self.words = [program] if side == OURS else SQLITE
@@ -234,7 +256,12 @@ class Scripts:
 
     def asked(self, query):
         order = f" ORDER BY {query.columns}" if self.ordered else ""
-        return self.indexed + f"SELECT {query.columns} FROM {query.tables} WHERE {query.where}{order};\n" * query.times
+        return self.indexed + f"{select(query)}{order};\n" * query.times
+
+    def compiled(self, query, statement):
+        """A query compiled, and then run some times if the statement is RUN or LEARN."""
+        runs = "" if statement == COMPILE else f"{statement} Q;\n" * query.compiled_times
+        return self.indexed + f"COMPILE Q AS {select(query)};\n" + runs
 
 
 def report_line(path):
@@ -284,12 +311,19 @@ def compared(seconds):
 
 
 def verdict(ours, theirs, most):
-    """Whether our time is within `most` of theirs, whatever both are within their doubts. A time below 0 says nothing."""
+    """Whether our time is within `most` of theirs, whatever both are within their doubts. One below 0 says nothing."""
     if min(it.middle + it.doubt for it in (ours, theirs)) <= 0:
         return "unclear"
     if ours.middle + ours.doubt <= most(theirs.middle - theirs.doubt):
         return "met"
     return "unclear" if ours.middle - ours.doubt <= most(theirs.middle + theirs.doubt) else "not met"
+
+
+def stop_at_difference(query, *outputs):
+    """Ends where two outputs of a query have other rows."""
+    difference = first_difference(outputs, query.columns.replace(" ", ""), None)
+    if difference:
+        sys.exit(f"{query.name}: {difference}")
 
 
 def memory(runs):
@@ -308,11 +342,8 @@ class Answered:
         self.outputs = {side: asked[side][-1][2] for side in SIDES}
 
     def stop_where_rows_differ(self):
-        header = self.query.columns.replace(" ", "")
         for side in (PLAIN, ANALYSED):
-            difference = first_difference((self.outputs[OURS], self.outputs[side]), header, None)
-            if difference:
-                sys.exit(f"{self.query.name}: {difference}")
+            stop_at_difference(self.query, self.outputs[OURS], self.outputs[side])
 
     def line(self, wanted, most):
         return (
@@ -322,35 +353,89 @@ class Answered:
         )
 
 
+class Executed:
+    """What a statement takes that runs a compiled query: the seconds, what its report says, and how many skips it
+    tells."""
+
+    def __init__(self, query, compiled, runs):
+        self.seconds = Seconds.of(runs).without(Seconds.of(compiled), query.compiled_times)
+        self.output = runs[-1][2]
+        self.report = report_line(self.output)
+        said = dict(word.split("=", 1) for word in self.report.split())
+        self.work, self.executions = int(said["work"]), int(said["runs"])
+        with open(self.output, "rb") as file:
+            self.skips = sum(line.startswith(b"-- skip ") for line in file) // query.compiled_times
+
+
+class Learned:
+    """A compiled query's RUN beside its LEARN, whose rows are the same. RUN has the report of SELECT."""
+
+    def __init__(self, query, runs, selected):
+        compiled, run, learn = (runs[f"{query.name}, {statement}"] for statement in (COMPILE, RUN, LEARN))
+        self.query = query
+        self.run, self.learn = Executed(query, compiled, run), Executed(query, compiled, learn)
+        stop_at_difference(query, self.run.output, self.learn.output)
+        if self.run.report != report_line(selected):
+            sys.exit(f"{query.name}: RUN has another report than SELECT: {self.run.report}")
+
+    def works(self):
+        """LEARN's work divided by RUN's."""
+        return self.learn.work / self.run.work
+
+    def line(self):
+        run, learn = self.run, self.learn
+        met = verdict(learn.seconds, run.seconds, lambda it: TIMES_LEARN * it)
+        return (
+            f"{self.query.name}, compiled: RUN {run.seconds}, LEARN {learn.seconds}: "
+            f"{learn.seconds.times_of(run.seconds)} times as long, wanted at most {TIMES_LEARN}: {met}; "
+            f"work {run.work}, {learn.work}: {self.works():.2f}; "
+            f"executions {run.executions}, {learn.executions}; skips {learn.skips}"
+        )
+
+
+def sum_of_learned(learned):
+    """How LEARN compares with RUN over all queries."""
+    seconds = [(it.learn.seconds.middle, it.run.seconds.middle) for it in learned]
+    times = [learn / run for learn, run in seconds if min(learn, run) > 0]
+    return (
+        f"LEARN beside RUN, {len(learned)} queries, worst / 95th of a hundred / middle: "
+        f"works {quotients([it.works() for it in learned])}, times {quotients(times)}; "
+        f"executions {sum(it.run.executions for it in learned)}, {sum(it.learn.executions for it in learned)}; "
+        f"skips {sum(it.learn.skips for it in learned)}"
+    )
+
+
 def measured(name, tables, size, queries, given):
-    """Runs all scripts by turns, prints how long loading takes, and returns how the queries were answered."""
+    """Runs all scripts by turns, and prints how long loading takes. Returns how the queries were answered, and how RUN
+    and LEARN compare."""
     scripts = {side: Scripts(side, given.program, tables, size) for side in SIDES}
     steps = {"loaded": lambda it: it.loaded, "indexed": lambda it: it.indexed}
     for query in queries:
         steps[query.name] = lambda it, query=query: it.asked(query)
-    runs = by_turns(
-        {
-            f"{step}, {side}": (scripts[side].words, text(scripts[side]))
-            for step, text in steps.items()
-            for side in SIDES
-        },
-        given.runs,
-        given.clock,
-    )
+    sides = {
+        f"{step}, {side}": (scripts[side].words, text(scripts[side])) for step, text in steps.items() for side in SIDES
+    }
+    for query in queries:
+        for statement in (COMPILE, RUN, LEARN):
+            sides[f"{query.name}, {statement}"] = scripts[OURS].words, scripts[OURS].compiled(query, statement)
+    runs = by_turns(sides, given.runs, given.clock)
     loaded, indexed, *asked = ({side: runs[f"{step}, {side}"] for side in SIDES} for step in steps)
     for what, at in (("loaded", loaded), ("loaded, with indexes", indexed)):
         seconds = {side: Seconds.of(at[side]) for side in SIDES}
-        print(f"{name}, {what}: {compared(seconds)}; peak {memory(at[OURS]):.0f} MB, sqlite3 {memory(at[PLAIN]):.0f} MB")
+        peaks = f"peak {memory(at[OURS]):.0f} MB, sqlite3 {memory(at[PLAIN]):.0f} MB"
+        print(f"{name}, {what}: {compared(seconds)}; {peaks}")
     answered = [Answered(query, indexed, it) for query, it in zip(queries, asked)]
     for it in answered:
         it.stop_where_rows_differ()
-    return answered
+    return answered, [Learned(it.query, runs, it.outputs[OURS]) for it in answered]
 
 
 def join_three(given, queries):
     name = f"three tables of {ROWS_A_SCALE * given.scale:,} rows"
-    for it in measured(name, three_tables(given.scale), given.scale, queries, given):
+    answered, learned = measured(name, three_tables(given.scale), given.scale, queries, given)
+    for it in answered:
         print(it.line(f"{TIMES_THREE} times", lambda theirs: theirs / TIMES_THREE))
+    return learned
 
 
 def most_of_star(theirs):
@@ -358,12 +443,13 @@ def most_of_star(theirs):
 
 
 def join_star(given, star, queries):
-    answered = measured(f"star of {given.rows:,} rows", star.tables(), given.rows, queries, given)
+    answered, learned = measured(f"star of {given.rows:,} rows", star.tables(), given.rows, queries, given)
     for it in answered:
         print(it.line(f"at most {most_of_star(it.seconds[PLAIN].middle) * 1e3:.0f} ms", most_of_star))
     seconds = {side: total(it.seconds[side] for it in answered) for side in SIDES}
     met = verdict(seconds[OURS], seconds[PLAIN], lambda theirs: theirs / TIMES_STAR)
     print(f"star, sum of {len(answered)} queries: {compared(seconds)}; wanted {TIMES_STAR} times: {met}")
+    return learned
 
 
 def main():
@@ -372,10 +458,13 @@ def main():
         sys.exit(f"no clock {given.clock}")
     star = Star(given.rows)
     three, of_star = ([it for it in queries if given.only in it.name] for queries in (THREE_QUERIES, star.queries()))
-    if three:
-        join_three(given, three)
+    learned = join_three(given, three) if three else []
     if of_star:
-        join_star(given, star, of_star)
+        learned += join_star(given, star, of_star)
+    for it in learned:
+        print(it.line())
+    if learned:
+        print(sum_of_learned(learned))
 
 
 if __name__ == "__main__":
