@@ -14,8 +14,9 @@ right from a few thousand bytes on.
 A run may take 8 GB of address space, 6 GB of memory and 600 seconds. It is a finding where an answer, a status or what
 is left in the folder differs; where it is out of memory; where standard error has anything but the one line that is due
 from status 2 on; where a run of more than 0.1 s takes more than 2.6 times as long as half of it; and where the memory
-is more than 64 MB and 8 times the input. The status is 1 where there is one. A full disk is a small tmpfs, which needs
-root to mount it; without, that trial is left out.
+is more than 64 MB and 8 times the input. The status is 1 where there is one. Some trials need root and are left out
+without it: that of a full disk, which is a small tmpfs, and that of runs with the same number of process, each of which
+has a namespace of processes to itself.
 """
 import argparse
 import contextlib
@@ -45,6 +46,8 @@ TEXTS = 16_777_216
 OPERANDS = 200_000
 NAME_BYTES = 128
 DEPTH = 32
+COLUMNS, CHARACTERS = 256, 65_535
+KILLED, KILLED_AT = 26, 10_000
 CONTOURS, PLANS = 128, 4096
 MAX_WORK = 1_000_000
 WORD = 2**64 - 1
@@ -57,6 +60,8 @@ DONE, REFUSED, BAD_WORDS, READ_FAULT, WRITE_FAULT, NO_MEMORY = range(6)
 ADDRESS_SPACE, MOST_MEMORY, MOST_SECONDS = 8 * 2**30, 6 * 2**30, 600
 PIECE = 1 << 20
 NOBODY = 65534
+# runs a program that isn't the first process of a new namespace, since the first one can't be killed so
+NAMESPACE = ("unshare", "--pid", "--fork", "sh", "-c", '"$0" "$@"; exit $?')
 LINEAR, FROM_SECONDS = 2.6, 0.1
 FAR_ABOVE, FROM_MEMORY = 8, 64_000_000
 
@@ -101,6 +106,8 @@ RULES = {
     "absent": "A file that isn't there is `E09`. A LOAD or an OPEN of the empty name is `E09` too.",
     "write": "standard output, or a file at a SAVE, failed",
     "beside": "that a write which fails leaves the old file",
+    "killed": "A run that is killed leaves the old file whole and at most one such file",
+    "printed": "A printed row costs 1 unit, however long it is.",
     "replaced": "SAVE replaces only a file that is empty or begins with `{\"bouquet\":`.",
     "done": "every statement was carried out",
     "script": "16777217, for a script of more than 16777216 bytes",
@@ -111,7 +118,8 @@ RULES = {
 
 @dataclasses.dataclass
 class Trial:
-    """One run: its name, its script, the answer that is due (both in parts), and the rule that says so."""
+    """One run: its name, its script, the answer that is due (both in parts), and the rule that says so. As many runs as
+    `killed` says are killed before it. The words of `under` run the program, if there are any."""
 
     name: str
     script: Any
@@ -127,6 +135,8 @@ class Trial:
     source: str = "file"
     limit: Callable = lambda: None
     user: Any = None
+    killed: int = 0
+    under: tuple = ()
 
 
 def parts_of(content):
@@ -525,15 +535,31 @@ def collisions(part):
 
 
 def conditions(part):
-    """A condition over many rows, of which no work is allowed: rows that it keeps are counted before a plan is run."""
-    operands, rows = 10_000 // part, 100_000 // part
-    files = {"t.csv": joined("A\n", (f"{-i}\n" for i in range(rows)))}
-    answer = f"-- load rows={rows}\nerror E16 work 0\n"
-    for name, condition in {"IN": joined("A IN (", separated(",", map(str, range(1, operands + 1))), ")"),
-                            "OR": joined(separated(" OR ", (f"A = {i + 1}" for i in range(operands))))}.items():
-        script = joined(table(), "SELECT * FROM T WHERE ", condition)
-        yield Trial(f"{name}, --max-work 0", script, answer, "work", REFUSED, files, ("--max-work", "0"), sized=True)
-        files = {"t.csv": joined("A\n", (f"{-i}\n" for i in range(rows)))}
+    """Conditions over many rows, of which no work is allowed: rows that they keep are counted before a plan is run. Of
+    half the size there are half of the rows, and half of the operands too if these are many."""
+    for operands, rows, size in ((10_000 // part, 100_000 // part, ""), (300, 2_000_000 // part, " of 300")):
+        answer = f"-- load rows={rows}\nerror E16 work 0\n"
+        for name, condition in {"IN": joined("A IN (", separated(",", map(str, range(1, operands + 1))), ")"),
+                                "OR": joined(separated(" OR ", (f"A = {i + 1}" for i in range(operands))))}.items():
+            files = {"t.csv": joined("A\n", (f"{-i}\n" for i in range(rows)))}
+            script = joined(table(), "SELECT * FROM T WHERE ", condition)
+            yield Trial(f"{name}{size}, --max-work 0", script, answer, "work", REFUSED, files, ("--max-work", "0"),
+                        sized=True)
+
+
+def wide_rows(part):
+    """A gigabyte for little work: the 64 pairs of eight rows, with the longest text in each of the most columns. The
+    rows come from one entry, which is loaded eight times."""
+    text = "a" * (CHARACTERS // part)
+    loaded = table(f"VARCHAR({CHARACTERS})") + "LOAD 't.csv' INTO T;\n" * 7
+    script = f"{loaded}SELECT {','.join(['X.A'] * COLUMNS)} FROM T X, T Y;\n"
+    # two scans, and a nested loop that keeps 8 rows, looks at 64 pairs and gives 64 rows
+    work = 2 * work_of(8, 8) + 8 + 64 + 64
+    rows = repeated(",".join([text] * COLUMNS) + "\n", 64)
+    answer = joined("-- load rows=1\n" * 8, ",".join("A" * COLUMNS) + "\n", rows,
+                    f"-- rows=64 work={work} runs=1 contour=1 plan=N(S0,S1)\n")
+    yield Trial("256 columns of the longest text, --max-work 300", script, answer, "printed",
+                files={"t.csv": f"A\n{text}\n"}, words=("--max-work", "300"), sized=True)
 
 
 TEXTS_OF_PLANS = 2 * 720
@@ -733,12 +759,15 @@ def outputs(part):
     yield Trial("no standard output", table(), None, "write", WRITE_FAULT, {"t.csv": "A\n"}, output="none")
 
 
+OLD_FILE = '{"bouquet":"the old file"}'
+LONG_QUERY = f"SELECT * FROM T WHERE A IN ({', '.join(map(str, range(7000)))})"
+COMPILED = "-- load rows=1\n-- compile points=1 contours=1 r=1\n"
+
+
 def disk(part):
     """A SAVE of some 40 KB into a disk that is full, or to a file that may not be so long."""
-    numbers = ", ".join(map(str, range(7000)))
-    script = f"{table()}COMPILE Q AS SELECT * FROM T WHERE A IN ({numbers});\nSAVE Q TO 'small/q.bq';\nRUN Q;\n"
-    printed = "-- load rows=1\n-- compile points=1 contours=1 r=1\n"
-    old = '{"bouquet":"the old file"}'
+    script = f"{table()}COMPILE Q AS {LONG_QUERY};\nSAVE Q TO 'small/q.bq';\nRUN Q;\n"
+    printed, old = COMPILED, OLD_FILE
 
     def small(folder):
         path = os.path.join(folder, "small")
@@ -775,6 +804,35 @@ def disk(part):
                 {"t.csv": rows}, limit=short)
 
 
+def killed_saves(part):
+    """A SAVE after many runs that were killed in the middle of theirs. Each of these left a file in the making."""
+    script = f"{table()}COMPILE Q AS {LONG_QUERY};\nSAVE Q TO 'q.bq';\n"
+    saved = (f'{{"bouquet":1,"contours":[{{"cost":"{work_of(1, 1)}","plans":["S0"]}}],"levels":25,'
+             f'"query":"{LONG_QUERY}","relations":[{{"indexes":0,"kept":1,"rows":1}}],"threshold":20}}')
+
+    def old_file(folder):
+        with open(os.path.join(folder, "q.bq"), "w") as file:
+            file.write(OLD_FILE)
+
+    def saved_beside_parts(folder):
+        found = contents_of(folder)
+        parts = [found.pop(name) for name in list(found) if name.endswith(".part")]
+        if found != {"q.bq": saved, "t.csv": "A\n1\n"}:
+            return f"the folder has {sorted(found)}, and the file {found.get('q.bq', '')[:40]!r}"
+        return None if parts == [saved[:KILLED_AT]] * KILLED else f"{len(parts)} files are in the making"
+
+    same = dict(files={"t.csv": "A\n1\n"}, killed=KILLED, left=saved_beside_parts)
+    yield Trial(f"after {KILLED} killed", script, COMPILED, "killed", make=old_file, **same)
+
+    def in_namespaces(folder):
+        if subprocess.run([*NAMESPACE, "true"], stderr=subprocess.DEVNULL).returncode:
+            raise PermissionError
+        old_file(folder)
+
+    yield Trial(f"after {KILLED} killed, each the same process", script, COMPILED, "killed", make=in_namespaces,
+                under=NAMESPACE, **same)
+
+
 EXTREMES = {
     "script": script_bytes,
     "empty": empty_script,
@@ -790,11 +848,13 @@ EXTREMES = {
     "combinations": combinations,
     "collisions": collisions,
     "conditions": conditions,
+    "wide": wide_rows,
     "plans": plans,
     "names": names,
     "folder": folder_faults,
     "outputs": outputs,
     "disk": disk,
+    "killed": killed_saves,
 }
 
 
@@ -876,6 +936,35 @@ def streams(trial, folder, script, output):
     return source, sink, other
 
 
+def contents_of(folder):
+    """The files of a folder, each with its text."""
+    found = {}
+    for name in os.listdir(folder):
+        with open(os.path.join(folder, name)) as file:
+            found[name] = file.read()
+    return found
+
+
+def kill_in_save(trial, program, folder, script):
+    """Runs a trial in a folder of files until the system kills it, as a SAVE writes more than a file may hold. Returns
+    what differs: all files have to stay as they were, with one more in the making."""
+    before = contents_of(folder)
+
+    def limit():
+        resource.setrlimit(resource.RLIMIT_FSIZE, (KILLED_AT, KILLED_AT))
+        resource.setrlimit(resource.RLIMIT_CORE, (0, 0))
+
+    with open(script, "rb") as source:
+        status = subprocess.run([*trial.under, program, *trial.words], cwd=folder, stdin=source, preexec_fn=limit,
+                                stdout=subprocess.DEVNULL, stderr=subprocess.DEVNULL).returncode
+    if status not in (-signal.SIGXFSZ, 128 + signal.SIGXFSZ):
+        return f"status {status} of a run that is to be killed"
+    after = contents_of(folder)
+    more = [name for name in after if name not in before]
+    same = all(after.get(name) == text for name, text in before.items())
+    return None if same and len(more) == 1 else f"a run that was killed left {more}"
+
+
 def run(trial, program):
     """Runs a trial. Returns what differs or None, its seconds, its peak memory and the bytes of its input."""
     folder = tempfile.mkdtemp(prefix="extremes-")
@@ -886,6 +975,7 @@ def run(trial, program):
         size = write_parts(script, trial.script)
         size += sum(write_parts(os.path.join(folder, name), content) for name, content in trial.files.items())
         trial.make(folder)
+        found = [kill_in_save(trial, program, folder, script) for _ in range(trial.killed)]
         if trial.user is None or os.geteuid() != 0:
             user = {}
         else:
@@ -903,15 +993,14 @@ def run(trial, program):
 
         source, sink, read = streams(trial, folder, script, output)
         with open(errors, "wb") as failed:
-            child = subprocess.Popen([program, *trial.words], cwd=folder, stdin=source, stdout=sink, stderr=failed,
-                                     preexec_fn=limit, **user)
+            child = subprocess.Popen([*trial.under, program, *trial.words], cwd=folder, stdin=source, stdout=sink,
+                                     stderr=failed, preexec_fn=limit, **user)
         os.close(source)
         os.close(sink)
         if read is not None:
             with open(read, "rb") as pipe:
                 pipe.read(100_000)
         status, usage = wait(child)
-        found = []
         if status == NO_MEMORY:
             found.append("out of memory")
         elif status == -signal.SIGKILL:
@@ -936,7 +1025,7 @@ def show(extreme, trial, program, halves, rules):
     try:
         differs, seconds, memory, size = run(trial, program)
     except PermissionError:
-        print(f"{extreme} | {trial.name} | left out: no disk may be mounted", flush=True)
+        print(f"{extreme} | {trial.name} | left out: it needs root", flush=True)
         return 0
     findings = [differs] if differs else []
     times = ""
