@@ -1,7 +1,7 @@
 //! `bouquet`: a script on standard input, the files of the working directory, answers on standard output.
-//! It gathers the arguments, makes the adapters and an empty book and calls `serve`, whose status is the one that it ends
-//! with. From status 2 on a line on standard error says what failed. It never looks at a byte of a script, a file or an
-//! answer.
+//! It gathers the arguments and a random number, makes the adapters and an empty book and calls `serve`, whose status is
+//! the one that it ends with. From status 2 on a line on standard error says what failed. It never looks at a byte of a
+//! script, a file or an answer.
 #![tactic(auto)]
 
 ghost use Rattle.std.specs.Prelude.{◌≡◌, ◌≤◌, ◌↔◌, IsSome};
@@ -12,12 +12,14 @@ use bouquet_run::Book;
 use outside_io::{DirFolder, StdSink, StdSource};
 use shell::{Status, serve};
 use std::alloc::Global;
+use std::hash::RandomState;
 use std::io::ErrorKind;
 use std::process::ExitCode;
 use std::{env, io, process};
 
-// The status where the arguments themselves can't be had, as where one isn't UTF-8.
-const NO_WORDS: u8 = 6;
+// The status where the system doesn't give what the program begins with: its arguments, as where one isn't UTF-8, or the
+// random number by which it hashes.
+const NO_START: u8 = 6;
 
 fn words_of(rt: &HostRuntime, alloc: Global) -> io::Result<Vec<String>> {
     let mut words = Vec::new(alloc);
@@ -57,20 +59,24 @@ fn tell(rt: &HostRuntime, failure: &str, number: u8) {
     let _ = eprintln!(rt; "bouquet: {failure} (docs/ERRORS.md#status-{number})");
 }
 
-// What the program ends with where its arguments can't be had.
-fn without_words(rt: &HostRuntime, error: &io::Error) -> ExitCode {
+// What the program ends with where it can't begin.
+fn not_begun(rt: &HostRuntime, failure: &str, error: &io::Error) -> ExitCode {
     if error.kind() == ErrorKind::OutOfMemory {
         tell(rt, "out of memory", Status::NoMemory.number());
         return exit_code(Status::NoMemory);
     }
-    tell(rt, "the arguments could not be read", NO_WORDS);
-    ExitCode::from(NO_WORDS)
+    tell(rt, failure, NO_START);
+    ExitCode::from(NO_START)
 }
 
 fn main(rt: HostRuntime) -> ExitCode {
     let words = match words_of(&rt, rt.alloc()) {
         Ok(words) => words,
-        Err(error) => return without_words(&rt, &error),
+        Err(error) => return not_begun(&rt, "the arguments could not be read", &error),
+    };
+    let key = match RandomState::new(&rt) {
+        Ok(key) => key,
+        Err(error) => return not_begun(&rt, "the system gave no random number", &error),
     };
     let mut source = StdSource::new(rt.reader());
     let mut folder = DirFolder::new(&rt, process::id(rt.process()));
@@ -78,6 +84,7 @@ fn main(rt: HostRuntime) -> ExitCode {
     let mut book = Book::new();
     let status = serve(
         rt.alloc(),
+        key,
         &words,
         &mut source,
         &mut folder,

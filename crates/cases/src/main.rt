@@ -13,6 +13,7 @@ use case::Case;
 use reader::{CaseFault, read_cases};
 use run::differences_of;
 use std::alloc::Global;
+use std::hash::RandomState;
 use std::process::ExitCode;
 use std::{fs, io};
 
@@ -28,7 +29,7 @@ struct Count {
 }
 
 fn count_case(rt: &HostRuntime, file: &str, case: &Case, count: &mut Count) -> io::Result<()> {
-    let differences = differences_of(rt.alloc(), case)?;
+    let differences = differences_of(rt.alloc(), RandomState::new(rt)?, case)?;
     if differences.is_empty() {
         count.agree = count.agree.saturating_add(1);
         return Ok(());

@@ -5,6 +5,7 @@ use bouquet_run::Book;
 use outside_io::{MemoryFolder, MemorySink, MemorySource};
 use shell::{Status, serve};
 use std::alloc::{AllocError, Global};
+use std::hash::RandomState;
 
 fn put_status(out: &mut String, found: Status, wanted: Status) -> Result<(), AllocError> {
     if found.number() == wanted.number() {
@@ -57,7 +58,11 @@ fn put_folder(out: &mut String, folder: &MemoryFolder, case: &Case) -> Result<()
 }
 
 /// What differs from what the case wants: nothing where all is as it wants.
-pub(crate) fn differences_of(alloc: Global, case: &Case) -> Result<String, AllocError> {
+pub(crate) fn differences_of(
+    alloc: Global,
+    key: RandomState,
+    case: &Case,
+) -> Result<String, AllocError> {
     let mut source = MemorySource::new(
         Vec::from_slice(alloc, &case.script)?,
         Vec::from_slice(alloc, &case.takes)?,
@@ -70,6 +75,7 @@ pub(crate) fn differences_of(alloc: Global, case: &Case) -> Result<String, Alloc
     let mut book = Book::new();
     let status = serve(
         alloc,
+        key,
         &case.words,
         &mut source,
         &mut folder,

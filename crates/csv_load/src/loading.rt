@@ -15,6 +15,7 @@ use csv::{ByteRecord, Reader};
 use db_catalog::{Batch, Database, DbFault};
 use sql_values::ColumnDef;
 use std::alloc::Global;
+use std::hash::RandomState;
 use std::io::Read;
 
 // Puts the row of entry n into a batch.
@@ -79,7 +80,12 @@ fn put_entries<R: Read>(
 }
 
 // The rows of a file.
-fn batch_of(alloc: Global, columns: &[ColumnDef], bytes: &[u8]) -> Result<Batch, LoadFault>
+fn batch_of(
+    alloc: Global,
+    key: RandomState,
+    columns: &[ColumnDef],
+    bytes: &[u8],
+) -> Result<Batch, LoadFault>
     requires some { 1 ≤ length columns.now }
     requires few { length columns.now < 2 ^ 31 }
     ensures rows { IfOk result
@@ -92,7 +98,7 @@ fn batch_of(alloc: Global, columns: &[ColumnDef], bytes: &[u8]) -> Result<Batch,
         return Err(LoadFault::Header { field: 1 });
     }
     check_header(&entry, columns)?;
-    let mut batch = Batch::new(alloc, columns)?;
+    let mut batch = Batch::new(alloc, key, columns)?;
     put_entries(&mut batch, columns, &mut reader, &mut entry)?;
     Ok(batch)
 }
@@ -109,7 +115,7 @@ pub fn load(alloc: Global, db: &mut Database, table: u32, bytes: &[u8]) -> Resul
     requires { table < length db.old.tables }
     ensures { Loads table bytes.now db.old db.new result }
 {
-    let batch = batch_of(alloc, db.columns(table), bytes)?;
+    let batch = batch_of(alloc, db.key(), db.columns(table), bytes)?;
     let rows = batch.rows();
     match db.append_batch(table, batch) {
         Ok(()) => Ok(rows),

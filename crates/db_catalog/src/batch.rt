@@ -12,6 +12,7 @@ ghost use Rattle.db_catalog.specs.Batch.{with_whole_row};
 use crate::columns::copy_of;
 use sql_values::{ColumnDef, NULL_WORD, Texts, Value};
 use std::alloc::{AllocError, Global};
+use std::hash::RandomState;
 use std::marker::Model;
 
 /// Rows for a table, put together value after value. A value takes no memory of its own, unless it is a text that the
@@ -57,8 +58,8 @@ fn push_within(row: &mut Vec<i64>, word: i64)
 }
 
 impl Batch {
-    /// No rows yet, for a table of these columns.
-    pub fn new(alloc: Global, columns: &[ColumnDef]) -> Result<Batch, AllocError>
+    /// No rows yet, for a table of these columns. Their texts are hashed by `key`.
+    pub fn new(alloc: Global, key: RandomState, columns: &[ColumnDef]) -> Result<Batch, AllocError>
         requires { 1 ≤ length columns.now }
         ensures { IfOk result (λ batch. batch ≡ new_batch columns.now) }
     {
@@ -66,7 +67,7 @@ impl Batch {
         let columns = copy_of(alloc, columns)?;
         Ok(Batch {
             columns,
-            texts: Texts::new(alloc),
+            texts: Texts::new(alloc, key),
             words: Vec::new(alloc),
             rows: 0,
             row,
@@ -120,6 +121,7 @@ impl Batch {
     // The rows of a table whose values follow one another.
     pub(crate) fn filled(
         alloc: Global,
+        key: RandomState,
         columns: &[ColumnDef],
         values: &[Value],
     ) -> Result<Batch, AllocError>
@@ -128,7 +130,7 @@ impl Batch {
         ensures { IfOk result (λ batch. batch
             ≡ record (new_batch columns.now) { rows = rows_in columns.now values.now }) }
     {
-        let mut batch = Batch::new(alloc, columns)?;
+        let mut batch = Batch::new(alloc, key, columns)?;
         let width = columns.len();
         for i in 0..values.len() / width {
             batch.put_row(&values[i * width..i * width + width])?;

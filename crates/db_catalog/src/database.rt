@@ -29,12 +29,14 @@ use sql_values::{
     Texts, Value,
 };
 use std::alloc::{AllocError, Global};
+use std::hash::RandomState;
 use std::marker::Model;
 
 /// Tables and their rows. A table has a number, from 0, by the order in which tables were made.
 #[derive(Drop)]
 pub struct Database {
     alloc: Global,
+    key: RandomState,
     names: Texts,
     pub(crate) tables: Vec<Table>,
     texts: Texts,
@@ -160,17 +162,23 @@ fn check_texts(texts: &Texts) -> Result<(), DbFault>
 }
 
 impl Database {
-    /// A database without tables.
-    pub fn new(alloc: Global) -> Database
+    /// A database without tables. Its texts and names are hashed by `key`.
+    pub fn new(alloc: Global, key: RandomState) -> Database
         ensures { result ≡ new_database }
     {
         Database {
             alloc,
-            names: Texts::new(alloc),
+            key,
+            names: Texts::new(alloc, key),
             tables: Vec::new(alloc),
-            texts: Texts::new(alloc),
-            index_names: Texts::new(alloc),
+            texts: Texts::new(alloc, key),
+            index_names: Texts::new(alloc, key),
         }
+    }
+
+    /// By what texts and names are hashed.
+    pub fn key(&self) -> RandomState {
+        self.key
     }
 
     /// Makes a table without rows, and returns its number. The checks, in order: how many tables there are, the name, how
@@ -252,7 +260,7 @@ impl Database {
         ensures refuses { let more = rows_in (table_at self.old table).columns rows.now in
             Refuses (append_fault self.old table more) result }
     {
-        let batch = Batch::filled(self.alloc, self.columns(table), rows)?;
+        let batch = Batch::filled(self.alloc, self.key, self.columns(table), rows)?;
         self.append_batch(table, batch)
     }
 

@@ -19,6 +19,7 @@ mod wrong;
 
 use db_catalog::Database;
 use std::alloc::Global;
+use std::hash::RandomState;
 use std::process::ExitCode;
 use std::{fs, io};
 use wrong::Wrong;
@@ -95,7 +96,7 @@ fn answered(
 // Carries a script out: in a line that begins with > over a new database, with + over the one that is there.
 fn is_script(alloc: Global, db: &mut Database, line: &str) -> Result<bool, Wrong> {
     if let Some(script) = line.strip_prefix("> ") {
-        *db = Database::new(alloc);
+        *db = Database::new(alloc, db.key());
         fixture::extend(alloc, db, script)?;
         return Ok(true);
     }
@@ -152,7 +153,7 @@ fn count_file(
     count: &mut Count,
 ) -> io::Result<()> {
     let text = fs::read_to_string(rt, file)?;
-    let mut db = Database::new(rt.alloc());
+    let mut db = Database::new(rt.alloc(), RandomState::new(rt)?);
     for line in text.as_str().lines() {
         count_line(rt, question, &mut db, line, count)?;
     }

@@ -6,6 +6,7 @@ ghost use Rattle.session.specs.World.{named_in};
 use bouquet_type::Bouquet;
 use indexmap::IndexMap;
 use std::alloc::{AllocError, Global};
+use std::hash::RandomState;
 use std::marker::Model;
 
 /// A bouquet, with the canonical text of its query.
@@ -18,7 +19,7 @@ pub(crate) struct KeptBouquet {
 /// Bouquets under different names.
 #[derive(Drop)]
 pub(crate) struct NamedBouquets {
-    kept: IndexMap<Vec<u8>, KeptBouquet>,
+    kept: IndexMap<Vec<u8>, KeptBouquet, RandomState>,
 }
 
 impl Model for NamedBouquets {
@@ -36,12 +37,12 @@ impl Model for NamedBouquets {
 }
 
 impl NamedBouquets {
-    /// No bouquets. It takes no memory.
-    pub(crate) fn new(alloc: Global) -> NamedBouquets
+    /// No bouquets. Their names are hashed by `key`. It takes no memory.
+    pub(crate) fn new(alloc: Global, key: RandomState) -> NamedBouquets
         ensures { result ≡ [] }
     {
         NamedBouquets {
-            kept: IndexMap::new(alloc),
+            kept: IndexMap::with_hasher(alloc, key),
         }
     }
 

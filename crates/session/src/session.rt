@@ -18,6 +18,7 @@ use bouquet_run::Book;
 use db_catalog::Database;
 use sql_parse::Statement;
 use std::alloc::Global;
+use std::hash::RandomState;
 use std::marker::Model;
 
 /// What the statements of a script so far have made.
@@ -53,13 +54,13 @@ fn prints(returned: Result<Vec<u8>, Stop>) -> Result<Begun, Stop>
 }
 
 impl Session {
-    /// Before the first statement.
-    pub fn new(alloc: Global) -> Session
+    /// Before the first statement. Texts and names are hashed by `key`.
+    pub fn new(alloc: Global, key: RandomState) -> Session
         ensures { world_of result ≡ nothing_made }
     {
         Session {
-            database: Database::new(alloc),
-            bouquets: NamedBouquets::new(alloc),
+            database: Database::new(alloc, key),
+            bouquets: NamedBouquets::new(alloc, key),
         }
     }
 

@@ -9,10 +9,12 @@ use crate::run::carry_out_script;
 use bouquet_run::Book;
 use outside_io::Sink;
 use std::alloc::Global;
+use std::hash::RandomState;
 
 /// Carries out the script of the demonstration over its folder of this number, from 1 to 2000.
 pub(crate) fn run_demonstration<K: Sink>(
     alloc: Global,
+    key: RandomState,
     max_work: u64,
     number: u32,
     sink: &mut K,
@@ -37,6 +39,7 @@ pub(crate) fn run_demonstration<K: Sink>(
     };
     carry_out_script(
         alloc,
+        key,
         max_work,
         demo_data::script(),
         &mut folder,

@@ -22,6 +22,7 @@ use session::{Begun, GivenFile, Session, Stop, file_name};
 use sql_parse::Statement;
 use sql_values::Text;
 use std::alloc::Global;
+use std::hash::RandomState;
 
 // The file of this name; or how the run ends.
 fn read_file<F: Folder>(alloc: Global, name: &Text, folder: &mut F) -> Result<GivenFile, Status>
@@ -103,6 +104,7 @@ fn carry_out_one<F: Folder, K: Sink>(
 /// Carries the statements out, one after another, up to and with the first that is refused.
 pub(crate) fn carry_out_all<F: Folder, K: Sink>(
     alloc: Global,
+    key: RandomState,
     max_work: u64,
     statements: &[Statement],
     folder: &mut F,
@@ -119,7 +121,7 @@ pub(crate) fn carry_out_all<F: Folder, K: Sink>(
         (K.got sink.old) (K.got sink.new) book.new }
     ensures sink { K.faults sink.old ≤ K.faults sink.new }
 {
-    let mut session = Session::new(alloc);
+    let mut session = Session::new(alloc, key);
     for statement in statements {
         match carry_out_one(alloc, max_work, &mut session, statement, folder, sink, book) {
             Ok(()) => {}

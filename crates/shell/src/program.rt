@@ -17,6 +17,7 @@ use crate::words::{WordsFault, read_words};
 use bouquet_run::Book;
 use outside_io::{Folder, Sink, Source};
 use std::alloc::Global;
+use std::hash::RandomState;
 
 // What is printed where the arguments of the command line aren't well-formed.
 static USAGE: &str = "usage: bouquet [--max-work N] [--demo N]\n";
@@ -36,9 +37,11 @@ fn refuse_words<K: Sink>(sink: &mut K) -> Status
 /// `--max-work=N`, the most units of work of a query and of an audit, 0 to 2^62, and at most one `--demo N` or `--demo=N`,
 /// 1 to 2000. It reads the script from the source, carries its statements out over the folder and puts what they print into
 /// the sink. Under `--demo` it does so with the script and the folder of the demonstration, and leaves source and folder
-/// alone. What queries paid is entered in the book, in which nothing stands before.
+/// alone. What queries paid is entered in the book, in which nothing stands before. Texts and names are hashed by `key`, a
+/// random number: no promise names it, so nothing that is printed, written or paid depends on it.
 pub fn serve<S: Source, F: Folder, K: Sink>(
     alloc: Global,
+    key: RandomState,
     words: &[String],
     source: &mut S,
     folder: &mut F,
@@ -104,8 +107,8 @@ pub fn serve<S: Source, F: Folder, K: Sink>(
         Err(WordsFault::NoMemory) => return Status::NoMemory,
     };
     match options.demo {
-        Some(number) => run_demonstration(alloc, options.max_work, number, sink, book),
-        None => run_source(alloc, options.max_work, source, folder, sink, book),
+        Some(number) => run_demonstration(alloc, key, options.max_work, number, sink, book),
+        None => run_source(alloc, key, options.max_work, source, folder, sink, book),
     }
 }
 

@@ -13,10 +13,12 @@ use crate::source::{SourceFault, read_source};
 use bouquet_run::Book;
 use outside_io::{Folder, Sink, Source};
 use std::alloc::Global;
+use std::hash::RandomState;
 
 /// Carries out a script.
 pub(crate) fn carry_out_script<F: Folder, K: Sink>(
     alloc: Global,
+    key: RandomState,
     max_work: u64,
     script: &[u8],
     folder: &mut F,
@@ -32,7 +34,7 @@ pub(crate) fn carry_out_script<F: Folder, K: Sink>(
     ensures sink { K.faults sink.old ≤ K.faults sink.new }
 {
     match read_script(alloc, script) {
-        Ok(statements) => carry_out_all(alloc, max_work, &statements, folder, sink, book),
+        Ok(statements) => carry_out_all(alloc, key, max_work, &statements, folder, sink, book),
         Err(ScriptFault::Refused(refusal)) => put_refusal(alloc, sink, &refusal),
         Err(ScriptFault::NoMemory) => Status::NoMemory,
     }
@@ -41,6 +43,7 @@ pub(crate) fn carry_out_script<F: Folder, K: Sink>(
 /// Reads the script from the source and carries it out.
 pub(crate) fn run_source<S: Source, F: Folder, K: Sink>(
     alloc: Global,
+    key: RandomState,
     max_work: u64,
     source: &mut S,
     folder: &mut F,
@@ -64,5 +67,5 @@ pub(crate) fn run_source<S: Source, F: Folder, K: Sink>(
         Err(SourceFault::Failed) => return Status::ReadFault,
         Err(SourceFault::NoMemory) => return Status::NoMemory,
     };
-    carry_out_script(alloc, max_work, &script, folder, sink, book)
+    carry_out_script(alloc, key, max_work, &script, folder, sink, book)
 }

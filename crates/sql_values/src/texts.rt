@@ -10,12 +10,13 @@ ghost use Rattle.sql_values.specs.Dictionary.{Begins};
 
 use indexmap::IndexSet;
 use std::alloc::{AllocError, Global};
+use std::hash::RandomState;
 use std::marker::Model;
 
 /// Different texts, each with a code: its place, from 0.
 #[derive(Drop)]
 pub struct Texts {
-    texts: IndexSet<Vec<u8>>,
+    texts: IndexSet<Vec<u8>, RandomState>,
     bytes: u64,
 }
 
@@ -34,7 +35,7 @@ impl Model for Texts {
 }
 
 // The code of a place in a set, of which there are fewer than 2^63.
-fn code_at(texts: &IndexSet<Vec<u8>>, place: usize) -> i64
+fn code_at(texts: &IndexSet<Vec<u8>, RandomState>, place: usize) -> i64
     requires { place < index_set_len texts.now }
     ensures { result ≡ pos place }
 {
@@ -52,12 +53,12 @@ fn bytes_of(texts: &[Vec<u8>]) -> u64
 
 #[tactic(auto, using(crate::proofs::Dictionary::of_texts))]
 impl Texts {
-    /// No texts.
-    pub fn new(alloc: Global) -> Texts
+    /// No texts. They are hashed by `key`, on which nothing that is seen of them depends.
+    pub fn new(alloc: Global, key: RandomState) -> Texts
         ensures { result ≡ [] }
     {
         Texts {
-            texts: IndexSet::new(alloc),
+            texts: IndexSet::with_hasher(alloc, key),
             bytes: 0,
         }
     }

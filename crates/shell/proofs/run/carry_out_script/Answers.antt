@@ -21,9 +21,10 @@ returns-in-Err-Refused-clause-runs g c =
     let folder = g.F.Folder.state c.args.folder.now in
     let had = g.K.Sink.got c.args.sink.now in
     let got = g.K.Sink.got c.put_refusal.new.sink in
+    let why = c.in-Err-Refused.field-0-is in
     runs_script c.args.max_work ⊥ _ c.put_refusal.result had got c.args.book.now c.args.script.now folder folder (falls_none folder)
     (serves_refusal c.args.max_work _ c.args.script.now c.in-Err-Refused.refusal folder c.put_refusal.result had got c.args.book.now c.requires.unpaid
-    (rw c.in-Err-Refused.field-0-is at c.in-Err-Refused.ensures.refused) c.put_refusal.ensures.whole c.put_refusal.ensures.part c.put_refusal.ensures.nothing c.put_refusal.ensures.kinds c.put_refusal.ensures.sink.rose)
+    (rw why at c.in-Err-Refused.ensures.refused) (rw why at c.put_refusal.ensures.whole) (rw why at c.put_refusal.ensures.part) c.put_refusal.ensures.nothing c.put_refusal.ensures.kinds c.put_refusal.ensures.sink.rose)
 
 pub returns-in-Err-NoMemory-clause-runs : goal.returns-in-Err-NoMemory-clause-runs
 returns-in-Err-NoMemory-clause-runs g c =
