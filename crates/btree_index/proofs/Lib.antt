@@ -4,3 +4,4 @@ mod Ranges
 mod Nodes
 mod Pushed
 pub mod OfCursors
+pub mod Keys

@@ -2,3 +2,4 @@ pub mod Height
 pub mod Entries
 pub mod Nodes
 pub mod Cursors
+pub mod Packed

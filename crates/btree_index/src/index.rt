@@ -12,6 +12,7 @@ ghost use Rattle.btree_index.specs.Nodes.{AreSplitAt, is_entry_below, nodes_of};
 
 use crate::levels::{first_of, inner_levels};
 use crate::node::{LINE_ENTRIES, NODE_ENTRIES, first_in_node, first_near};
+use crate::ordering::put_in_order;
 use std::alloc::{AllocError, Global};
 use std::marker::Model;
 use work_ledger::{Exhausted, Ledger, charge};
@@ -102,8 +103,18 @@ impl Index {
         ensures same { IfOk result (λ index. IsPermutation entries.now index) }
         ensures order { IfOk result (λ index. IsInOrder index) }
     {
-        let mut sorted = Vec::from_slice(alloc, entries)?;
-        sorted.sort_unstable();
+        let copied = Vec::from_slice(alloc, entries)?;
+        Index::from_entries(alloc, copied)
+    }
+
+    /// The same of entries that are given away, which aren't copied.
+    pub fn from_entries(alloc: Global, entries: Vec<(i64, u64)>) -> Result<Index, AllocError>
+        ensures same { IfOk result (λ index. IsPermutation entries.items index) }
+        ensures order { IfOk result (λ index. IsInOrder index) }
+    {
+        let mut sorted = entries;
+        put_in_order(alloc, &mut sorted)?;
+        sorted.shrink_to_fit();
         Index::of_sorted(alloc, sorted)
     }
 

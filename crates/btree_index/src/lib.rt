@@ -7,5 +7,6 @@
 mod index;
 mod levels;
 mod node;
+mod ordering;
 
 pub use index::{Cursor, Index};

@@ -56,7 +56,7 @@ impl Table {
         ensures unchanged { OnErr result (self.new ≡ self.old) }
     {
         let entries = entries_in(alloc, &self.heap, column as usize)?;
-        let index = Index::build(alloc, &entries)?;
+        let index = Index::from_entries(alloc, entries)?;
         self.indexes.add(column, index)
     }
 
