@@ -16,7 +16,7 @@ use Rattle.plan_tree.proofs.Digits.{bits-le}
 use Rattle.plan_tree.proofs.LeafSets.{set-of-plan}
 use Rattle.exec_join.proofs.Sets.{leaf-apart}
 use Rattle.known_rows.specs.Entries.{entries_found}
-use Rattle.known_rows.specs.Known.{AreKnown, KnownState, known_entries, known_of, learned, learned_entries, nothing_known}
+use Rattle.known_rows.specs.Known.{AreKnown, KnownState, known_entries, known_rows_of, learned, learned_entries, nothing_known}
 use Rattle.known_rows.specs.LeastWork.{are_joined, kept_at_least, least_of_leaf, least_of_pairs, least_rows, least_work}
 use Rattle.known_rows.proofs.Outs.{candidates-loop, found-loop, out-candidates, out-leaf, out-matches, out-product}
 
@@ -51,7 +51,7 @@ once-set d (y ∷ xs) (suc place) x P each here (suc other) = once-set d xs plac
 pub learned-known : (tables : List StoredTable) (block : BlockTree) (known : KnownState) (set rows : ℕ) → AreKnown tables block known → rows ≤ length (rows_of tables block (set_of set))
     → AreKnown tables block (learned known set rows)
 learned-known tables block known set rows is few =
-    record { rows = once-set 0 known.rows set (max (known_of known set) rows) (λ one n. n ≤ length (rows_of tables block (set_of one))) is.rows (omega (arith, is.rows set, few)); entries = is.entries }
+    record { rows = once-set 0 known.rows set (max (known_rows_of known set) rows) (λ one n. n ≤ length (rows_of tables block (set_of one))) is.rows (omega (arith, is.rows set, few)); entries = is.entries }
 
 -- and what an edge finds at least
 pub found-known : (tables : List StoredTable) (block : BlockTree) (known : KnownState) (edge set entries : ℕ) → AreKnown tables block known → entries ≤ entries_found tables block edge (set_of set)
@@ -70,8 +70,8 @@ found-known tables block known edge set entries is few =
 
 module _ (tables : List StoredTable) (block : BlockTree) (known : KnownState) (is : IsBlock block) (are : AreKnown tables block known) where
   -- a plan gives no fewer rows than are known of its set
-  known-le : (p : PlanTree) → known_of known (covers_of p) ≤ out_of tables block p
-  known-le p = subst (λ set. known_of known (covers_of p) ≤ length (rows_of tables block set)) (set-of-plan p) (are.rows (covers_of p))
+  known-le : (p : PlanTree) → known_rows_of known (covers_of p) ≤ out_of tables block p
+  known-le p = subst (λ set. known_rows_of known (covers_of p) ≤ length (rows_of tables block set)) (set-of-plan p) (are.rows (covers_of p))
 
   every : (rows : List ValueRow) → length rows ≤ count_by (meets_filter []) rows
   every [] = omega arith
@@ -85,16 +85,16 @@ module _ (tables : List StoredTable) (block : BlockTree) (known : KnownState) (i
   leaf-le relation there =
       let own = relation_at block.relations relation in
       let out = out-leaf tables block is relation there in
-      let some : known_of known (2 ^ relation) ≤ count_by (meets_filter own.filter) (table_rows tables own) = omega (arith, out, known-le (Scan relation)) in
-      omega (arith, out, kept-le own.filter (table_rows tables own) (known_of known (2 ^ relation)) some)
+      let some : known_rows_of known (2 ^ relation) ≤ count_by (meets_filter own.filter) (table_rows tables own) = omega (arith, out, known-le (Scan relation)) in
+      omega (arith, out, kept-le own.filter (table_rows tables own) (known_rows_of known (2 ^ relation)) some)
 
   -- each row of one side goes with each of the other, where no edge joins them
   pairs-le : (left right : PlanTree) (l r : ℕ) → AreApart left right → l ≤ out_of tables block left → r ≤ out_of tables block right
-      → least_of_pairs block.edges left right (known_of known (covers_of (Nest left right))) l r ≤ out_of tables block (Nest left right)
+      → least_of_pairs block.edges left right (known_rows_of known (covers_of (Nest left right))) l r ≤ out_of tables block (Nest left right)
   pairs-le left right l r apart few few' = by (are_joined block.edges (has_leaf left) (has_leaf right)) refl
     where
       least : ℕ
-      least = known_of known (covers_of (Nest left right))
+      least = known_rows_of known (covers_of (Nest left right))
 
       by : (joined : Bool) → are_joined block.edges (has_leaf left) (has_leaf right) ≡ joined → cond joined least (max least (l * r)) ≤ out_of tables block (Nest left right)
       by true is = known-le (Nest left right)

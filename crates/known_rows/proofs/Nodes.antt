@@ -6,7 +6,7 @@ use Rattle.plan_tree.specs.Plans.{PlanTree, IndexScan, Nest, IndexLoop, covers_o
 use Rattle.plan_tree.specs.Enumerated.{column_on, edge_at}
 use Rattle.plan_tree.specs.Work.{height_in, nest_work, index_loop_work}
 use Rattle.known_rows.specs.Capped.{capped}
-use Rattle.known_rows.specs.Known.{KnownState, known_entries, known_of}
+use Rattle.known_rows.specs.Known.{KnownState, known_entries, known_rows_of}
 use Rattle.known_rows.specs.LeastWork.{least_index_scan, least_of_pairs, least_own, least_rows}
 use Rattle.known_rows.proofs.Capped.{index_loop-capped, index_scan-capped, nest-capped, pairs-capped}
 
@@ -14,12 +14,12 @@ module _ (tables : List StoredTable) (block : BlockTree) (known : KnownState) wh
   abbrev Rows : PlanTree → ℕ → Type 0
   Rows p n = n ≡ capped (least_rows tables block known p)
 
-  pub nest-rows : (p left right : PlanTree) (k l r : ℕ) → p ≡ Nest left right → k ≡ known_of known (covers_of p) → k < 2 ^ 64 → Rows left l → Rows right r
+  pub nest-rows : (p left right : PlanTree) (k l r : ℕ) → p ≡ Nest left right → k ≡ known_rows_of known (covers_of p) → k < 2 ^ 64 → Rows left l → Rows right r
       → capped (least_of_pairs block.edges left right k l r) ≡ capped (least_rows tables block known p)
   nest-rows p left right k l r is some small few few' =
       (λ i. capped (least_of_pairs block.edges left right k (few i) (few' i)))
       ∙ pairs-capped block.edges left right k (least_rows tables block known left) (least_rows tables block known right) small
-      ∙ (λ i. capped (least_of_pairs block.edges left right ((some ∙ ap (λ q. known_of known (covers_of q)) is) i) (least_rows tables block known left) (least_rows tables block known right)))
+      ∙ (λ i. capped (least_of_pairs block.edges left right ((some ∙ ap (λ q. known_rows_of known (covers_of q)) is) i) (least_rows tables block known left) (least_rows tables block known right)))
       ∙ ap (λ q. capped (least_rows tables block known q)) (sym is)
 
   -- ---- the node by itself

@@ -14,8 +14,8 @@ pub record KnownState : Type 0 where
   pub entries : List (List ℕ)
 
 -- how many rows a set is known to have, at the least
-abbrev pub known_of : (known : KnownState) → (set : ℕ) → ℕ
-known_of known set = slice_index_or known.rows set 0
+abbrev pub known_rows_of : (known : KnownState) → (set : ℕ) → ℕ
+known_rows_of known set = slice_index_or known.rows set 0
 
 -- how many entries an edge is known to find for the rows of a set, at the least
 abbrev pub known_entries : (known : KnownState) → (edge set : ℕ) → ℕ
@@ -23,12 +23,12 @@ known_entries known edge set = slice_index_or (slice_index_or known.entries edge
 
 -- what is known is so: no set has fewer rows, and for no set's rows an edge finds fewer entries
 pub record AreKnown (tables : List StoredTable) (block : BlockTree) (known : KnownState) : Type 0 where
-  pub rows : (set : ℕ) → known_of known set ≤ length (rows_of tables block (set_of set))
+  pub rows : (set : ℕ) → known_rows_of known set ≤ length (rows_of tables block (set_of set))
   pub entries : (edge set : ℕ) → known_entries known edge set ≤ entries_found tables block edge (set_of set)
 
 -- it is learned that a set has at least so many rows; of a set that has no place nothing is learned
 abbrev pub learned : (known : KnownState) → (set rows : ℕ) → KnownState
-learned known set rows = record known { rows = slice_set known.rows set (max (known_of known set) rows) }
+learned known set rows = record known { rows = slice_set known.rows set (max (known_rows_of known set) rows) }
 
 -- it is learned that an edge finds at least so many entries for the rows of a set; so too
 abbrev pub learned_entries : (known : KnownState) → (edge set entries : ℕ) → KnownState

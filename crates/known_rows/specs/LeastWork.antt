@@ -14,7 +14,7 @@ use Rattle.plan_tree.specs.Plans.{PlanTree, Scan, IndexScan, Nest, Hash, Merge, 
 use Rattle.plan_tree.specs.Enumerated.{column_on, edge_at}
 use Rattle.plan_tree.specs.Sets.{is_between}
 use Rattle.plan_tree.specs.Work.{height_in, table_rows, scan_work, nest_work, hash_work, merge_work, index_loop_work}
-use Rattle.known_rows.specs.Known.{KnownState, known_entries, known_of}
+use Rattle.known_rows.specs.Known.{KnownState, known_entries, known_rows_of}
 
 -- how many rows of a table a filter keeps, at the least: all, where it has no conjunct
 abbrev pub kept_at_least : (filter : List FilterTree) → (all known : ℕ) → ℕ
@@ -25,7 +25,7 @@ kept_at_least (conjunct ∷ conjuncts) all known = known
 abbrev pub least_of_leaf : List StoredTable → BlockTree → (known : KnownState) → (relation : ℕ) → ℕ
 least_of_leaf tables block known relation =
     let own = relation_at block.relations relation in
-    kept_at_least own.filter (length (table_rows tables own)) (known_of known (2 ^ relation))
+    kept_at_least own.filter (length (table_rows tables own)) (known_rows_of known (2 ^ relation))
 
 -- whether some edge has one of its relations in each of two sets
 abbrev pub are_joined : List Edge → (left right : RelationSet) → Bool
@@ -41,11 +41,11 @@ abbrev pub least_rows : List StoredTable → BlockTree → (known : KnownState) 
 least_rows tables block known (Scan relation) = least_of_leaf tables block known relation
 least_rows tables block known (IndexScan relation column) = least_of_leaf tables block known relation
 least_rows tables block known (Nest left right) =
-    least_of_pairs block.edges left right (known_of known (covers_of (Nest left right)))
+    least_of_pairs block.edges left right (known_rows_of known (covers_of (Nest left right)))
     (least_rows tables block known left) (least_rows tables block known right)
-least_rows tables block known (Hash edge left right) = known_of known (covers_of (Hash edge left right))
-least_rows tables block known (Merge edge left right) = known_of known (covers_of (Merge edge left right))
-least_rows tables block known (IndexLoop edge left relation) = known_of known (covers_of (IndexLoop edge left relation))
+least_rows tables block known (Hash edge left right) = known_rows_of known (covers_of (Hash edge left right))
+least_rows tables block known (Merge edge left right) = known_rows_of known (covers_of (Merge edge left right))
+least_rows tables block known (IndexLoop edge left relation) = known_rows_of known (covers_of (IndexLoop edge left relation))
 
 -- the least work of a scan by an index, which reads no fewer rows than it gives
 abbrev pub least_index_scan : (height out : ℕ) → ℕ

@@ -1,7 +1,7 @@
 // How many rows sets of relations are known to have, at the least, and how many entries edges find for these rows, by the
 // numbers of the sets and the edges.
 ghost use Rattle.std.specs.Prelude.{◌≡◌};
-ghost use Rattle.known_rows.specs.Known.{known_entries, known_of, learned, learned_entries, nothing_known};
+ghost use Rattle.known_rows.specs.Known.{known_entries, known_rows_of, learned, learned_entries, nothing_known};
 
 use plan_tree::Subset;
 use sql_values::MAX_AXES;
@@ -61,7 +61,7 @@ impl KnownRows {
 
     /// How many rows a set is known to have.
     pub(crate) fn rows(&self, set: Subset) -> u64
-        ensures { result ≡ known_of self.now set }
+        ensures { result ≡ known_rows_of self.now set }
     {
         let place = set.number() as usize;
         if place < self.rows.len() {

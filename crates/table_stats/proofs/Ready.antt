@@ -23,7 +23,7 @@ use Rattle.plan_tree.proofs.MetParts.{usable-some}
 use Rattle.table_stats.specs.declared.filter.ColumnRange.{ColumnRange}
 use Rattle.table_stats.specs.declared.filter.ReadyConjunct.{ReadyConjunct}
 use Rattle.table_stats.specs.declared.filter.ReadyFilter.{ReadyFilter}
-use Rattle.table_stats.specs.Ready.{IsKnown, IsOfConjunct, IsOwnRow, IsRangeOf, IsReadyConjunct, IsReadyFilter, own, own_tree}
+use Rattle.table_stats.specs.Ready.{IsKnown, IsOfConjunct, IsOwnRow, IsRangeOfConjunct, IsReadyConjunct, IsReadyFilter, own, own_tree}
 
 -- ---- NULL's word
 
@@ -54,7 +54,7 @@ own-word texts kinds words column row below =
 -- ---- a range of words
 
 -- so a value is in the range of a condition where the condition is true
-module _ (texts : List (List ℕ)) (kinds : List ColumnType) (tree : FilterTree) (found : ColumnRange) (is : IsRangeOf texts kinds tree found) (words : List ℤ) (row : IsOwnRow texts kinds words)
+module _ (texts : List (List ℕ)) (kinds : List ColumnType) (tree : FilterTree) (found : ColumnRange) (is : IsRangeOfConjunct texts kinds tree found) (words : List ℤ) (row : IsOwnRow texts kinds words)
     (fits : FitsSigned w64 (slice_index_or words found.column null_word)) where
   same-truth : (b : Bool) → is_null (value_at (values_of texts kinds words) found.column) ≡ b
       → (not b && is_in found.range (slice_index_or words found.column null_word)) ≡ is_true (truth_of tree (values_of texts kinds words))

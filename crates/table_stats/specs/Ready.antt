@@ -23,7 +23,7 @@ pub record IsOwnRow (texts : List (List ℕ)) (kinds : List ColumnType) (words :
   pub own : words ≡ map (word_of texts) (values_of texts kinds words)
 
 -- an index on the column could use the condition, and its words are those of the rows on which the condition is true
-pub record IsRangeOf (texts : List (List ℕ)) (kinds : List ColumnType) (tree : FilterTree) (found : ColumnRange) : Type 0 where
+pub record IsRangeOfConjunct (texts : List (List ℕ)) (kinds : List ColumnType) (tree : FilterTree) (found : ColumnRange) : Type 0 where
   pub there : found.column < length kinds
   pub usable : IsTrue (is_usable kinds found.column tree)
   pub picks : Picks texts kinds found.column found.range.from found.range.to (λ row. is_true (truth_of tree row))
@@ -31,7 +31,7 @@ pub record IsRangeOf (texts : List (List ℕ)) (kinds : List ColumnType) (tree :
 -- so it is of what is known of a condition, if anything is
 abbrev pub IsKnown : List (List ℕ) → List ColumnType → FilterTree → Option ColumnRange → Type 0
 IsKnown texts kinds tree None = Unit {0}
-IsKnown texts kinds tree (Some found) = IsRangeOf texts kinds tree found
+IsKnown texts kinds tree (Some found) = IsRangeOfConjunct texts kinds tree found
 
 -- the condition of a conjunct
 abbrev pub own_tree : ReadyConjunct → FilterTree
@@ -78,4 +78,4 @@ abbrev pub IsOfConjunct : ReadyFilter → Option ColumnRange → Type 0
 IsOfConjunct filter None = Unit {0}
 IsOfConjunct filter (Some found) =
     (tree : FilterTree) × Contains (fixed_of (own filter).filter) tree
-    × IsRangeOf filter.texts.now filter.relation.now.columns tree found
+    × IsRangeOfConjunct filter.texts.now filter.relation.now.columns tree found
