@@ -5,3 +5,4 @@ pub mod Relations
 pub mod Written
 pub mod Wanted
 pub mod Begun
+pub mod ColumnRanges

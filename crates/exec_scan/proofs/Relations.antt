@@ -1,5 +1,6 @@
 -- A relation of a block as it is kept and as it is seen, and the rows of its table: the first of those ahead, once it is read.
-use Rattle.std.proofs.Common.{◌≡◌, ℕ, ℤ, Bool, true, cond, IfOk, List, ◌∷◌, filter, Option, Some, None, MatchOption, Result, Ok, Err, sym, ap, subst, ◌∙◌}
+use Rattle.std.proofs.Common.{◌≡◌, ℕ, ℤ, Bool, true, cond, IfOk, List, ◌∷◌, filter, Option, Some, None, MatchOption, map, Result, Ok, Err, sym, ap, subst, ◌∙◌}
+use Rattle.sql_values.specs.Words.{word_of}
 use Rattle.sql_values.specs.Stored.{ValueRow, StandsFor, values_of}
 use Rattle.query_block.specs.Blocks.{RelationTree}
 use Rattle.db_catalog.specs.Database.{DatabaseState, table_at}
@@ -13,7 +14,10 @@ pub first-of : (database : DatabaseState) (own : RelationTree) (table : ℕ) (ro
 first-of database own table row old new words fits same is stands =
     let own_stands = subst (λ (t : ℕ). StandsFor database.texts (table_at database t).columns words row) same stands in
     record {
-      are = relation_words database own fits words row own_stands;
+      are = record {
+        allowed = relation_words database own fits words row own_stands;
+        by_value = own_stands.by_value ∙ ap (map (word_of database.texts)) (sym (relation_values database own fits words row own_stands));
+      };
       first = is ∙ ap (λ (first : ValueRow). first ∷ new) (sym (relation_values database own fits words row own_stands));
     }
 

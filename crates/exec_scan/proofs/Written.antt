@@ -67,7 +67,7 @@ module _ (database : DatabaseState) (block : BlockTree) (scan known : ScanState)
   first = subst (λ (r : RelationTree). IsFirstRow database.texts r (kept_rows database r scan.way) (kept_rows database r new) words) seen is_first
 
   pub wide : length words ≡ scan.place.columns
-  wide = length-words database.texts (relation_at block.relations scan.place.relation).columns words first.are ∙ sym over.numbers.columns_are
+  wide = length-words database.texts (relation_at block.relations scan.place.relation).columns words first.are.allowed ∙ sym over.numbers.columns_are
 
   module _ (before after : List ℤ) (long : length before ≡ width_of block) where
     pub fits : scan.place.offset + scan.place.columns ≤ length before
@@ -86,5 +86,5 @@ module _ (database : DatabaseState) (block : BlockTree) (scan known : ScanState)
             placed_row block.relations scan.place.relation row,
             ap (map (placed_row block.relations scan.place.relation)) first.first,
             subst (λ (set : RelationSet). IsPart database.texts block.relations set after (placed_row block.relations scan.place.relation row)) (sym (same-leaf scan.place.relation (column_of scan.way)))
-                (is-part database.texts scan.place.relation block.relations row words after over.numbers.exists done.long done.stand first.are refl),
+                (is-part database.texts scan.place.relation block.relations row words after over.numbers.exists done.long done.stand first.are.allowed refl),
           )

@@ -3,6 +3,7 @@ pub mod OnWay
 pub mod Stepping
 pub mod TableReading
 pub mod EntryReading
+pub mod ColumnRanges
 pub mod Reading
 pub mod State
 pub mod Scanning

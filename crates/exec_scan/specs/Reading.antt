@@ -2,7 +2,7 @@
 use Rattle.std.specs.Prelude.{◌≡◌, ℕ, ℤ, ◌+◌, ◌*◌, Bool, List, [], ◌∷◌, Option, Some, None, MatchOption, Result, IfOk, length, map, filter}
 use Rattle.std.specs.List.Sorted.{IsPermutation}
 use Rattle.work_ledger.specs.Charges.{open_charge}
-use Rattle.sql_values.specs.Stored.{AreWordsOf, StoredTable, ValueRow, values_of}
+use Rattle.sql_values.specs.Stored.{StoredTable, ValueRow, values_of}
 use Rattle.query_block.specs.Blocks.{IsRelation, RelationTree}
 use Rattle.query_block.specs.Meaning.{meets_filter}
 use Rattle.plan_tree.specs.Enumerated.{HasUsable, IsIndexed}
@@ -15,21 +15,28 @@ use Rattle.db_catalog.specs.Database.{DatabaseState}
 use Rattle.db_catalog.specs.Fits.{FitsTable}
 use Rattle.db_catalog.specs.Indexes.{index_at, index_height, row_of_entry}
 use Rattle.db_catalog.specs.Meter.{MeterState}
+use Rattle.exec_scan.specs.declared.column_range.ColumnRange.{ColumnRange}
 use Rattle.exec_scan.specs.declared.way.Way.{Way}
 use Rattle.exec_scan.specs.declared.way.Way.TheVariants as way
+use Rattle.exec_scan.specs.ColumnRanges.{AreStored, IsKnownOf}
 use Rattle.exec_scan.specs.EntryReading.{EntryReaderState, IsReaderOf, entries_at}
 use Rattle.exec_scan.specs.Stepping.{PaysFor}
 use Rattle.exec_scan.specs.TableReading.{IsTableReader, table_ahead, table_due}
 
 -- the table whose rows are read
 abbrev pub table_of : Way → ℕ
-table_of (way.Table reader) = reader.table
+table_of (way.Table table) = table.reader.table
 table_of (way.Index reader) = reader.table
 
 -- the column by whose index they are found, if they are
 abbrev pub column_of : Way → Option ℕ
-column_of (way.Table reader) = None
+column_of (way.Table table) = None
 column_of (way.Index reader) = Some reader.column
+
+-- the words that are known of the rows that meet the filter, if any are; an index leads to such words by itself
+abbrev pub known_of : Way → Option ColumnRange
+known_of (way.Table table) = table.known
+known_of (way.Index reader) = None
 
 -- whether a row meets every conjunct of the filter that has no parameter and that an index on the column can use
 abbrev pub is_wanted : RelationTree → (column : ℕ) → ValueRow → Bool
@@ -63,12 +70,12 @@ wanted_due database own reader = record {
 
 -- the rows of the relation that aren't read yet
 abbrev pub rows_ahead : DatabaseState → RelationTree → Way → List ValueRow
-rows_ahead database own (way.Table reader) = table_ahead database reader
+rows_ahead database own (way.Table table) = table_ahead database table.reader
 rows_ahead database own (way.Index reader) = wanted_rows database own reader
 
 -- what reading them has left
 abbrev pub read_due : DatabaseState → RelationTree → Way → Left
-read_due database own (way.Table reader) = table_due database reader
+read_due database own (way.Table table) = table_due database table.reader
 read_due database own (way.Index reader) = wanted_due database own reader
 
 -- of the rows ahead those that meet the relation's filter
@@ -77,7 +84,7 @@ kept_rows database own way = filter (meets_filter own.filter) (rows_ahead databa
 
 -- the reader stands in its table or its index
 abbrev pub IsReaderIn : DatabaseState → Way → Type 0
-IsReaderIn database (way.Table reader) = IsTableReader database reader
+IsReaderIn database (way.Table table) = IsTableReader database table.reader
 IsReaderIn database (way.Index reader) = IsReaderOf database reader
 
 -- a relation of a block, whose table is in the database and whose filter has no parameter
@@ -89,11 +96,12 @@ pub record IsRelationIn (database : DatabaseState) (own : RelationTree) : Type 0
 abbrev pub CanBeFound : RelationTree → (column : Option ℕ) → Type 0
 CanBeFound own column = MatchOption column (Unit {0}) (λ c. IsIndexed own c × HasUsable own c)
 
--- a way to the rows of this relation
+-- a way to the rows of this relation, and what it knows of those that meet the filter
 pub record IsWayTo (database : DatabaseState) (own : RelationTree) (way : Way) : Type 0 where
   pub relation : IsRelationIn database own
   pub table : table_of way ≡ own.table
   pub reading : IsReaderIn database way
+  pub known : IsKnownOf database.texts own (known_of way)
 
 -- there were no rows, there are none, and nothing is due
 pub record AreNone (old new : List ValueRow) (left : Left) : Type 0 where
@@ -103,7 +111,7 @@ pub record AreNone (old new : List ValueRow) (left : Left) : Type 0 where
 
 -- the words are those of the first of these rows, which then isn't one of them
 pub record IsFirstRow (texts : List (List ℕ)) (own : RelationTree) (old new : List ValueRow) (words : List ℤ) : Type 0 where
-  pub are : AreWordsOf texts own.columns words
+  pub are : AreStored texts own.columns words
   pub first : old ≡ values_of texts own.columns words ∷ new
 
 -- a call lends the first of these rows; or there were none, and nothing is due

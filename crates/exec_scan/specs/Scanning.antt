@@ -12,9 +12,10 @@ use Rattle.db_catalog.specs.Database.{DatabaseState}
 use Rattle.db_catalog.specs.Fits.{Fits}
 use Rattle.db_catalog.specs.Meter.{MeterState}
 use Rattle.exec_scan.specs.declared.way.Way.{Way}
+use Rattle.exec_scan.specs.ColumnRanges.{IsKnownOf}
 use Rattle.exec_scan.specs.OnWay.{with_emits}
 use Rattle.exec_scan.specs.Places.{AreOfRelation, KeepsOtherWords, placed_row}
-use Rattle.exec_scan.specs.Reading.{IsReaderIn, kept_rows, read_due, table_of}
+use Rattle.exec_scan.specs.Reading.{IsReaderIn, kept_rows, known_of, read_due, table_of}
 use Rattle.exec_scan.specs.State.{ScanState, leaf_of, relation_of}
 use Rattle.exec_scan.specs.Stepping.{Yields}
 
@@ -38,12 +39,14 @@ pub record MayScan (database : DatabaseState) (block : BlockTree) (leaf : PlanTr
   pub fits : Fits database block
   pub closed : block.parameters ≡ []
 
--- a scan of a relation of the block, which fits the database and has no parameter, over its tables
+-- a scan of a relation of the block, which fits the database and has no parameter, over its tables; it may know words of
+-- the rows that meet the filter
 pub record IsScanOver (database : DatabaseState) (block : BlockTree) (scan : ScanState) : Type 0 where
   pub fits : Fits database block
   pub closed : block.parameters ≡ []
   pub numbers : AreOfRelation block scan.place.relation (table_of scan.way) scan.place.columns scan.place.offset
   pub reading : IsReaderIn database scan.way
+  pub known : IsKnownOf database.texts (relation_at block.relations scan.place.relation) (known_of scan.way)
 
 -- the scan of a leaf, of which nothing is read yet: the rows of the leaf are left, and with the opening what is due is its work
 pub record BeginsLeaf (database : DatabaseState) (block : BlockTree) (plan : PlanTree) (scan : ScanState) : Type 0 where

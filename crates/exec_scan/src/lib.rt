@@ -7,6 +7,7 @@
 //! It never takes memory, never copies a row that isn't given, and never reads a row unpaid.
 #![tactic(auto)]
 
+mod column_range;
 mod entry_reader;
 mod relation_place;
 mod scan_op;

@@ -4,20 +4,28 @@ ghost use Rattle.std.specs.Prelude.{◌≡◌, OnOk, IsSome};
 ghost use Rattle.query_block.specs.Blocks.{relation_tree};
 ghost use Rattle.exec_scan.specs.EntryReading.{ReadsOn};
 ghost use Rattle.exec_scan.specs.Reading.{CanBeFound, FindsOn, IsRelationIn, IsWayTo, LeadsTo};
-ghost use Rattle.exec_scan.specs.Reading.{LendsAhead, LendsKept, LendsWanted, PaysReading, PaysWanted, wanted_entries};
+ghost use Rattle.exec_scan.specs.Reading.{LendsAhead, LendsKept, LendsWanted, PaysReading, PaysWanted, known_of, wanted_entries};
 ghost use Rattle.exec_scan.specs.declared.way.Way.TheVariants.{Index};
 
+use crate::column_range::{ColumnRange, is_kept};
 use crate::entry_reader::EntryReader;
 use crate::table_reader::TableReader;
 use db_catalog::Metered;
 use plan_tree::range_of;
-use query_block::{Relation, meets_filter};
+use query_block::Relation;
 use work_ledger::Exhausted;
+
+/// The reader of a relation's table, and the words that are known of the rows that meet the relation's filter.
+#[derive(Drop)]
+pub(crate) struct TableWay {
+    reader: TableReader,
+    known: Option<ColumnRange>,
+}
 
 /// By what the rows of a relation are found.
 #[derive(Drop)]
 pub(crate) enum Way {
-    Table(TableReader),
+    Table(TableWay),
     Index(EntryReader),
 }
 
@@ -69,8 +77,21 @@ impl Way {
         ensures { LeadsTo meter.now.database (relation_tree relation.now) column result }
     {
         match column {
-            None => Way::Table(TableReader::new(relation.table, meter)),
+            None => Way::Table(TableWay {
+                reader: TableReader::new(relation.table, meter),
+                known: ColumnRange::of(relation, meter.texts()),
+            }),
             Some(column) => Way::Index(EntryReader::new(relation.table, column)),
+        }
+    }
+
+    // The words that are known of the rows that meet the relation's filter. An index leads to such words by itself.
+    fn known(&self) -> Option<ColumnRange>
+        ensures { result ≡ known_of self.now }
+    {
+        match self {
+            Way::Table(table) => table.known,
+            Way::Index(_) => None,
         }
     }
 
@@ -89,7 +110,7 @@ impl Way {
             self.old self.new }
     {
         match self {
-            Way::Table(reader) => reader.read(meter),
+            Way::Table(table) => table.reader.read(meter),
             Way::Index(reader) => read_wanted(reader, relation, meter),
         }
     }
@@ -108,11 +129,10 @@ impl Way {
         ensures goes_on { FindsOn meter.old.database (relation_tree relation.now)
             self.old self.new }
     {
-        let filter = relation.filter.as_slice();
-        let columns = relation.columns.as_slice();
+        let known = self.known();
         let texts = meter.texts();
         while let Some(row) = self.read(relation, meter)? {
-            if meets_filter(filter, columns, row, texts) {
+            if is_kept(relation, known, row, texts) {
                 return Ok(Some(row));
             }
         }

@@ -1,22 +1,20 @@
-use Rattle.std.proofs.Common.{◌≡◌, true, map}
+use Rattle.std.proofs.Common.{◌≡◌, true}
 use Rattle.sql_values.specs.Stored.{values_of}
 use Rattle.query_block.specs.Blocks.{relation_tree}
-use Rattle.query_block.specs.Conditions.{filter_tree}
 use Rattle.query_block.specs.Meaning.{meets_filter}
 use Rattle.exec_scan.proofs.Relations.{first-kept}
 use Rattle.exec_scan.proofs.way.Way.find.Goals as goal
 
-pub meets_filter-requires-clause-words : goal.meets_filter-requires-clause-words
-meets_filter-requires-clause-words c =
+pub is_kept-requires-clause-row : goal.is_kept-requires-clause-row
+is_kept-requires-clause-row c =
     let first = rw (c.in-Some.is, c.loop-row.invariant.database) at c.in_ok-row.ensures.row in
-    rw (c.texts-texts.ensures, c.as_slice-columns.ensures) first.are
+    rw c.texts-texts.ensures first.are
 
-pub returns-then-meets_filter-clause-row : goal.returns-then-meets_filter-clause-row
-returns-then-meets_filter-clause-row c =
+pub returns-then-is_kept-clause-row : goal.returns-then-is_kept-clause-row
+returns-then-is_kept-clause-row c =
     let database = c.args.meter.now.database in
     let own = relation_tree c.args.relation.now in
     let words = c.in-Some.row.now in
     let first = rw (c.in-Some.is, c.loop-row.invariant.database) at c.in_ok-row.ensures.row in
-    let meets : meets_filter (map filter_tree c.args.relation.now.filter) (values_of database.texts c.args.relation.now.columns words) ≡ true =
-    cc (c.if-meets_filter.true, c.meets_filter.ensures, c.texts-texts.ensures, c.as_slice-columns.ensures, c.as_slice-filter.ensures) in
+    let meets : meets_filter own.filter (values_of database.texts own.columns words) ≡ true = cc (c.if-is_kept.true, c.is_kept.ensures, c.texts-texts.ensures) in
     rw c.loop-row.invariant.kept at (first-kept database.texts own _ _ words first (meets_filter own.filter) meets)
