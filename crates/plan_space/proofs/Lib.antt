@@ -7,7 +7,7 @@ pub mod Places
 pub mod Followed
 pub mod Rows
 pub mod ByPlaces
-pub mod Beyond
+pub mod Successors
 pub mod FrontierPoints
 pub mod PartNumbers
 pub mod PartCosts

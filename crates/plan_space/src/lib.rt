@@ -1,8 +1,12 @@
-//! The best plan of a block at a point of the grid, or at all points at once: of all plans of the block the cheapest there, and
-//! of equally cheap ones the first in plan order. And the frontiers of a block: the points of each with their best plans.
-//! To the layers above it promises that `best` and `BestPlans` answer exactly that plan and its cost, over all bushy shapes,
-//! products, indexes and edges, and that an `Outlook` gives exactly the frontier of a cost.
-//! It never lists the plans, never says what a node costs, never looks at a table, and takes memory for its answers alone.
+//! The best plan of a block at a point of the grid, or at all points at once: of all plans of the
+//! block the cheapest there, and of equally cheap ones the first in plan order. And the frontiers
+//! of a block: the points of each with their best plans.
+//! To the layers above it promises that `best` and `BestPlans` answer exactly that plan and its
+//! cost, over all bushy shapes, products, indexes and edges, that a `CostSurface` tells exactly
+//! which points are on the frontier of a cost, and that an `Outlook` gives them with their best
+//! plans.
+//! It never lists the plans, never says what a node costs, never looks at a table, and takes memory
+//! for its answers alone.
 #![tactic(auto)]
 
 mod alike;

@@ -41,7 +41,7 @@ impl<'c> Outlook<'c> {
     {
         let best = best_at_all_points(alloc, costing)?;
         let costs = optimal_costs(alloc, costing, &best)?;
-        let surface = CostSurface::by_costs(alloc, costing, costs)?;
+        let surface = CostSurface::by_costs(costing, costs);
         Ok(Outlook { best, surface })
     }
 

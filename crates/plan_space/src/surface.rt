@@ -1,14 +1,13 @@
-// The optimal cost at each point of a grid, and the frontiers: the points that cost at most so much, and above which each next
-// point costs more.
-ghost use Rattle.std.specs.Prelude.{◌≡◌, ◌+◌, ◌<◌, ◌≤◌, All, IfOk, IfSome, Some, length, map, nat_lt, slice_index, if◌then◌else◌};
-ghost use Rattle.sql_values.specs.Limits.{cost_bound, max_contour_cost};
-ghost use Rattle.ess_grid.specs.Points.{IsGrid, IsPoint, points_of, point_at, bottom_of, top_of};
-ghost use Rattle.ess_grid.specs.Order.{next_point};
+// The optimal cost at each point of a grid, and the frontiers: the points that cost at most so
+// much, and above which each next point costs more.
+ghost use Rattle.std.specs.Prelude.{◌≡◌, ◌<◌, ◌≤◌, All, IfOk, IfSome, Some, length, map};
+ghost use Rattle.sql_values.specs.Limits.{max_contour_cost};
+ghost use Rattle.ess_grid.specs.Points.{IsGrid, points_of, point_at, bottom_of, top_of};
 ghost use Rattle.cost_model.specs.Costing.{costing_tree, IsCosting};
 ghost use Rattle.cost_model.specs.Optimal.{optimal_cost};
 ghost use Rattle.cost_model.specs.Frontier.{frontier};
-ghost use Rattle.plan_space.specs.Places.{TellsFrontier};
-ghost use Rattle.plan_space.specs.Surface.{past_all_costs, cost_beyond, optimal_costs, costs_beyond};
+ghost use Rattle.plan_space.specs.Places.{TellsFrontier, TellsSuccessorWithin, TellsWithinCost};
+ghost use Rattle.plan_space.specs.Surface.{optimal_costs};
 ghost use Rattle.plan_space.specs.SurfacePoints.{IsSurfacePoint};
 
 use crate::all_points::{BestPlans, best_at_all_points};
@@ -26,15 +25,13 @@ pub struct SurfacePoint {
     pub cost: u128,
 }
 
-/// The optimal costs at the points of a costing's grid, and what decides which points are on which frontier, by the places of
-/// points.
+/// The optimal costs at the points of a costing's grid, by the places of points. They decide which
+/// points are on which frontier.
 #[derive(Drop)]
 pub struct CostSurface<'c> {
     costing: &'c Costing<'c>,
     // The optimal cost at each point.
     costs: Vec<u128>,
-    // The least optimal cost at the points that are next above each point. Where there is none, `u128::MAX`.
-    beyond: Vec<u128>,
 }
 
 impl<'c> Model for CostSurface<'c> {
@@ -49,7 +46,7 @@ impl<'c> Model for CostSurface<'c> {
 
     ghost view = { λ s. s.costing.now };
 
-    ghost invariant = { λ s. IsSurface s.costing.now s.costs.items s.beyond.items };
+    ghost invariant = { λ s. IsSurface s.costing.now s.costs.items };
 }
 
 // The optimal costs at all points.
@@ -69,92 +66,14 @@ pub(crate) fn optimal_costs(
     Ok(costs)
 }
 
-// A costing with the optimal cost at each point of its grid.
-#[derive(Drop)]
-struct OptimalCosts<'k, 'c> {
-    costing: &'k Costing<'c>,
-    costs: &'k [u128],
-}
-
-impl<'k, 'c> Model for OptimalCosts<'k, 'c> {
-    ghost use Rattle.query_block.specs.contracts.condition.Condition as condition;
-    ghost use Rattle.std.specs.Coded.{codes};
-    ghost use Rattle.std.specs.Prelude.{◌≡◌};
-    ghost use Rattle.cost_model.specs.Costing.{CostingShape, costing_tree};
-    ghost use Rattle.plan_space.specs.Surface.{optimal_costs};
-
-    ghost Value = { CostingShape };
-
-    ghost coded = { Prim.hlevel (codes, condition.the_row.coded) };
-
-    ghost view = { λ o. o.costing.now };
-
-    ghost invariant = { λ o. o.costs.now ≡ optimal_costs (costing_tree o.costing.now) };
-}
-
-impl OptimalCosts<'_, '_> {
-    // The optimal cost at the point that is one level higher on this axis. Where there is none, `u128::MAX`.
-    fn cost_above(&self, q: &Point, axis: usize) -> u128
-        requires point { IsPoint self.now.grid q.now }
-        requires axis { axis < self.now.grid.axes }
-        ensures { result ≡ (if nat_lt (slice_index q.now axis + 1) self.now.grid.levels
-            then optimal_cost (costing_tree self.now) (next_point q.now axis)
-            else past_all_costs) }
-    {
-        let grid = self.costing.grid();
-        match grid.successor(q, axis) {
-            Some(next) => self.costs[grid.place_of(&next)],
-            None => u128::MAX,
-        }
-    }
-
-    // The least optimal cost at the points that are next above one.
-    fn least_above(&self, q: &Point) -> u128
-        requires { IsPoint self.now.grid q.now }
-        ensures { result ≡ cost_beyond (costing_tree self.now) q.now }
-    {
-        let mut least = u128::MAX;
-        for axis in 0..self.costing.grid().axes() {
-            least = least.min(self.cost_above(q, axis));
-        }
-        least
-    }
-
-    // The least costs next above all points.
-    fn costs_beyond(&self, alloc: Global) -> Result<Vec<u128>, AllocError>
-        ensures { IfOk result (λ beyond. beyond.items ≡ costs_beyond (costing_tree self.now)) }
-    {
-        let grid = self.costing.grid();
-        let points = grid.points();
-        let mut beyond = Vec::with_capacity(alloc, points)?;
-        for place in 0..points {
-            beyond.push(self.least_above(&grid.point(place)))?;
-        }
-        Ok(beyond)
-    }
-}
-
 impl<'c> CostSurface<'c> {
-    // That of a costing by these optimal costs. An error is want of memory.
-    pub(crate) fn by_costs(
-        alloc: Global,
-        costing: &'c Costing<'c>,
-        costs: Vec<u128>,
-    ) -> Result<CostSurface<'c>, AllocError>
+    // That of a costing by these optimal costs.
+    pub(crate) fn by_costs(costing: &'c Costing<'c>, costs: Vec<u128>) -> CostSurface<'c>
         requires { costs.items ≡ optimal_costs (costing_tree costing.now) }
-        ensures { IfOk result (λ surface. surface ≡ costing.now) }
+        ensures { result ≡ costing.now }
     {
         let _block = costing.block();
-        let known = OptimalCosts {
-            costing: &*costing,
-            costs: costs.as_slice(),
-        };
-        let beyond = known.costs_beyond(alloc)?;
-        Ok(CostSurface {
-            costing,
-            costs,
-            beyond,
-        })
+        CostSurface { costing, costs }
     }
 
     /// That of a costing. Where the optimal costs at all points of the grid are known, in its order, they aren't worked out
@@ -171,7 +90,7 @@ impl<'c> CostSurface<'c> {
             Some(costs) => Vec::from_slice(alloc, costs)?,
             None => optimal_costs(alloc, costing, &best_at_all_points(alloc, costing)?)?,
         };
-        CostSurface::by_costs(alloc, costing, costs)
+        Ok(CostSurface::by_costs(costing, costs))
     }
 
     /// The costing.
@@ -212,13 +131,41 @@ impl<'c> CostSurface<'c> {
         self.costs[self.costing.grid().points() - 1]
     }
 
+    // Whether the optimal cost at the point at this place is at most this one.
+    fn is_within_cost(&self, cost: u128, place: usize) -> bool
+        requires { place < length (points_of self.now.grid) }
+        ensures { TellsWithinCost (costing_tree self.now) cost place result }
+    {
+        self.costs[place] <= cost
+    }
+
+    // Whether the optimal cost is at most this one at a point that is next above the one at this
+    // place: on each axis the next point stands levels to the power of the axis further on.
+    fn has_successor_within(&self, cost: u128, place: usize) -> bool
+        requires { place < length (points_of self.now.grid) }
+        ensures { TellsSuccessorWithin (costing_tree self.now) cost place result }
+    {
+        let grid = self.costing.grid();
+        let levels = grid.levels();
+        let mut rest = place;
+        let mut stride = 1;
+        for _axis in 0..grid.axes() {
+            if rest % levels + 1 < levels && self.is_within_cost(cost, place + stride) {
+                return true;
+            }
+            rest /= levels;
+            stride *= levels;
+        }
+        false
+    }
+
     /// Whether the point at this place of the grid, from 0, is on the frontier of a contour of this cost.
     pub fn is_on_frontier(&self, cost: u128, place: usize) -> bool
         requires cost { cost ≤ max_contour_cost }
         requires place { place < length (points_of self.now.grid) }
         ensures { TellsFrontier (costing_tree self.now) cost place result }
     {
-        self.costs[place] <= cost && cost < self.beyond[place]
+        self.is_within_cost(cost, place) && !self.has_successor_within(cost, place)
     }
 
     // The point at a place, with the optimal cost there.

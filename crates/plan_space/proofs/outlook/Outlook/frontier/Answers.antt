@@ -1,7 +1,7 @@
 use Rattle.std.proofs.Common.{◌≤◌, ◌∙◌, All, map, length, ap, arith, subst, sym}
 use Rattle.std.proofs.lemmas.List.{length-map, take_all}
 use Rattle.std.proofs.lemmas.List.Elements.{All-push}
-use Rattle.ess_grid.specs.Points.{GridShape, IsGrid}
+use Rattle.ess_grid.specs.Points.{IsGrid}
 use Rattle.cost_model.specs.Costing.{CostingShape, costing_tree}
 use Rattle.cost_model.specs.Frontier.{frontier}
 use Rattle.cost_model.specs.FrontierPoints.{IsFrontierPoint, frontier_points}

@@ -1,0 +1,18 @@
+use Rattle.std.proofs.Common.{◌≡◌, [], get_or}
+use Rattle.std.specs.List.{list_any}
+use Rattle.ess_grid.specs.Points.{points_of}
+use Rattle.ess_grid.specs.Order.{successors}
+use Rattle.cost_model.specs.Costing.{costing_tree}
+use Rattle.cost_model.specs.Frontier.{is_within_cost}
+use Rattle.plan_space.proofs.Successors.{IsAtAxis, any_from}
+use Rattle.plan_space.proofs.surface.CostSurface.has_successor_within.Given as goal
+
+abbrev pub invariant-loop-axis : goal.invariant-loop-axis
+invariant-loop-axis l =
+    let point = get_or (points_of l.self.grid) l.place [] in
+    let within = is_within_cost (costing_tree l.self) l.cost in
+    record {
+      axes : l._axis-end ≡ l.self.grid.axes;
+      at : IsAtAxis l.self.grid l.place l.levels l._axis l.rest l.stride;
+      ahead : list_any within (successors l.self.grid point) ≡ any_from within l.self.grid point l._axis;
+    }
