@@ -51,9 +51,10 @@ KILLED, KILLED_AT = 26, 10_000
 CONTOURS, PLANS = 128, 4096
 MAX_WORK = 1_000_000
 WORD = 2**64 - 1
-# the hash of a key in a join, and that of a text in the dictionary
+# the hash of a key in a join; and a hash of texts by fixed keys, of which the first is the one that the kit's maps have if
+# they are given none
 CHAIN_FACTOR = 11400714819323198485
-HASH_START, HASH_FACTOR = 0x243F6A8885A308D3, 0x9E3779B97F4A7C15
+HASH_KEYS, HASH_FACTOR = (0x243F6A8885A308D3, 0x13198A2E03707344), 0x9E3779B97F4A7C15
 ALPHABET = "ABCDEFGHIJKLMNOPQRSTUVWXYZabcdefghijklmnopqrstuvwxyz0123456789+-"
 DONE, REFUSED, BAD_WORDS, READ_FAULT, WRITE_FAULT, NO_MEMORY = range(6)
 
@@ -488,12 +489,12 @@ def folded(state, number, factor):
     return (product ^ product >> 64) & WORD
 
 
-def colliding_texts(count, bits):
-    """Different texts of ten characters whose hashes in the dictionary agree in so many bits: texts of one group."""
+def colliding_texts(count, bits, key):
+    """Different texts of ten characters whose hashes by a fixed key agree in so many bits."""
     mask, found = (1 << bits) - 1, 0
     spread = {ord(sign) * 0x10101: sign for sign in ALPHABET}
     for numbers in itertools.product(spread, repeat=9):
-        state = folded(HASH_START, 10, HASH_FACTOR ^ 16)
+        state = folded(key, 10, HASH_FACTOR ^ 16)
         for number in reversed(numbers):
             state = folded(state, number, HASH_FACTOR ^ 2)
         start = "".join(spread[number] for number in reversed(numbers))
@@ -507,8 +508,8 @@ def colliding_texts(count, bits):
 
 
 def collisions(part):
-    """Keys that fall into one chain of a hash join, many or two that stand there many times, and texts that fall into
-    one group of the dictionary, beside as many that don't."""
+    """Keys that fall into one chain of a hash join, many or two that stand there many times, beside as many that don't.
+    And texts that would fall into one group in 256 of a dictionary that hashes by a fixed key, as this one doesn't."""
     count = 100_000 // part
     # the scans of both work more than 4 units a row, a hash join 3 more, and every other plan more than that
     most = 7 * count
@@ -528,9 +529,11 @@ def collisions(part):
                      "two keys of one chain": lambda side: repeated(key(side, inverse), count)}.items():
         files = {"t.csv": joined("A\n", of(0)), "u.csv": joined("A\n", of(1))}
         yield Trial(name, script, answer, "work", REFUSED, files, ("--max-work", str(most)), sized=True)
-    some = 20_000 // part
-    for name, bits in (("texts of all groups", 0), ("texts of one group", (some // 9).bit_length())):
-        files = {"t.csv": joined("A\n", colliding_texts(some, bits))}
+    some = 160_000 // part
+    for name, bits, hash_key in (("texts of all groups", 0, HASH_KEYS[0]),
+                                 ("texts of a group by one key", 8, HASH_KEYS[0]),
+                                 ("texts of a group by another key", 8, HASH_KEYS[1])):
+        files = {"t.csv": joined("A\n", colliding_texts(some, bits, hash_key))}
         yield Trial(name, table("VARCHAR(10)"), f"-- load rows={some}\n", "totals", files=files, sized=True)
 
 

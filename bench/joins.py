@@ -3,6 +3,7 @@
 Then it times LEARN beside RUN, for the same queries.
 
   python3 bench/joins.py [--scale N] [--rows N] [--runs N] [--only WORD] [--clock wall|cpu] [--program PATH]
+                         [--beside PATH] [--begun 1]
 
 The proved program is the one that `rt run` left in crates/bouquet/out; sqlite3 is Debian's (apt-get install sqlite3).
 Both are whole processes over the same files in the same run, by turns, with their output in a file each, and sqlite3
@@ -39,6 +40,10 @@ one is a difference of medians too: of such a script, and of one that ends with 
 and at the end, of both quotients, the greatest, the 95th of a hundred and the middle one; the executions of all queries
 by RUN and by LEARN; and all skips. A quotient of times is left out where it can't be said.
 
+`--beside` has another build of the program RUN the same compiled queries, by turns with this one. Its outputs have to be
+the same. Printed are both times, and how many times as long it takes. `--begun 1` counts how many of a RUN's executions
+are begun: the others are paid without being made. Valgrind counts the calls, which takes minutes a query.
+
 Wanted: the rows are the same; `three` is answered 2 times as fast as by sqlite3 without ANALYZE, the other six together
 3 times as fast; none of the six takes more than 10 times as long and more than 50 ms; and a LEARN takes at most a
 twentieth longer than a RUN. The status is 1 where rows differ, those of RUN and LEARN among them, or where RUN has
@@ -46,6 +51,7 @@ another report than SELECT.
 """
 import bisect
 import collections
+import filecmp
 import itertools
 import os
 import random
@@ -53,6 +59,7 @@ import statistics
 import sys
 
 from beside_sqlite import DATA, PROCESSOR, SEED, SQLITE, WALL, arguments, by_turns, first_difference, write_csv
+from begun import executions_begun
 from bound import quotients
 
 TIMES_THREE = 2
@@ -64,6 +71,7 @@ ROWS_A_SCALE = 76_500
 STORES = 100
 SIDES = OURS, PLAIN, ANALYSED = "bouquet", "sqlite3", "sqlite3 after ANALYZE"
 COMPILE, RUN, LEARN = "COMPILE", "RUN", "LEARN"
+BESIDE = ", beside"
 
 # `times` is how often a query is asked in turn, and `compiled_times` how often it is run in turn once it is compiled.
 Query = collections.namedtuple("Query", "name, columns, tables, where, times, compiled_times")
@@ -258,9 +266,9 @@ class Scripts:
         order = f" ORDER BY {query.columns}" if self.ordered else ""
         return self.indexed + f"{select(query)}{order};\n" * query.times
 
-    def compiled(self, query, statement):
+    def compiled(self, query, statement, times=None):
         """A query compiled, and then run some times if the statement is RUN or LEARN."""
-        runs = "" if statement == COMPILE else f"{statement} Q;\n" * query.compiled_times
+        runs = "" if statement == COMPILE else f"{statement} Q;\n" * (times or query.compiled_times)
         return self.indexed + f"COMPILE Q AS {select(query)};\n" + runs
 
 
@@ -393,6 +401,39 @@ class Learned:
         )
 
 
+class Beside:
+    """A compiled query's RUN by this program and by another build, whose output is the same."""
+
+    def __init__(self, query, runs):
+        self.query = query
+        self.here, self.there = (
+            Executed(query, runs[f"{query.name}, {COMPILE}{side}"], runs[f"{query.name}, {RUN}{side}"])
+            for side in ("", BESIDE)
+        )
+        if not filecmp.cmp(self.here.output, self.there.output, shallow=False):
+            sys.exit(f"{query.name}: the other build prints something else")
+
+    def line(self):
+        here, there = self.here.seconds, self.there.seconds
+        return f"{self.query.name}: RUN {here}, by the other build {there}: {there.times_of(here)} times as long"
+
+
+def print_beside(beside):
+    """How the other build's runs compare, for each query and in the sum."""
+    for it in beside:
+        print(it.line())
+    if beside:
+        here, there = (total(getattr(it, side).seconds for it in beside) for side in ("here", "there"))
+        print(f"sum of {len(beside)} queries: RUN {here}, by the other build {there}: {there.times_of(here)} times as long")
+
+
+def print_begun(scripts, queries, given):
+    """How many of a RUN's executions are begun."""
+    for query in queries:
+        begun = executions_begun(given.program, scripts.compiled(query, RUN, 1))
+        print(f"{query.name}: {begun} executions of a RUN are begun")
+
+
 def sum_of_learned(learned):
     """How LEARN compares with RUN over all queries."""
     seconds = [(it.learn.seconds.middle, it.run.seconds.middle) for it in learned]
@@ -418,6 +459,9 @@ def measured(name, tables, size, queries, given):
     for query in queries:
         for statement in (COMPILE, RUN, LEARN):
             sides[f"{query.name}, {statement}"] = scripts[OURS].words, scripts[OURS].compiled(query, statement)
+            if given.beside and statement != LEARN:
+                other = [os.path.abspath(given.beside)], scripts[OURS].compiled(query, statement)
+                sides[f"{query.name}, {statement}{BESIDE}"] = other
     runs = by_turns(sides, given.runs, given.clock)
     loaded, indexed, *asked = ({side: runs[f"{step}, {side}"] for side in SIDES} for step in steps)
     for what, at in (("loaded", loaded), ("loaded, with indexes", indexed)):
@@ -427,6 +471,8 @@ def measured(name, tables, size, queries, given):
     answered = [Answered(query, indexed, it) for query, it in zip(queries, asked)]
     for it in answered:
         it.stop_where_rows_differ()
+    print_beside([Beside(query, runs) for query in queries] if given.beside else [])
+    print_begun(scripts[OURS], queries if given.begun else [], given)
     return answered, [Learned(it.query, runs, it.outputs[OURS]) for it in answered]
 
 
@@ -453,7 +499,7 @@ def join_star(given, star, queries):
 
 
 def main():
-    given = arguments(__doc__, scale=10, only="", clock=WALL)
+    given = arguments(__doc__, scale=10, only="", clock=WALL, beside="", begun=0)
     if given.clock not in (WALL, PROCESSOR):
         sys.exit(f"no clock {given.clock}")
     star = Star(given.rows)
