@@ -14,6 +14,7 @@ PostgreSQL are told the primary keys as well.
 The sides are, by their names for --sides:
 
   bouquet              SELECT: it has no statistics, and compiles each query
+  bouquet-learn        COMPILE and LEARN in its place
   sqlite3              in memory, without ANALYZE
   sqlite3-analyze      in memory, after ANALYZE
   postgres             PostgreSQL 15, without ANALYZE; a server of the script's own, with all in its memory
@@ -57,9 +58,9 @@ import robust_data
 from beside_sqlite import DATA, PROGRAM, SEED
 from robust_picture import picture, tables
 from robust_queries import DATABASES, TABLES, queries
-from robust_servers import BINARIES, PRAGMAS, SETTINGS, Bouquet, Postgres, Server, Sqlite, finished
+from robust_servers import BINARIES, PRAGMAS, SETTINGS, Bouquet, Learning, Postgres, Server, Sqlite, finished
 
-SIDES = ("bouquet", "sqlite3", "sqlite3-analyze", "postgres", "postgres-analyze")
+SIDES = ("bouquet", "bouquet-learn", "sqlite3", "sqlite3-analyze", "postgres", "postgres-analyze")
 ASK_OFTEN, ASK_AGAIN = 1, 10
 TIMES_IN_A_ROW = 3
 MORE_TURNS = 3
@@ -178,6 +179,7 @@ def figures_of_query(query, sides, found, rows):
 def made_sides(given, server):
     makers = {
         "bouquet": lambda: Bouquet(given.program),
+        "bouquet-learn": lambda: Learning(given.program),
         "sqlite3": lambda: Sqlite(False),
         "sqlite3-analyze": lambda: Sqlite(True),
         "postgres": lambda: Postgres(False, server),

@@ -143,11 +143,11 @@ def element(name, text=None, **attributes):
 
 
 def mark(side, x, y):
-    """The point of a side: a disc, a square or a triangle, hollow where there are no statistics."""
+    """The point of a side: a disc, a square or a triangle, hollow where there are no statistics, and for LEARN."""
     colour = COLOURS[side.partition(",")[0]]
     fill = colour if "ANALYZE" in side or side == "bouquet" else "#ffffff"
     look = {"fill": fill, "stroke": colour, "stroke_width": 1.4}
-    if side == "bouquet":
+    if side.startswith("bouquet"):
         return element("circle", cx=f"{x:.1f}", cy=f"{y:.1f}", r=5, **look)
     if side.startswith("sqlite3"):
         return element("rect", x=f"{x - 3.8:.1f}", y=f"{y - 3.8:.1f}", width=7.6, height=7.6, **look)

@@ -154,6 +154,24 @@ class Bouquet(Side):
         return answer._replace(text=answer.text.partition("\n")[2])
 
 
+class Learning(Bouquet):
+    """A query is compiled, and then run by LEARN: both are in its time."""
+
+    name = "bouquet, LEARN"
+
+    def session(self, database, texts):
+        compiled = [f"COMPILE Q{number} AS {it};\nLEARN Q{number}" for number, it in enumerate(texts)]
+        return super().session(database, compiled)
+
+    @staticmethod
+    def measured(answer, seconds):
+        """Without the line of the COMPILE, the header of the rows, and the skips behind them."""
+        lines = answer.text.splitlines(keepends=True)[2:]
+        while lines and lines[-1].startswith("-- skip "):
+            lines.pop()
+        return answer._replace(text="".join(lines))
+
+
 class Sqlite(Side):
     marker = re.compile(rb"^-- end\r?\n", re.MULTILINE)
 
