@@ -1,4 +1,5 @@
 // The ledger: two numbers, and the one place where they are compared. It relies on nothing, and never takes memory.
+// What is left, as far as 64 bits count it, is kept in place of what is spent: most payments look at that one number.
 ghost use Rattle.std.specs.Prelude.{◌≡◌, ◌+◌, ◌≤◌};
 ghost use Rattle.work_ledger.specs.Account.{Pays, IsInBounds, max_account};
 ghost use Rattle.work_ledger.specs.Budget.{granted, new_account};
@@ -12,18 +13,22 @@ pub struct Exhausted;
 /// The work spent so far and the limit up to which it may be spent, both in units, of 0 to 2^126.
 #[derive(Debug, Drop)]
 pub struct Ledger {
-    spent: u128,
+    // What will be spent once all that is left is: at most the limit.
+    ceiling: u128,
+    // What is left until then. A payment within it is one subtraction.
+    left: u64,
     limit: u128,
 }
 
 impl Model for Ledger {
-    ghost use Rattle.work_ledger.specs.Account.{Account, IsInBounds};
+    ghost use Rattle.std.specs.Prelude.{◌-◌};
+    ghost use Rattle.work_ledger.specs.Account.{Account, IsLedger};
 
     ghost Value = { Account };
 
-    ghost view = { λ l. record { spent = l.spent; limit = l.limit } };
+    ghost view = { λ l. record { spent = l.ceiling - l.left; limit = l.limit } };
 
-    ghost invariant = { λ l. IsInBounds (record { spent = l.spent; limit = l.limit }) };
+    ghost invariant = { λ l. IsLedger l.ceiling l.left l.limit };
 }
 
 impl Ledger {
@@ -31,7 +36,20 @@ impl Ledger {
     pub fn new() -> Ledger
         ensures { result ≡ new_account }
     {
-        Ledger { spent: 0, limit: 0 }
+        Ledger::of(0, 0)
+    }
+
+    // So much is spent, and so much may be.
+    fn of(spent: u128, limit: u128) -> Ledger
+        requires { IsInBounds (record { spent = spent; limit = limit }) }
+        ensures { result ≡ record { spent = spent; limit = limit } }
+    {
+        let left = (limit - spent).min(u128::from(u64::MAX)) as u64;
+        Ledger {
+            ceiling: spent + u128::from(left),
+            left,
+            limit,
+        }
     }
 
     /// The work paid so far.
@@ -39,7 +57,7 @@ impl Ledger {
         ensures spent { result ≡ self.now.spent }
         ensures bounds { IsInBounds self.now }
     {
-        self.spent
+        self.ceiling - u128::from(self.left)
     }
 
     /// The work up to which payments fit.
@@ -54,7 +72,8 @@ impl Ledger {
         requires { self.old.spent + budget ≤ max_account }
         ensures { self.new ≡ granted budget self.old }
     {
-        self.limit = self.spent + budget;
+        let spent = self.spent();
+        *self = Ledger::of(spent, spent + budget);
     }
 
     /// Pays `n` units. A payment that doesn't fit spends what is left and is refused.
@@ -62,12 +81,24 @@ impl Ledger {
         requires { n ≤ max_account }
         ensures { Pays n self.old self.new result }
     {
-        let after = self.spent + n;
+        if n <= u128::from(self.left) {
+            self.left -= n as u64;
+            return Ok(());
+        }
+        self.pay_past(n)
+    }
+
+    // The same of a payment that isn't within what is left below the ceiling.
+    fn pay_past(&mut self, n: u128) -> Result<(), Exhausted>
+        requires { n ≤ max_account }
+        ensures { Pays n self.old self.new result }
+    {
+        let after = self.spent() + n;
         if after > self.limit {
-            self.spent = self.limit;
+            *self = Ledger::of(self.limit, self.limit);
             return Err(Exhausted);
         }
-        self.spent = after;
+        *self = Ledger::of(after, self.limit);
         Ok(())
     }
 }
