@@ -8,5 +8,7 @@ mod index;
 mod levels;
 mod node;
 mod ordering;
+mod packing;
+mod parts;
 
 pub use index::{Cursor, Index};
