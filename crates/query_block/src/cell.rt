@@ -42,8 +42,8 @@ fn holds_of_codes(op: Op, a: i64, b: i64, texts: &Texts) -> bool
     }
 }
 
-// Whether an operator holds of two numbers.
-fn holds_of_numbers(op: Op, a: i64, b: i64) -> bool
+/// Whether an operator holds of two numbers.
+pub(crate) fn holds_of_numbers(op: Op, a: i64, b: i64) -> bool
     ensures { result ≡ holds op (int_cmp a b) }
 {
     match op {

@@ -1,16 +1,17 @@
-// The truth of a condition on a row. It calls itself for a nested condition alone: a chain is a loop, however long.
+// The truth of a condition on a row. It calls itself for a nested condition alone: a chain is a loop, however long. A column
+// and a number are compared where they stand, without a call.
 ghost use Rattle.std.specs.Prelude.{◌≡◌, All, [], map};
 ghost use Rattle.sql_values.specs.Stored.{values_of, AreWordsOf};
 ghost use Rattle.query_block.specs.Conditions.{filter_tree, chain, And, Or};
 ghost use Rattle.query_block.specs.Blocks.{FitsColumns};
 ghost use Rattle.query_block.specs.Cells.{row_values, FitsRow};
 ghost use Rattle.query_block.specs.Truth.{truth_of, truth_of_all, truth_of_any};
-ghost use Rattle.query_block.specs.Meaning.{meets_filter};
+ghost use Rattle.query_block.specs.Meaning.{is_true, meets_filter};
 
 use crate::condition::Condition;
-use crate::predicate::{between, compare, is_null, one_of};
+use crate::predicate::{between, compare, holds_of_column, is_null, one_of};
 use crate::row::Row;
-use sql_values::{ColumnType, Texts, Truth, and, not, or};
+use sql_values::{ColumnType, Texts, Truth, and, certain, not, or};
 
 // The truth of a condition.
 #[cycle(truth)]
@@ -37,7 +38,11 @@ fn truth_of_all(parts: &[Condition], row: &Row<'_>) -> Truth
 {
     let mut found = Truth::True;
     for part in parts {
-        found = and(found, truth_on(part, row));
+        let truth = match holds_of_column(part, row) {
+            Some(holds) => certain(holds),
+            None => truth_on(part, row),
+        };
+        found = and(found, truth);
         if found == Truth::False {
             return Truth::False;
         }
@@ -53,7 +58,11 @@ fn truth_of_any(parts: &[Condition], row: &Row<'_>) -> Truth
 {
     let mut found = Truth::False;
     for part in parts {
-        found = or(found, truth_on(part, row));
+        let truth = match holds_of_column(part, row) {
+            Some(holds) => certain(holds),
+            None => truth_on(part, row),
+        };
+        found = or(found, truth);
         if found == Truth::True {
             return Truth::True;
         }
@@ -95,9 +104,21 @@ pub fn meets_filter(
         texts,
     };
     for conjunct in filter {
-        if truth_on(conjunct, &lent) != Truth::True {
+        if !is_met(conjunct, &lent) {
             return false;
         }
     }
     true
+}
+
+// Whether a conjunct is true on a row. That of a column and a number is told without a call.
+#[inline(always)]
+fn is_met(conjunct: &Condition, row: &Row<'_>) -> bool
+    requires { FitsRow row.now (filter_tree conjunct.now) }
+    ensures { result ≡ is_true (truth_of (filter_tree conjunct.now) (row_values row.now)) }
+{
+    match holds_of_column(conjunct, row) {
+        Some(holds) => holds,
+        None => truth_on(conjunct, row) == Truth::True,
+    }
 }

@@ -1,16 +1,18 @@
 // The predicates on operands of a row. Nothing here takes memory or calls itself.
-ghost use Rattle.std.specs.Prelude.{◌≡◌, []};
+ghost use Rattle.std.specs.Prelude.{◌≡◌, [], IfSome};
 ghost use Rattle.sql_values.specs.Words.{IsWord, value_of};
-ghost use Rattle.sql_values.specs.Truth.{comparison, AreComparable};
+ghost use Rattle.sql_values.specs.declared.value.Value.TheVariants.{Int};
+ghost use Rattle.sql_values.specs.Truth.{certain, comparison, AreComparable};
 ghost use Rattle.query_block.specs.Blocks.{IsOperand, kind_at};
 ghost use Rattle.query_block.specs.Cells.{cell_value, row_values, FitsRow, IsCell, IsRow};
-ghost use Rattle.query_block.specs.Conditions.{Compare, Between, OneOf, IsNull};
+ghost use Rattle.query_block.specs.declared.condition.Operand.TheVariants.{Literal};
+ghost use Rattle.query_block.specs.Conditions.{filter_tree, Compare, Between, OneOf, IsNull};
 ghost use Rattle.query_block.specs.Truth.{operand_value, truth_of, value_at};
 
-use crate::cell::{Cell, compare_cells};
-use crate::condition::Operand;
+use crate::cell::{Cell, compare_cells, holds_of_numbers};
+use crate::condition::{Condition, Operand};
 use crate::row::Row;
-use sql_values::{ColumnType, NULL_WORD, Op, Texts, Truth, Value, and, or};
+use sql_values::{ColumnType, NULL_WORD, Op, Texts, Truth, Value, and, certain, or};
 
 // The cell of a word.
 #[inline(always)]
@@ -59,7 +61,7 @@ fn operand_cell<'a>(operand: &'a Operand, row: &Row<'_>) -> Cell<'a>
     }
 }
 
-// Compares a cell with an operand.
+// Compares a cell with an operand. Numbers are compared at once.
 #[inline(always)]
 fn compare_with(op: Op, left: Cell<'_>, right: &Operand, row: &Row<'_>) -> Truth
     requires row { IsRow row.now }
@@ -70,7 +72,39 @@ fn compare_with(op: Op, left: Cell<'_>, right: &Operand, row: &Row<'_>) -> Truth
     ensures { result ≡ comparison op (cell_value row.now.texts.now left.entry)
         (operand_value (row_values row.now) right.now) }
 {
+    if let Cell::Int(a) = left {
+        if let Some(b) = number_of(right) {
+            return certain(holds_of_numbers(op, a, b));
+        }
+    }
     compare_cells(op, left, operand_cell(right, row), row.texts)
+}
+
+// The number that an operand is, if it is written as one.
+#[inline(always)]
+fn number_of(operand: &Operand) -> Option<i64>
+    ensures { IfSome result (λ number. operand.now ≡ Literal (Int number)) }
+{
+    match operand {
+        Operand::Literal(Value::Int(number)) => Some(*number),
+        _ => None,
+    }
+}
+
+/// Whether a condition is true that compares a column, which isn't NULL, with a number. None where it isn't of that kind.
+#[inline(always)]
+pub(crate) fn holds_of_column(condition: &Condition, row: &Row<'_>) -> Option<bool>
+    requires { FitsRow row.now (filter_tree condition.now) }
+    ensures { IfSome result (λ holds. truth_of (filter_tree condition.now) (row_values row.now) ≡ certain holds) }
+{
+    let Condition::Compare(op, Operand::Column(column), right) = condition else {
+        return None;
+    };
+    let number = number_of(right)?;
+    match column_cell(*column, row) {
+        Cell::Int(word) => Some(holds_of_numbers(*op, word, number)),
+        _ => None,
+    }
 }
 
 /// Compares two operands (SQL-92, 8.2).
