@@ -1,6 +1,7 @@
 -- What is seen of a metered database.
-use Rattle.std.specs.Prelude.{◌≡◌, ℕ, ◌<◌, ◌≤◌, length, List, ℤ, Result}
+use Rattle.std.specs.Prelude.{◌≡◌, ℕ, ◌+◌, ◌*◌, ◌<◌, ◌≤◌, length, List, ℤ, Result}
 use Rattle.work_ledger.specs.Account.{Account, Pays}
+use Rattle.work_ledger.specs.Charges.{page_charge, row_charge}
 use Rattle.heap_pages.specs.Rows.{pages_of, rows_per_page, rows_on_page, row_number}
 use Rattle.db_catalog.specs.Database.{DatabaseState, table_at, IsRowAt}
 
@@ -19,6 +20,10 @@ abbrev pub page_rows : DatabaseState → ℕ → ℕ → ℕ
 page_rows database number page =
     let table = table_at database number in
     rows_on_page (length table.columns) (length table.rows) page
+
+-- what it costs to open a page and to look at each row on it
+abbrev pub whole_page_charge : DatabaseState → ℕ → ℕ → ℕ
+whole_page_charge database number page = page_charge + row_charge * page_rows database number page
 
 -- the page has such a slot, and a row stands in it
 pub record HasSlot (database : DatabaseState) (number page slot : ℕ) : Type 0 where

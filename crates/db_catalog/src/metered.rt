@@ -1,6 +1,6 @@
 // The meter: the only way by which the layers above reach a row. It relies on the ledger for what is paid, and lends
 // rows for as long as the database is lent.
-ghost use Rattle.std.specs.Prelude.{◌≡◌, ◌+◌, ◌*◌, ◌<◌, ◌≤◌, length, Contains, IfOk};
+ghost use Rattle.std.specs.Prelude.{◌≡◌, ℕ, ◌+◌, ◌*◌, ◌<◌, ◌≤◌, drop, length, take, Contains, IfOk};
 ghost use Rattle.btree_index.specs.Cursors.{IsOnRange};
 ghost use Rattle.btree_index.specs.Entries.{HaveWords, entries_left, next_charge};
 ghost use Rattle.work_ledger.specs.Account.{IsInBounds, max_account};
@@ -11,14 +11,14 @@ ghost use Rattle.db_catalog.specs.Database.{IsRowAt, StandAsWords, table_at};
 ghost use Rattle.db_catalog.specs.Tables.{AreColumnsOfTable};
 ghost use Rattle.db_catalog.specs.Indexes.{index_at, index_height};
 ghost use Rattle.db_catalog.specs.Cursors.{GivesNext, IsCursorOf};
-ghost use Rattle.db_catalog.specs.Meter.{Reads, HasSlot, table_pages, page_rows, IsRowIn};
+ghost use Rattle.db_catalog.specs.Meter.{Reads, HasSlot, table_pages, page_rows, whole_page_charge, IsRowIn};
 
 use crate::database::Database;
 use btree_index::Cursor;
 use heap_pages::PageView;
 use sql_values::{ColumnDef, Texts};
 use std::marker::Model;
-use work_ledger::{Exhausted, Ledger};
+use work_ledger::{Exhausted, Ledger, charge};
 
 /// A database that is read for pay. Counts and texts are free.
 #[derive(Drop)]
@@ -134,6 +134,31 @@ impl<'d> Metered<'d> {
         ensures reads { Reads page_charge self.old self.new result }
     {
         self.database.heap(table).page(no, &mut self.ledger)
+    }
+
+    /// Opens page `no` of a table, from 0, which pays at once for it and for each row on it. How many rows these are.
+    pub fn open_page(&mut self, table: u32, no: u64) -> Result<usize, Exhausted>
+        requires { no < table_pages self.old.database table }
+        ensures rows { IfOk result (λ rows. rows ≡ page_rows self.old.database table no) }
+        ensures reads { Reads (whole_page_charge self.old.database table no)
+            self.old self.new result }
+    {
+        let rows = self.database.rows_on_page(table, no);
+        self.ledger.pay(charge::PAGE + charge::ROW * rows as u128)?;
+        Ok(rows)
+    }
+
+    /// The words of the rows on page `no` of a table, from 0, one row after another. This call pays nothing: whoever reads
+    /// them must have paid for the page and each of its rows, as `open_page` does.
+    pub fn opened_page(&self, table: u32, no: u64) -> &'d [i64]
+        requires { no < table_pages self.now.database table }
+        ensures filled { length result.now ≡ page_rows self.now.database table no
+            * length (table_at self.now.database table).columns }
+        ensures rows { (slot : ℕ) → slot < page_rows self.now.database table no
+            → let width = length (table_at self.now.database table).columns in
+            IsRowIn self.now.database table no slot (take width (drop (slot * width) result.now)) }
+    {
+        self.database.plain_page(table, no)
     }
 
     /// The words of the row in this slot, from 0, of an opened page, which pays for the row.

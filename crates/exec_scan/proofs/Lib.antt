@@ -6,3 +6,5 @@ pub mod Written
 pub mod Wanted
 pub mod Begun
 pub mod ColumnRanges
+pub mod PageRows
+pub mod FoundOnPage

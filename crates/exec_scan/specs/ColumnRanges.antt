@@ -1,11 +1,12 @@
 -- The words of one column in the rows that meet a relation's filter.
-use Rattle.std.specs.Prelude.{◌≡◌, ℕ, ℤ, ◌<◌, false, IfSome, List, Option, Some, None, filter, length, map}
+use Rattle.std.specs.Prelude.{◌≡◌, ℕ, ℤ, ◌<◌, ◌&&◌, Bool, false, not, IfSome, List, Option, Some, None, filter, length, map}
+use Rattle.std.specs.Ordering.{int_eq}
 use Rattle.sql_values.specs.declared.column.ColumnType.{ColumnType}
-use Rattle.sql_values.specs.Words.{word_of}
+use Rattle.sql_values.specs.Words.{null_word, word_of}
 use Rattle.sql_values.specs.Stored.{AreWordsOf, values_of}
 use Rattle.query_block.specs.Blocks.{RelationTree}
 use Rattle.plan_tree.specs.Enumerated.{HasUsable, has_usable}
-use Rattle.plan_tree.specs.Ranges.{Finds}
+use Rattle.plan_tree.specs.Ranges.{Finds, is_in}
 use Rattle.plan_tree.specs.Usable.{is_fixed_usable}
 use Rattle.exec_scan.specs.declared.column_range.ColumnRange.{ColumnRange}
 
@@ -32,3 +33,7 @@ pub record IsRangeOf (texts : List (List ℕ)) (own : RelationTree) (found : Col
 -- so it is, if the words of a column are known
 abbrev pub IsKnownOf : List (List ℕ) → RelationTree → Option ColumnRange → Type 0
 IsKnownOf texts own known = IfSome known (IsRangeOf texts own)
+
+-- whether a word is one of them; NULL's is none
+abbrev pub has_word : ColumnRange → (word : ℤ) → Bool
+has_word found word = not (int_eq word null_word) && is_in found.range word

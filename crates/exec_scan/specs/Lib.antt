@@ -4,6 +4,7 @@ pub mod Stepping
 pub mod TableReading
 pub mod EntryReading
 pub mod ColumnRanges
+pub mod PageRows
 pub mod Reading
 pub mod State
 pub mod Scanning

@@ -21,7 +21,7 @@ use Rattle.exec_scan.specs.declared.way.Way.TheVariants as way
 use Rattle.exec_scan.specs.ColumnRanges.{AreStored, IsKnownOf}
 use Rattle.exec_scan.specs.EntryReading.{EntryReaderState, IsReaderOf, entries_at}
 use Rattle.exec_scan.specs.Stepping.{PaysFor}
-use Rattle.exec_scan.specs.TableReading.{IsTableReader, table_ahead, table_due}
+use Rattle.exec_scan.specs.TableReading.{IsTableReader, TableReaderState, table_ahead, table_due}
 
 -- the table whose rows are read
 abbrev pub table_of : Way → ℕ
@@ -119,17 +119,18 @@ abbrev pub LendsFirst : {T E : Type 0} → (texts : List (List ℕ)) → Relatio
 LendsFirst texts own old new left result words_of =
     IfOk result (λ found. MatchOption found (AreNone old new left) (λ lent. IsFirstRow texts own old new (words_of lent)))
 
--- so it lends the first of the rows that the entries of an index lead to, of the rows ahead on a way, or of those of them
--- that meet the filter
+-- a look at the page that is opened last lends the first of the rows of a table that meet the filter; or none of these is on
+-- it, and all its rows are looked at
+abbrev pub FindsOnPage : {T : Type 0} → DatabaseState → RelationTree → (old new : TableReaderState) → Option T → (words_of : T → List ℤ) → Type 0
+FindsOnPage database own old new found words_of =
+    let kept = λ (reader : TableReaderState). filter (meets_filter own.filter) (table_ahead database reader) in
+    MatchOption found ((kept new ≡ kept old) × (new.slot ≡ new.slots)) (λ lent. IsFirstRow database.texts own (kept old) (kept new) (words_of lent))
+
+-- so it lends the first of the rows that the entries of an index lead to, or of the rows ahead on a way that meet the filter
 abbrev pub LendsWanted : {T E : Type 0} → MeterState → RelationTree → (old new : EntryReaderState) → Result (Option T) E → (words_of : T → List ℤ) → Type 0
 LendsWanted meter own old new result words_of =
     let rows = wanted_rows meter.database own in
     LendsFirst meter.database.texts own (rows old) (rows new) (wanted_due meter.database own new) result words_of
-
-abbrev pub LendsAhead : {T E : Type 0} → MeterState → RelationTree → (old new : Way) → Result (Option T) E → (words_of : T → List ℤ) → Type 0
-LendsAhead meter own old new result words_of =
-    let rows = rows_ahead meter.database own in
-    LendsFirst meter.database.texts own (rows old) (rows new) (read_due meter.database own new) result words_of
 
 abbrev pub LendsKept : {T E : Type 0} → MeterState → RelationTree → (old new : Way) → Result (Option T) E → (words_of : T → List ℤ) → Type 0
 LendsKept meter own old new result words_of =

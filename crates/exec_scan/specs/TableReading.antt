@@ -1,7 +1,7 @@
 -- What is seen of a reader of a whole table, what it has left to read, and what is always so of it.
-use Rattle.std.specs.Prelude.{◌≡◌, ℕ, ℤ, ◌+◌, ◌-◌, ◌*◌, ◌<◌, ◌≤◌, min, List, [], ◌∷◌, length, drop, Option, MatchOption, Result, IfOk, OnOk, OnErr}
+use Rattle.std.specs.Prelude.{◌≡◌, ℕ, ◌+◌, ◌-◌, ◌*◌, ◌<◌, ◌≤◌, min, Bool, true, false, List, [], length, drop}
 use Rattle.sql_values.specs.Limits.{max_columns}
-use Rattle.sql_values.specs.Stored.{ValueRow, StandsFor}
+use Rattle.sql_values.specs.Stored.{ValueRow}
 use Rattle.heap_pages.specs.Rows.{rows_per_page, row_number}
 use Rattle.plan_tree.specs.Left.{Left}
 use Rattle.work_ledger.specs.Charges.{page_charge}
@@ -41,22 +41,15 @@ abbrev pub table_ahead : DatabaseState → TableReaderState → List ValueRow
 table_ahead database reader =
     let table = table_at database reader.table in drop (row_number (length table.columns) reader.page reader.slot) table.rows
 
--- what looking at them has left: no row comes of it alone; 8 is due for each page that isn't opened, and 1 for each row
+-- what looking at them has left: no row comes of it alone; 8 is due for each page that isn't opened, and 1 for each row that
+-- stands on none of the opened pages
 abbrev pub table_due : DatabaseState → TableReaderState → Left
 table_due database reader =
-    record { rest = []; due = 8 * (reader.pages - reader.opened) + length (table_ahead database reader) }
-
--- the words are those of the first row that isn't looked at, which then is looked at
-abbrev pub LooksAt : DatabaseState → (old new : TableReaderState) → List ℤ → Type 0
-LooksAt database old new words =
-    (row : ValueRow) × (table_ahead database old ≡ row ∷ table_ahead database new)
-    × StandsFor database.texts (table_at database old.table).columns words row
-
--- it is lent; or all rows are looked at, nothing is due, and nothing changes
-abbrev pub LendsRow : {T E : Type 0} → DatabaseState → (old new : TableReaderState) → Result (Option T) E → (words_of : T → List ℤ) → Type 0
-LendsRow database old new result words_of =
-    IfOk result (λ found. MatchOption found ((table_ahead database old ≡ []) × ((table_due database old).due ≡ 0) × (new ≡ old))
-    (λ lent. LooksAt database old new (words_of lent)))
+    let table = table_at database reader.table in
+    record {
+      rest = [];
+      due = 8 * (reader.pages - reader.opened) + (length table.rows - reader.opened * rows_per_page (length table.columns));
+    }
 
 -- only where it is in its table changes
 abbrev pub MovesWithinTable : (old new : TableReaderState) → Type 0
@@ -69,20 +62,22 @@ pub record StartsTable (database : DatabaseState) (number : ℕ) (at : TableRead
   pub rows : table_ahead database at ≡ (table_at database number).rows
   pub due : (table_due database at).due ≡ page_charge * table_pages database number + length (table_at database number).rows
 
--- all rows of the opened pages are looked at, and there is a page behind them
+-- all rows of the opened pages are looked at
 pub record EndsPage (database : DatabaseState) (at : TableReaderState) : Type 0 where
   pub reader : IsTableReader database at
   pub looked : at.slot ≡ at.slots
-  pub page : at.opened < at.pages
 
--- the next page is opened, none of whose rows is looked at; or it is refused, and nothing changes
-pub record OpensPage {T E : Type 0} (database : DatabaseState) (old new : TableReaderState) (result : Result T E) : Type 0 where
-  pub opened : OnOk result (new.opened ≡ old.opened + 1)
-  pub some : OnOk result (new.slot < new.slots)
-  pub rows : OnOk result (table_ahead database new ≡ table_ahead database old)
-  pub unchanged : OnErr result (new ≡ old)
+-- the next page is opened, none of whose rows is looked at; or all pages are opened, nothing is due, and nothing changes
+abbrev pub OpensNext : DatabaseState → (old new : TableReaderState) → (more : Bool) → Type 0
+OpensNext database old new true = (new.opened ≡ old.opened + 1) × (table_ahead database new ≡ table_ahead database old)
+OpensNext database old new false = (table_ahead database old ≡ []) × ((table_due database old).due ≡ 0) × (new ≡ old)
 
 -- it goes on in its table
 pub record ReadsTableOn (database : DatabaseState) (old new : TableReaderState) : Type 0 where
   pub moves : MovesWithinTable old new
+  pub reader : IsTableReader database new
+
+-- it looks at rows of the page at hand, and opens none
+pub record StaysOnPage (database : DatabaseState) (old new : TableReaderState) : Type 0 where
+  pub moves : new ≡ record old { slot = new.slot }
   pub reader : IsTableReader database new

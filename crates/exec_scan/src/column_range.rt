@@ -1,17 +1,16 @@
-// The words of one column, by which most rows that don't meet a relation's filter are told at one look. It relies on the
-// range of words by which an index would find the rows that do, and looks up a text once, when the range is made.
-ghost use Rattle.std.specs.Prelude.{◌≡◌, ◌≤◌, ◌&&◌, not, [], length, option_map};
+// The words of one column, by which most rows of a page that don't meet a relation's filter are passed in one loop. It relies
+// on the range of words by which an index would find the rows that do, and looks up a text once, when the range is made.
+ghost use Rattle.std.specs.Prelude.{◌≡◌, ℤ, ◌*◌, ◌<◌, ◌≤◌, ◌&&◌, not, [], Some, IfSome, FitsSigned, int_le, length, option_map};
+ghost use Rattle.std.specs.Int.{w64};
 ghost use Rattle.std.specs.Ordering.{int_eq};
 ghost use Rattle.sql_values.specs.Limits.{max_columns};
 ghost use Rattle.sql_values.specs.Words.{null_word};
-ghost use Rattle.sql_values.specs.Stored.{values_of};
 ghost use Rattle.query_block.specs.Blocks.{IsRelation, relation_tree};
-ghost use Rattle.query_block.specs.Meaning.{meets_filter};
-ghost use Rattle.plan_tree.specs.Ranges.{is_in};
-ghost use Rattle.exec_scan.specs.ColumnRanges.{AreStored, IsFirstUsable, IsKnownOf};
+ghost use Rattle.exec_scan.specs.ColumnRanges.{IsFirstUsable, IsKnownOf};
+ghost use Rattle.exec_scan.specs.PageRows.{AreKnownWords, IsFirstSlot, may_meet};
 
 use plan_tree::{WordRange, has_usable, range_of};
-use query_block::{Relation, meets_filter};
+use query_block::Relation;
 use sql_values::{NULL_WORD, Texts};
 
 /// A column, and the words that it may have in a row that meets a relation's filter. NULL's is none of them.
@@ -52,37 +51,54 @@ impl ColumnRange {
         })
     }
 
-    // Whether it has this word.
-    fn has(self, word: i64) -> bool
-        ensures { result ≡ (not (int_eq word null_word) && is_in self.range word) }
+    // The least word that may be one of them. NULL's is less than any other.
+    fn least(self) -> i64
+        ensures { (word : ℤ) → FitsSigned w64 word
+            → int_le result word ≡ (not (int_eq word null_word) && int_le self.range.from word) }
     {
-        word != NULL_WORD && self.range.from <= word && word <= self.range.to
+        self.range.from.max(NULL_WORD + 1)
+    }
+
+    // The first slot from `slot` on whose row has one of these words in the column, or `slots` where none has. Each row has
+    // `width` words.
+    fn next_within(self, page: &[i64], width: usize, slot: usize, slots: usize) -> usize
+        requires column { self.column < width }
+        requires filled { length page.now ≡ slots * width }
+        requires slot { slot ≤ slots }
+        ensures first { IsFirstSlot (may_meet (Some self) page.now width) slot slots result }
+        ensures words { AreKnownWords (Some self) page.now width slot result }
+    {
+        let column = usize::from(self.column);
+        let least = self.least();
+        let greatest = self.range.to;
+        for at in slot..slots {
+            let word = page[at * width + column];
+            // Both tests, then one jump: where few rows pass it is seldom mispredicted.
+            if (least <= word) & (word <= greatest) {
+                return at;
+            }
+        }
+        slots
     }
 }
 
-/// Whether a row meets a relation's filter. Where words are known, a row without one of them doesn't, and the filter's
-/// conditions aren't asked.
-pub(crate) fn is_kept(
-    relation: &Relation,
+/// The first slot from `slot` on whose row may meet a relation's filter, by the words that are known of the rows that do; or
+/// `slots` where none may. Each row has `width` words.
+pub(crate) fn next_candidate(
     known: Option<ColumnRange>,
-    row: &[i64],
-    texts: &Texts,
-) -> bool
-    requires relation { IsRelation [] (relation_tree relation.now) }
-    requires known { IsKnownOf texts.now (relation_tree relation.now) known }
-    requires row { AreStored texts.now relation.now.columns row.now }
-    ensures { result ≡ meets_filter (relation_tree relation.now).filter
-        (values_of texts.now relation.now.columns row.now) }
+    page: &[i64],
+    width: usize,
+    slot: usize,
+    slots: usize,
+) -> usize
+    requires column { IfSome known (λ found. found.column < width) }
+    requires filled { length page.now ≡ slots * width }
+    requires slot { slot ≤ slots }
+    ensures first { IsFirstSlot (may_meet known page.now width) slot slots result }
+    ensures words { AreKnownWords known page.now width slot result }
 {
-    if let Some(found) = known {
-        if !found.has(row[found.column as usize]) {
-            return false;
-        }
+    match known {
+        None => slot,
+        Some(found) => found.next_within(page, width, slot, slots),
     }
-    meets_filter(
-        relation.filter.as_slice(),
-        relation.columns.as_slice(),
-        row,
-        texts,
-    )
 }

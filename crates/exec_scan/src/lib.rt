@@ -9,6 +9,7 @@
 
 mod column_range;
 mod entry_reader;
+mod page_rows;
 mod relation_place;
 mod scan_op;
 mod table_reader;

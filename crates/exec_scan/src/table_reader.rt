@@ -1,13 +1,17 @@
-// The rows of a whole table, page after page. It relies on the meter to lend each row for pay, and never looks at a row
-// twice.
-ghost use Rattle.work_ledger.specs.Charges.{page_charge};
-ghost use Rattle.db_catalog.specs.Meter.{Reads};
+// The rows of a whole table, page after page. It relies on the meter to open each page for pay, that of all rows on it, and
+// never looks at a row twice.
+ghost use Rattle.std.specs.Prelude.{◌≡◌, IfOk};
+ghost use Rattle.query_block.specs.Blocks.{relation_tree};
+ghost use Rattle.exec_scan.specs.ColumnRanges.{IsKnownOf};
+ghost use Rattle.exec_scan.specs.Reading.{FindsOnPage, IsRelationIn};
 ghost use Rattle.exec_scan.specs.Stepping.{PaysFor};
-ghost use Rattle.exec_scan.specs.TableReading.{EndsPage, HasTable, IsTableReader, LendsRow, OpensPage};
+ghost use Rattle.exec_scan.specs.TableReading.{EndsPage, HasTable, IsTableReader, StaysOnPage, OpensNext};
 ghost use Rattle.exec_scan.specs.TableReading.{ReadsTableOn, StartsTable, table_due};
 
+use crate::column_range::ColumnRange;
+use crate::page_rows::{next_kept, row_in};
 use db_catalog::Metered;
-use heap_pages::PageView;
+use query_block::Relation;
 use std::marker::Model;
 use work_ledger::Exhausted;
 
@@ -17,8 +21,8 @@ pub(crate) struct TableReader {
     table: u32,
     pages: u64,
     opened: u64,
-    // The last page that was opened. Before that it has no rows.
-    page: PageView,
+    // The number of the last page that was opened. Before that it has no rows.
+    page: u64,
     slots: usize,
     slot: usize,
 }
@@ -32,7 +36,7 @@ impl Model for TableReader {
       table = reader.table;
       pages = reader.pages;
       opened = reader.opened;
-      page = reader.page.number;
+      page = reader.page;
       slots = reader.slots;
       slot = reader.slot;
     } };
@@ -48,46 +52,57 @@ impl TableReader {
             table,
             pages: meter.pages(table),
             opened: 0,
-            page: PageView { number: 0 },
+            page: 0,
             slots: 0,
             slot: 0,
         }
     }
 
-    // Opens the next page, once all rows of the one before are looked at.
-    fn open_page(&mut self, meter: &mut Metered<'_>) -> Result<(), Exhausted>
+    /// Opens the next page, once all rows of the one before are looked at, which pays for it and all its rows. False where all
+    /// pages are opened.
+    pub(crate) fn open_next(&mut self, meter: &mut Metered<'_>) -> Result<bool, Exhausted>
         requires { EndsPage meter.old.database self.old }
-        ensures opens { OpensPage meter.old.database self.old self.new result }
-        ensures reads { Reads page_charge meter.old meter.new result }
-        ensures goes_on { ReadsTableOn meter.old.database self.old self.new }
-    {
-        self.page = meter.scan_page(self.table, self.opened)?;
-        self.opened += 1;
-        self.slots = meter.rows_on_page(self.table, self.page.number);
-        self.slot = 0;
-        Ok(())
-    }
-
-    /// Looks at the next row, for which it pays, and for its page where that one isn't opened yet. None where all rows are
-    /// looked at.
-    pub(crate) fn read<'d>(
-        &mut self,
-        meter: &mut Metered<'d>,
-    ) -> Result<Option<&'d [i64]>, Exhausted>
-        requires reader { IsTableReader meter.old.database self.old }
-        ensures row { LendsRow meter.old.database self.old self.new result (λ words. words.now) }
+        ensures opens { IfOk result (OpensNext meter.old.database self.old self.new) }
         ensures pays { PaysFor (table_due meter.old.database)
             self.old self.new meter.old meter.new result }
         ensures goes_on { ReadsTableOn meter.old.database self.old self.new }
     {
-        if self.slot == self.slots {
-            if self.opened == self.pages {
-                return Ok(None);
-            }
-            self.open_page(meter)?;
+        if self.opened == self.pages {
+            return Ok(false);
         }
-        let row = meter.row(self.table, &self.page, self.slot)?;
-        self.slot += 1;
-        Ok(Some(row))
+        self.slots = meter.open_page(self.table, self.opened)?;
+        self.page = self.opened;
+        self.opened += 1;
+        self.slot = 0;
+        Ok(true)
+    }
+
+    /// Looks on, at the rows of the page that was opened last, for the next one that meets the relation's filter. None where
+    /// all of them are looked at. They are paid since the page is opened.
+    pub(crate) fn find_on_page<'d>(
+        &mut self,
+        relation: &Relation,
+        known: Option<ColumnRange>,
+        meter: &Metered<'d>,
+    ) -> Option<&'d [i64]>
+        requires reader { IsTableReader meter.now.database self.old }
+        requires relation { IsRelationIn meter.now.database (relation_tree relation.now) }
+        requires table { self.old.table ≡ relation.now.table }
+        requires known { IsKnownOf meter.now.database.texts (relation_tree relation.now) known }
+        ensures row { FindsOnPage meter.now.database (relation_tree relation.now)
+            self.old self.new result (λ words. words.now) }
+        ensures looks { StaysOnPage meter.now.database self.old self.new }
+    {
+        if self.slot == self.slots {
+            return None;
+        }
+        let page = meter.opened_page(self.table, self.page);
+        let found = next_kept(relation, known, meter.texts(), page, self.slot, self.slots);
+        if found == self.slots {
+            self.slot = found;
+            return None;
+        }
+        self.slot = found + 1;
+        Some(row_in(page, relation.columns.as_slice().len(), found))
     }
 }

@@ -4,15 +4,15 @@ ghost use Rattle.std.specs.Prelude.{◌≡◌, OnOk, IsSome};
 ghost use Rattle.query_block.specs.Blocks.{relation_tree};
 ghost use Rattle.exec_scan.specs.EntryReading.{ReadsOn};
 ghost use Rattle.exec_scan.specs.Reading.{CanBeFound, FindsOn, IsRelationIn, IsWayTo, LeadsTo};
-ghost use Rattle.exec_scan.specs.Reading.{LendsAhead, LendsKept, LendsWanted, PaysReading, PaysWanted, known_of, wanted_entries};
-ghost use Rattle.exec_scan.specs.declared.way.Way.TheVariants.{Index};
+ghost use Rattle.exec_scan.specs.Reading.{LendsKept, LendsWanted, PaysReading, PaysWanted, wanted_entries};
+ghost use Rattle.exec_scan.specs.declared.way.Way.TheVariants.{Index, Table};
 
-use crate::column_range::{ColumnRange, is_kept};
+use crate::column_range::ColumnRange;
 use crate::entry_reader::EntryReader;
 use crate::table_reader::TableReader;
 use db_catalog::Metered;
 use plan_tree::range_of;
-use query_block::Relation;
+use query_block::{Relation, meets_filter};
 use work_ledger::Exhausted;
 
 /// The reader of a relation's table, and the words that are known of the rows that meet the relation's filter.
@@ -69,6 +69,59 @@ fn read_wanted<'d>(
     reader.read(meter)
 }
 
+// Reads on to the next of them that meets the relation's filter. None where none is left.
+fn find_wanted<'d>(
+    reader: &mut EntryReader,
+    relation: &Relation,
+    meter: &mut Metered<'d>,
+) -> Result<Option<&'d [i64]>, Exhausted>
+    requires way { IsWayTo meter.old.database (relation_tree relation.now) (Index reader.old) }
+    ensures row { LendsKept meter.old (relation_tree relation.now) (Index reader.old)
+        (Index reader.new) result (λ words. words.now) }
+    ensures pays { PaysWanted (relation_tree relation.now) reader.old reader.new
+        meter.old meter.new result }
+    ensures goes_on { ReadsOn meter.old.database reader.old reader.new }
+{
+    let texts = meter.texts();
+    while let Some(row) = read_wanted(reader, relation, meter)? {
+        if meets_filter(
+            relation.filter.as_slice(),
+            relation.columns.as_slice(),
+            row,
+            texts,
+        ) {
+            return Ok(Some(row));
+        }
+    }
+    Ok(None)
+}
+
+impl TableWay {
+    // Reads on, page after page, to the next row of the relation that meets its filter. None where none is left.
+    fn find<'d>(
+        &mut self,
+        relation: &Relation,
+        meter: &mut Metered<'d>,
+    ) -> Result<Option<&'d [i64]>, Exhausted>
+        requires way { IsWayTo meter.old.database (relation_tree relation.now) (Table self.old) }
+        ensures row { LendsKept meter.old (relation_tree relation.now) (Table self.old)
+            (Table self.new) result (λ words. words.now) }
+        ensures pays { PaysReading (relation_tree relation.now) (Table self.old) (Table self.new)
+            meter.old meter.new result }
+        ensures goes_on { FindsOn meter.old.database (relation_tree relation.now)
+            (Table self.old) (Table self.new) }
+    {
+        'pages: loop {
+            if let Some(row) = self.reader.find_on_page(relation, self.known, meter) {
+                return Ok(Some(row));
+            }
+            if !self.reader.open_next(meter)? {
+                return Ok(None);
+            }
+        }
+    }
+}
+
 impl Way {
     /// The way to a relation's rows by the index on a column, or else through its table. Nothing is read yet.
     pub(crate) fn new(relation: &Relation, column: Option<u8>, meter: &Metered<'_>) -> Way
@@ -82,36 +135,6 @@ impl Way {
                 known: ColumnRange::of(relation, meter.texts()),
             }),
             Some(column) => Way::Index(EntryReader::new(relation.table, column)),
-        }
-    }
-
-    // The words that are known of the rows that meet the relation's filter. An index leads to such words by itself.
-    fn known(&self) -> Option<ColumnRange>
-        ensures { result ≡ known_of self.now }
-    {
-        match self {
-            Way::Table(table) => table.known,
-            Way::Index(_) => None,
-        }
-    }
-
-    // Reads the next row of the relation. None where all rows are read that this way leads to.
-    fn read<'d>(
-        &mut self,
-        relation: &Relation,
-        meter: &mut Metered<'d>,
-    ) -> Result<Option<&'d [i64]>, Exhausted>
-        requires way { IsWayTo meter.old.database (relation_tree relation.now) self.old }
-        ensures row { LendsAhead meter.old (relation_tree relation.now) self.old self.new
-            result (λ words. words.now) }
-        ensures pays { PaysReading (relation_tree relation.now) self.old self.new
-            meter.old meter.new result }
-        ensures goes_on { FindsOn meter.old.database (relation_tree relation.now)
-            self.old self.new }
-    {
-        match self {
-            Way::Table(table) => table.reader.read(meter),
-            Way::Index(reader) => read_wanted(reader, relation, meter),
         }
     }
 
@@ -129,13 +152,9 @@ impl Way {
         ensures goes_on { FindsOn meter.old.database (relation_tree relation.now)
             self.old self.new }
     {
-        let known = self.known();
-        let texts = meter.texts();
-        while let Some(row) = self.read(relation, meter)? {
-            if is_kept(relation, known, row, texts) {
-                return Ok(Some(row));
-            }
+        match self {
+            Way::Table(table) => table.find(relation, meter),
+            Way::Index(reader) => find_wanted(reader, relation, meter),
         }
-        Ok(None)
     }
 }
