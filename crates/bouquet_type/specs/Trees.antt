@@ -1,14 +1,15 @@
 -- Bouquets as plain data, and what holds of each.
-use Rattle.std.specs.Prelude.{◌≡◌, ℕ, ◌≤◌, All, IfSome, List, Option, Vec, length, map}
-use Rattle.std.specs.declared.alloc.Global.{Global}
+use Rattle.std.specs.Prelude.{◌≡◌, ℕ, ◌≤◌, All, IfSome, List, Option, length, map}
 use Rattle.sql_values.specs.Limits.{max_points, max_threshold, max_contours, max_contour_cost}
 use Rattle.query_block.specs.Blocks.{BlockTree}
 use Rattle.plan_tree.specs.Plans.{PlanTree, plan_tree}
 use Rattle.plan_tree.specs.Enumerated.{IsPlan}
 use Rattle.ess_grid.specs.Points.{points_of}
 use Rattle.cost_model.specs.Costing.{CostingTree, IsCosting, costing_tree}
+use Rattle.cost_model.specs.Frontier.{frontier}
 use Rattle.cost_model.specs.Optimal.{optimal_cost}
 use Rattle.bouquet_type.specs.declared.contour.Contour.{Contour}
+use Rattle.bouquet_type.specs.declared.outline.Outline.{Outline}
 use Rattle.bouquet_type.specs.Shapes.{BouquetShape}
 
 -- a contour: its cost, and the plans that are tried on it, in order
@@ -47,7 +48,12 @@ pub record IsBouquet (bouquet : BouquetShape) : Type 0 where
   pub few : length bouquet.contours ≤ max_contours
   pub contours : All (IsContour (bouquet_tree bouquet).costing.block) bouquet.contours
 
--- it may keep the optimal cost at each point of its grid, in the grid's order
-pub record KeepsBouquet (shape : BouquetShape) (kept : Option (Vec ℕ Global)) : Type 0 where
+-- the optimal cost at each point of its grid, and for each contour the points of its frontier, in the grid's order
+pub record IsOutline (bouquet : BouquetTree) (outline : Outline) : Type 0 where
+  pub costs : outline.costs.items ≡ map (optimal_cost bouquet.costing) (points_of bouquet.costing.grid)
+  pub frontiers : map (λ points. points.items) outline.frontiers.items ≡ map (λ contour. frontier bouquet.costing contour.cost) bouquet.contours
+
+-- it may keep these
+pub record KeepsBouquet (shape : BouquetShape) (kept : Option Outline) : Type 0 where
   pub bouquet : IsBouquet shape
-  pub costs : IfSome kept (λ costs. costs.items ≡ map (optimal_cost (bouquet_tree shape).costing) (points_of shape.grid))
+  pub outline : IfSome kept (IsOutline (bouquet_tree shape))

@@ -4,10 +4,11 @@ ghost use Rattle.sql_values.specs.Limits.{max_points, max_threshold, max_contour
 ghost use Rattle.ess_grid.specs.Points.{points_of};
 ghost use Rattle.cost_model.specs.Optimal.{optimal_cost};
 ghost use Rattle.bouquet_type.specs.Shapes.{bouquet_shape, cost_on};
-ghost use Rattle.bouquet_type.specs.Trees.{IsBouquet, bouquet_tree};
+ghost use Rattle.bouquet_type.specs.Trees.{IsBouquet, IsOutline, bouquet_tree};
 ghost use Rattle.bouquet_type.specs.Budgets.{budget_of, most_plans};
 
 use crate::contour::Contour;
+use crate::outline::Outline;
 use cost_model::{Costing, Stats};
 use ess_grid::Grid;
 use query_block::Block;
@@ -31,8 +32,8 @@ pub struct Bouquet {
     grid: Grid,
     threshold: u32,
     contours: Vec<Contour>,
-    // The optimal cost at each point of the grid, in the grid's order, where whoever made the bouquet knew them.
-    optimal_costs: Option<Vec<u128>>,
+    // What whoever made the bouquet knew of its grid's points, if it is kept.
+    outline: Option<Outline>,
 }
 
 impl Model for Bouquet {
@@ -60,7 +61,7 @@ impl Model for Bouquet {
       grid = b.grid;
       threshold = b.threshold;
       contours = b.contours.items;
-    }) b.optimal_costs };
+    }) b.outline };
 }
 
 impl Bouquet {
@@ -82,18 +83,17 @@ impl Bouquet {
             grid,
             threshold,
             contours,
-            optimal_costs: None,
+            outline: None,
         }
     }
 
-    /// The same bouquet, which keeps the optimal cost at each point of its grid, in the grid's order. It takes no memory.
-    pub fn with_optimal_costs(self, costs: Vec<u128>) -> Bouquet
-        requires { costs.items
-            ≡ map (optimal_cost (bouquet_tree self).costing) (points_of self.grid) }
+    /// The same bouquet, which keeps its outline. It takes no memory.
+    pub fn with_outline(self, outline: Outline) -> Bouquet
+        requires { IsOutline (bouquet_tree self) outline }
         ensures { result ≡ self }
     {
         Bouquet {
-            optimal_costs: Some(costs),
+            outline: Some(outline),
             ..self
         }
     }
@@ -146,13 +146,23 @@ impl Bouquet {
         Costing::new(&self.block, &self.stats, &self.grid)
     }
 
+    /// The optimal costs of its grid's points, and the frontiers of its contours. None where it doesn't keep them.
+    pub fn outline(&self) -> Option<&Outline>
+        ensures { IfSome result (λ outline. IsOutline (bouquet_tree self.now) outline.now) }
+    {
+        match &self.outline {
+            Some(outline) => Some(outline),
+            None => None,
+        }
+    }
+
     /// The optimal cost at each point of its grid, in the grid's order, in units of work. None where it doesn't keep them.
     pub fn optimal_costs(&self) -> Option<&[u128]>
         ensures { IfSome result (λ costs. costs.now
             ≡ map (optimal_cost (bouquet_tree self.now).costing) (points_of self.now.grid)) }
     {
-        match &self.optimal_costs {
-            Some(costs) => Some(costs.as_slice()),
+        match &self.outline {
+            Some(outline) => Some(outline.costs.as_slice()),
             None => None,
         }
     }

@@ -11,6 +11,7 @@ mod contour;
 mod kept;
 mod ladder;
 mod law;
+mod outline;
 mod report;
 mod schedule;
 
@@ -22,5 +23,6 @@ pub use law::{
     a_run_ends_with_the_first_that_fits, a_sound_bouquet_meets_the_bound,
     there_is_one_compiled_bouquet,
 };
+pub use outline::Outline;
 pub use report::{Report, RunFault};
 pub use schedule::{Attempt, Schedule};

@@ -10,6 +10,7 @@ use Rattle.bouquet_type.specs.Compiled.{IsCompiled, compiled}
 use Rattle.bouquet_type.specs.Sound.{IsSound}
 use Rattle.bouquet_type.specs.Ladders.{AreTried}
 use Rattle.contours.specs.Contours.{AreContours, bouquet_of}
+use Rattle.contours.specs.declared.maker.Found.{Found}
 use Rattle.contours.specs.Lazy.{MakerState, Makes, whole_of, ahead_of}
 use Rattle.contours.proofs.Count.{compiled-is, count-last, long-compiled}
 use Rattle.contours.proofs.Foot.{HasPlan, compiled-foot, contours-shaped}
@@ -37,9 +38,9 @@ collected-more costing threshold contours contour old new whole ahead are =
     }
 
 -- where no contour was made none is left
-pub made-none : (old new : MakerState) (made : Option Contour) → Makes old new made → ((contour : Contour) → made ≡ Some contour → ⊥) → ahead_of old ≡ []
+pub made-none : (old new : MakerState) (made : Option Found) → Makes old new made → ((found : Found) → made ≡ Some found → ⊥) → ahead_of old ≡ []
 made-none old new None makes none = makes.0
-made-none old new (Some contour) makes none = absurd (none contour refl)
+made-none old new (Some found) makes none = absurd (none found refl)
 
 pub collected-all : (costing : CostingTree) (threshold : ℕ) (contours : List Contour) (m : MakerState) → IsCosting costing → threshold ≤ 1000 → ahead_of m ≡ []
     → AreCollected costing threshold contours m → AreContours costing threshold contours

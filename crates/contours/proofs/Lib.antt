@@ -4,3 +4,4 @@ pub mod Count
 pub mod Soundness
 pub mod Foot
 pub mod Collected
+pub mod Outlined

@@ -13,7 +13,7 @@ use query_block::Block;
 use std::alloc::{AllocError, Global};
 
 /// The compiled bouquet of a block, by the counts of its tables, on a grid with the axes of the block, with a threshold in
-/// percent. It keeps the optimal costs of the grid's points, which it was made by. An error is want of memory alone.
+/// percent. It keeps its outline, by which it was made. An error is want of memory alone.
 pub fn compile(
     alloc: Global,
     block: Block,
@@ -29,5 +29,5 @@ pub fn compile(
 {
     let made = make(alloc, &Costing::new(&block, &stats, &grid), threshold)?;
     let bouquet = Bouquet::new(block, stats, grid, threshold, made.contours);
-    Ok(bouquet.with_optimal_costs(made.costs))
+    Ok(bouquet.with_outline(made.outline))
 }

@@ -1,42 +1,59 @@
-// All contours of a compiled bouquet, with the optimal costs of the grid.
+// All contours of a compiled bouquet, with the optimal costs of the grid and the frontiers.
 ghost use Rattle.std.specs.Prelude.{◌≡◌, ◌≤◌, IfOk};
 ghost use Rattle.sql_values.specs.Limits.{max_threshold};
 ghost use Rattle.cost_model.specs.Costing.{costing_tree};
-ghost use Rattle.plan_space.specs.Surface.{optimal_costs};
-ghost use Rattle.contours.specs.Contours.{AreContours};
+ghost use Rattle.cost_model.specs.FrontierPoints.{frontier_points};
+ghost use Rattle.bouquet_type.specs.Trees.{IsOutline};
+ghost use Rattle.contours.specs.Contours.{AreContours, bouquet_of};
 
 use crate::maker::Maker;
-use bouquet_type::Contour;
-use cost_model::Costing;
+use bouquet_type::{Contour, Outline};
+use cost_model::{Costing, FrontierPoint};
+use ess_grid::Point;
 use plan_space::Outlook;
 use std::alloc::{AllocError, Global};
 
-// The contours by an outlook.
-fn contours_by(
-    alloc: Global,
-    outlook: &Outlook<'_>,
-    threshold: u32,
-) -> Result<Vec<Contour>, AllocError>
-    requires { threshold ≤ max_threshold }
-    ensures { IfOk result (λ contours.
-        AreContours (costing_tree outlook.now) threshold contours.items) }
-{
-    let _costing = outlook.costing();
-    let mut maker = Maker::new(outlook, threshold);
-    let mut contours = Vec::new(alloc);
-    while let Some(contour) = maker.next(alloc)? {
-        contours.push(contour)?;
-    }
-    Ok(contours)
-}
-
-/// The contours of a compiled bouquet, and what they were made by.
+/// The contours of a compiled bouquet, and what is known of the points of its grid.
 #[derive(Drop)]
 pub(crate) struct Made {
     /// The contours, the cheapest first.
     pub(crate) contours: Vec<Contour>,
-    /// The optimal cost at each point of the grid, in its order.
-    pub(crate) costs: Vec<u128>,
+    /// The optimal costs, and the frontier of each contour.
+    pub(crate) outline: Outline,
+}
+
+// The points of a frontier. An error is want of memory.
+fn points(alloc: Global, frontier: &[FrontierPoint]) -> Result<Vec<Point>, AllocError>
+    ensures { IfOk result (λ points. points.items ≡ frontier_points frontier.now) }
+{
+    let mut points = Vec::with_capacity(alloc, frontier.len())?;
+    for at in frontier {
+        points.push(at.point)?;
+    }
+    Ok(points)
+}
+
+// The contours by an outlook. An error is want of memory.
+fn contours_by(alloc: Global, outlook: &Outlook<'_>, threshold: u32) -> Result<Made, AllocError>
+    requires { threshold ≤ max_threshold }
+    ensures contours { IfOk result (λ made.
+        AreContours (costing_tree outlook.now) threshold made.contours.items) }
+    ensures outline { IfOk result (λ made.
+        IsOutline (bouquet_of (costing_tree outlook.now) threshold made.contours.items) made.outline) }
+{
+    let _costing = outlook.costing();
+    let mut maker = Maker::new(outlook, threshold);
+    let mut contours = Vec::new(alloc);
+    let mut frontiers = Vec::new(alloc);
+    while let Some(found) = maker.next(alloc)? {
+        frontiers.push(points(alloc, found.frontier.as_slice())?)?;
+        contours.push(found.contour)?;
+    }
+    let costs = Vec::from_slice(alloc, outlook.surface().costs())?;
+    Ok(Made {
+        contours,
+        outline: Outline { costs, frontiers },
+    })
 }
 
 /// Makes the contours of the compiled bouquet of a block. An error is want of memory.
@@ -44,10 +61,10 @@ pub(crate) fn make(alloc: Global, costing: &Costing<'_>, threshold: u32) -> Resu
     requires { threshold ≤ max_threshold }
     ensures contours { IfOk result (λ made.
         AreContours (costing_tree costing.now) threshold made.contours.items) }
-    ensures costs { IfOk result (λ made. made.costs.items ≡ optimal_costs (costing_tree costing.now)) }
+    ensures outline { IfOk result (λ made.
+        IsOutline (bouquet_of (costing_tree costing.now) threshold made.contours.items) made.outline) }
 {
     let outlook = Outlook::new(alloc, costing)?;
-    let contours = contours_by(alloc, &outlook, threshold)?;
-    let costs = Vec::from_slice(alloc, outlook.surface().costs())?;
-    Ok(Made { contours, costs })
+    let made = contours_by(alloc, &outlook, threshold)?;
+    Ok(made)
 }

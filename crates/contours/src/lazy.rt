@@ -62,10 +62,10 @@ impl<'o> Ladder for Lazy<'o> {
         ensures climbs { Climbs (lazy_ladder self.old) (lazy_ladder self.new) result }
         ensures ladder { IsLadder (lazy_ladder self.new) }
     {
-        let Some(contour) = self.maker.next(alloc)? else {
+        let Some(found) = self.maker.next(alloc)? else {
             return Ok(false);
         };
-        self.hand = Some(contour);
+        self.hand = Some(found.contour);
         Ok(true)
     }
 

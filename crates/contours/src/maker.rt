@@ -2,15 +2,27 @@
 ghost use Rattle.std.specs.Prelude.{◌≡◌, ◌≤◌, IfOk, OnErr};
 ghost use Rattle.sql_values.specs.Limits.{max_threshold, max_contour_cost};
 ghost use Rattle.cost_model.specs.Costing.{costing_tree};
+ghost use Rattle.cost_model.specs.Frontier.{frontier};
+ghost use Rattle.cost_model.specs.FrontierPoints.{frontier_points};
 ghost use Rattle.bouquet_type.specs.Trees.{contour_tree};
 ghost use Rattle.bouquet_type.specs.Compiled.{compiled_contour, contour_count};
 ghost use Rattle.contours.specs.Lazy.{Makes};
 
 use anorexic::reduce;
 use bouquet_type::Contour;
+use cost_model::FrontierPoint;
 use plan_space::{CostSurface, Outlook};
 use std::alloc::{AllocError, Global};
 use std::marker::Model;
+
+/// A contour, and the frontier that it was made from.
+#[derive(Drop)]
+pub(crate) struct Found {
+    /// The contour.
+    pub(crate) contour: Contour,
+    /// The points of its frontier, in the grid's order, with their best plans.
+    pub(crate) frontier: Vec<FrontierPoint>,
+}
 
 /// Makes the contours of the compiled bouquet of an outlook, the cheapest first.
 #[derive(Drop)]
@@ -55,21 +67,26 @@ fn count(surface: &CostSurface<'_>) -> u32
     count
 }
 
-// The contour of this cost.
+// The contour of this cost. An error is want of memory.
 fn contour(
     alloc: Global,
     outlook: &Outlook<'_>,
     threshold: u32,
     cost: u128,
-) -> Result<Contour, AllocError>
+) -> Result<Found, AllocError>
     requires threshold { threshold ≤ max_threshold }
     requires cost { cost ≤ max_contour_cost }
-    ensures { IfOk result (λ contour.
-        contour_tree contour ≡ compiled_contour (costing_tree outlook.now) threshold cost) }
+    ensures contour { IfOk result (λ found.
+        contour_tree found.contour ≡ compiled_contour (costing_tree outlook.now) threshold cost) }
+    ensures frontier { IfOk result (λ found.
+        frontier_points found.frontier.items ≡ frontier (costing_tree outlook.now) cost) }
 {
-    let points = outlook.frontier(alloc, cost)?;
-    let plans = reduce(alloc, outlook.costing(), &points, threshold)?;
-    Ok(Contour { cost, plans })
+    let frontier = outlook.frontier(alloc, cost)?;
+    let plans = reduce(alloc, outlook.costing(), &frontier, threshold)?;
+    Ok(Found {
+        contour: Contour { cost, plans },
+        frontier,
+    })
 }
 
 impl<'o> Maker<'o> {
@@ -96,16 +113,16 @@ impl<'o> Maker<'o> {
     }
 
     /// Makes the next contour. None where all were made. An error is want of memory, and the contour is the next one still.
-    pub(crate) fn next(&mut self, alloc: Global) -> Result<Option<Contour>, AllocError>
+    pub(crate) fn next(&mut self, alloc: Global) -> Result<Option<Found>, AllocError>
         ensures made { IfOk result (Makes self.old self.new) }
         ensures stays { OnErr result (self.new ≡ self.old) }
     {
         if self.made == self.count {
             return Ok(None);
         }
-        let contour = contour(alloc, self.outlook, self.threshold, self.cost)?;
+        let found = contour(alloc, self.outlook, self.threshold, self.cost)?;
         self.made += 1;
         self.cost *= 2;
-        Ok(Some(contour))
+        Ok(Some(found))
     }
 }

@@ -1,19 +1,16 @@
 -- Rows say which plans cover a point at or above another one.
-use Rattle.std.proofs.Common.{◌≡◌, ◌∙◌, ◌↔◌, inl, inr, ℕ, ◌+◌, ◌<◌, ◌++◌, List, [], ◌∷◌, get_or, length, map, take, refl, ap, ap₂, sym, arith}
-use Rattle.std.specs.Prelude.{All, Bool, true, false, IsTrue, ◌&&◌, ◌||◌, Some, slice_get, slice_index_or}
+use Rattle.std.proofs.Common.{◌≡◌, ◌∙◌, ◌↔◌, inl, inr, ℕ, List, [], ◌∷◌, get_or, length, refl, ap, ap₂, sym, subst, arith}
+use Rattle.std.specs.Prelude.{All, Bool, true, false, IsTrue}
 use Rattle.std.proofs.lemmas.Bool.{cases_Bool, and_from, and_parts, le-leb, leb-true}
-use Rattle.std.proofs.lemmas.List.{length-map, get_or-map, map-append, take_more}
-use Rattle.std.proofs.lemmas.List.Elements.{All-head, All-tail}
-use Rattle.std.proofs.lemmas.Option.{slice_get_within, get_or_from_slice_get}
 use Rattle.ess_grid.specs.Order.{PointBelow}
-use Rattle.plan_tree.specs.Plans.{PlanTree, Scan}
-use Rattle.cost_model.specs.Costing.{CostingTree}
-use Rattle.cost_model.specs.Frontier.{frontier}
+use Rattle.plan_tree.specs.Plans.{PlanTree}
+use Rattle.cost_model.specs.Costing.{CostingShape, IsCosting, costing_tree}
 use Rattle.cost_model.specs.Greedy.{covers_at}
-use Rattle.bouquet_type.specs.Trees.{ContourTree}
+use Rattle.plan_space.specs.Parts.{nth_plan}
 use Rattle.learned_run.specs.declared.rows.FrontierRow.{FrontierRow}
-use Rattle.learned_run.specs.Skips.{is_at_or_below, covers_above}
-use Rattle.learned_run.specs.Covering.{AreFrontierRows, IsFrontierRow, any_row_covers, row_covers}
+use Rattle.learned_run.specs.declared.rows.TriedPlans.{TriedPlans}
+use Rattle.learned_run.specs.Skips.{is_at_or_below}
+use Rattle.learned_run.specs.Covering.{AreTriedPlans, IsFrontierRow, IsRowOfPlans, KeepsPlans, covers_point}
 
 -- the test of the order of points
 pub below-passes : (point other : List ℕ) → PointBelow point other → is_at_or_below point other ≡ true
@@ -38,45 +35,35 @@ below-told false point other is =
       | inr fails ↦ sym fails
     ]
 
--- what a row says of the plan at a place
-row-says : (costing : CostingTree) (threshold : ℕ) (plans : List PlanTree) (row : FrontierRow) (place : ℕ) (p : PlanTree) → IsFrontierRow costing threshold plans row
-    → slice_get plans place ≡ Some p → slice_index_or row.covers.items place false ≡ covers_at costing threshold p row.point
-row-says costing threshold plans row place p is at =
-    let test : PlanTree → Bool = λ q. covers_at costing threshold q row.point in
-    ap (λ tests. slice_index_or tests place false) is
-    ∙ get_or-map test plans place (Scan 0) false (slice_get_within plans place p at)
-    ∙ ap test (get_or_from_slice_get plans place p (Scan 0) at)
+-- whatever point plans are costed at, they are the same
+pub keeps-back : (old new : TriedPlans) → KeepsPlans old new → KeepsPlans new old
+keeps-back old new same = record { costing = sym same.costing; plans = sym same.plans; count = sym same.count; threshold = sym same.threshold }
 
-rows-any : (costing : CostingTree) (threshold : ℕ) (plans : List PlanTree) (place : ℕ) (p : PlanTree) (point : List ℕ) (rows : List FrontierRow)
-    → slice_get plans place ≡ Some p → All (IsFrontierRow costing threshold plans) rows
-    → any_row_covers place point rows ≡ covers_above costing threshold p point (map (λ row. row.point) rows)
-rows-any costing threshold plans place p point [] at each = refl
-rows-any costing threshold plans place p point (row ∷ more) at each =
-    let here = row-says costing threshold plans row place p (All-head (IsFrontierRow costing threshold plans) row more each) at in
-    ap₂ (λ covers others. (is_at_or_below point row.point && covers) || others) here
-    (rows-any costing threshold plans place p point more at (All-tail (IsFrontierRow costing threshold plans) row more each))
+pub keeps-on : (first old new : TriedPlans) → KeepsPlans first old → KeepsPlans old new → KeepsPlans first new
+keeps-on first old new before same = record {
+  costing = same.costing ∙ before.costing;
+  plans = same.plans ∙ before.plans;
+  count = same.count ∙ before.count;
+  threshold = same.threshold ∙ before.threshold;
+}
 
--- the rows of a contour's frontier say whether a plan of the contour covers a point of it at or above one
-pub rows-cover : (costing : CostingTree) (threshold : ℕ) (contour : ContourTree) (rows : List FrontierRow) (place : ℕ) (p : PlanTree) (point : List ℕ)
-    → AreFrontierRows costing threshold contour rows → slice_get contour.plans place ≡ Some p
-    → any_row_covers place point rows ≡ covers_above costing threshold p point (frontier costing contour.cost)
-rows-cover costing threshold contour rows place p point are at =
-    rows-any costing threshold contour.plans place p point rows at are.each ∙ ap (covers_above costing threshold p point) are.points
+pub tried-kept : (old new : TriedPlans) → KeepsPlans old new → AreTriedPlans old → AreTriedPlans new
+tried-kept old new same is = record {
+  costing = subst (λ (shape : CostingShape). IsCosting (costing_tree shape)) (sym same.costing) is.costing;
+  threshold = omega (arith, same.threshold, is.threshold);
+  count = same.count ∙ is.count ∙ ap length (sym same.plans);
+}
 
--- each row has a test for each plan
-pub rows-wide : (costing : CostingTree) (threshold : ℕ) (plans : List PlanTree) (place : ℕ) (rows : List FrontierRow) → place < length plans
-    → All (IsFrontierRow costing threshold plans) rows → All (λ row. place < length row.covers.items) rows
-rows-wide costing threshold plans place rows there each = λ k d within.
-    omega (arith, there, ap length (each k d within), length-map plans (λ q. covers_at costing threshold q (slice_index_or rows k d).point))
+pub row-kept : (old new : TriedPlans) (row : FrontierRow) → KeepsPlans old new → IsRowOfPlans old row → IsRowOfPlans new row
+row-kept old new row same is =
+    subst (λ (shape : CostingShape). IsFrontierRow (costing_tree shape) new.threshold new.all.plans row) (sym same.costing)
+    (subst (λ (percent : ℕ). IsFrontierRow (costing_tree old.all.costing) percent new.all.plans row) (sym same.threshold)
+    (subst (λ (plans : List PlanTree). IsFrontierRow (costing_tree old.all.costing) old.threshold plans row) (sym same.plans) is))
 
--- a row tells whether its point is above and covered
-pub row-told : (told : Bool) (point : List ℕ) (row : FrontierRow) (place : ℕ) → (IsTrue told ↔ PointBelow point row.point) → told ≡ true
-    → slice_index_or row.covers.items place false ≡ row_covers place point row
-row-told told point row place is passes =
-    let above : is_at_or_below point row.point ≡ true = sym (below-told told point row.point is) ∙ passes in
-    rw above refl
+pub rows-kept : (old new : TriedPlans) (rows : List FrontierRow) → KeepsPlans old new → All (IsRowOfPlans old) rows → All (IsRowOfPlans new) rows
+rows-kept old new rows same are = λ k d there. row-kept old new (get_or rows k d) same (are k d there)
 
-pub row-off : (told : Bool) (point : List ℕ) (row : FrontierRow) (place : ℕ) → (IsTrue told ↔ PointBelow point row.point) → told ≡ false → told ≡ row_covers place point row
-row-off told point row place is fails =
-    let above : is_at_or_below point row.point ≡ false = sym (below-told told point row.point is) ∙ fails in
-    fails ∙ rw above refl
+pub covers-kept : (old new : TriedPlans) (place : ℕ) (point : List ℕ) → KeepsPlans old new → covers_point new place point ≡ covers_point old place point
+covers-kept old new place point same =
+    ap (λ (shape : CostingShape). covers_at (costing_tree shape) new.threshold (nth_plan new.all.plans place) point) same.costing
+    ∙ ap₂ (λ (percent : ℕ) (plans : List PlanTree). covers_at (costing_tree old.all.costing) percent (nth_plan plans place) point) same.threshold same.plans

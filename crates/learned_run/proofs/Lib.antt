@@ -3,6 +3,8 @@ pub mod Levels
 pub mod CornerPoints
 pub mod RuledOut
 pub mod Covered
+pub mod Looked
+pub mod Outlines
 pub mod Stepped
 pub mod Unskipped
 pub mod Members

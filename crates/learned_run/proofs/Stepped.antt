@@ -1,19 +1,25 @@
 -- Whether an execution is skipped, by the rows of its contour's frontier.
-use Rattle.std.proofs.Common.{◌≡◌, ◌∙◌, ℕ, ◌-◌, ◌≤◌, ◌<◌, List, length, map, get_or, refl, ap, sym, subst, arith}
-use Rattle.std.specs.Prelude.{All, Bool, true, false, Some, None, slice_get}
+use Rattle.std.proofs.Common.{◌≡◌, ◌∙◌, ℕ, ◌-◌, ◌≤◌, ◌<◌, List, length, map, get_or, ap, ap₂, sym, subst, arith}
+use Rattle.std.specs.Prelude.{All, Bool, IfSome, Option, Some, Vec, slice_get, slice_index}
+use Rattle.std.specs.declared.alloc.Global.{Global}
 use Rattle.std.proofs.lemmas.List.{length-map, get_or-map}
 use Rattle.std.proofs.lemmas.Option.{slice_get_within, get_or_from_slice_get}
-use Rattle.plan_tree.specs.Plans.{plan_tree}
-use Rattle.cost_model.specs.Costing.{CostingShape, costing_tree}
+use Rattle.plan_tree.specs.Plans.{PlanTree, Scan, plan_tree}
+use Rattle.cost_model.specs.Costing.{CostingTree, IsCosting, costing_tree}
 use Rattle.cost_model.specs.Frontier.{frontier}
+use Rattle.cost_model.specs.Greedy.{covers_at}
+use Rattle.plan_space.specs.Parts.{nth_plan}
+use Rattle.plan_space.specs.CostedPlans.{HoldsPlans}
 use Rattle.bouquet_type.specs.declared.contour.Contour.{Contour}
 use Rattle.bouquet_type.specs.declared.schedule.Attempt.{Attempt}
-use Rattle.bouquet_type.specs.Shapes.{BouquetShape}
-use Rattle.bouquet_type.specs.Trees.{BouquetTree, ContourTree, bouquet_tree, contour_tree}
+use Rattle.bouquet_type.specs.Shapes.{BouquetShape, cost_on}
+use Rattle.bouquet_type.specs.Trees.{BouquetTree, ContourTree, IsBouquet, bouquet_tree, contour_tree}
 use Rattle.learned_run.specs.declared.rows.FrontierRow.{FrontierRow}
+use Rattle.learned_run.specs.declared.rows.TriedPlans.{TriedPlans}
 use Rattle.learned_run.specs.Skips.{covers_above}
-use Rattle.learned_run.specs.Covering.{AreFrontierRows, AreFrontiers, AreRowsOfContour, FrontiersShape, IsMemberOf, IsNumbered, any_row_covers, costing_shape, member_of, step_skip}
-use Rattle.learned_run.proofs.Covered.{rows-cover, rows-wide}
+use Rattle.learned_run.specs.Covering.{AreBareRows, AreOfContour, AreOfNumber, IsBareRow, IsFrontierRow, IsMemberOf, IsNumbered, IsRowOfPlans, KeepsPlans, costing_shape, member_of}
+use Rattle.learned_run.proofs.Covered.{tried-kept, rows-kept}
+use Rattle.learned_run.proofs.Looked.{row_points}
 
 -- the contour of a number, as the bouquet holds it
 numbered-is : (contours : List Contour) (number : ℕ) (contour : ContourTree) (held : Contour) → slice_get (map contour_tree contours) (number - 1) ≡ Some contour
@@ -25,18 +31,59 @@ numbered-is contours number contour held at is =
     ∙ get_or-map contour_tree contours (number - 1) held (contour_tree held) there
     ∙ ap contour_tree (sym is)
 
--- the rows that are worked out are those of this contour
-pub frontiers-made : (b : BouquetShape) (costing surface : CostingShape) (contours : List Contour) (held : Contour) (number threshold : ℕ) (rows : List FrontierRow)
-    → costing ≡ costing_shape b → surface ≡ costing_shape b → contours ≡ b.contours → held ≡ get_or contours (number - 1) held → threshold ≡ b.threshold
-    → AreFrontierRows (costing_tree surface) threshold (contour_tree held) rows → AreFrontiers (record { bouquet = b; number = number }) costing (Some surface) rows
-frontiers-made b costing surface contours held number threshold rows same_costing same_surface same_contours is same_threshold are = record {
-  same = same_costing;
-  made = same_surface;
+-- a row of which nothing is worked out is one for any plans
+bare-row : (costing : CostingTree) (threshold : ℕ) (plans : List PlanTree) (row : FrontierRow) → IsBareRow costing row → IsFrontierRow costing threshold plans row
+bare-row costing threshold plans row is = record {
+  point = is.point;
+  cost = is.cost;
+  covers = subst (λ (covers : Option (Vec Bool Global)). IfSome covers (λ covers. covers.items ≡ map (λ p. covers_at costing threshold p row.point) plans)) (sym is.bare) tt;
+}
+
+-- the plans of a contour that was come to, and the rows of its frontier
+pub at-hand : (b : BouquetShape) (number : ℕ) (contours : List Contour) (held : Contour) (plans : TriedPlans) (rows : List FrontierRow) → IsBouquet b → contours ≡ b.contours
+    → held ≡ get_or contours (number - 1) held → 1 ≤ number → number ≤ length b.contours → HoldsPlans (costing_shape b) held.plans.items plans.all → plans.count ≡ length held.plans.items
+    → plans.threshold ≡ b.threshold → AreBareRows (bouquet_tree b).costing (frontier (bouquet_tree b).costing (cost_on b number)) rows → AreOfNumber (bouquet_tree b) number plans rows
+at-hand b number contours held plans rows is same at some there holds count percent bare =
+    let costing = (bouquet_tree b).costing in
+    let costs : costing_tree plans.all.costing ≡ costing = ap costing_tree holds.costing in
+    let inside : number - 1 < length contours = omega (arith, some, there, ap length same) in
+    let cost : cost_on b number ≡ held.cost =
+    ap (λ (all : List Contour). slice_index (map (λ (contour : Contour). contour.cost) all) (number - 1)) (sym same)
+    ∙ get_or-map (λ (contour : Contour). contour.cost) contours (number - 1) held 0 inside ∙ ap (λ (contour : Contour). contour.cost) (sym at) in
+    record {
+      tried = record {
+        costing = subst IsCosting (sym costs) is.costing;
+        threshold = omega (arith, percent, is.threshold);
+        count = count ∙ sym (ap length holds.plans ∙ length-map held.plans.items plan_tree);
+      };
+      each = λ k d within.
+          subst (λ (one : CostingTree). IsFrontierRow one plans.threshold plans.all.plans (get_or rows k d)) (sym costs)
+          (bare-row costing plans.threshold plans.all.plans (get_or rows k d) (bare.each k d within));
+      those = λ contour numbered.
+          let listed = subst (λ (cs : List Contour). slice_get (map contour_tree cs) (number - 1) ≡ Some contour) (sym same) numbered.1 in
+          let tree = numbered-is contours number contour held listed at in
+          record {
+            costing = costs;
+            threshold = percent;
+            tried = holds.plans ∙ ap (λ (one : ContourTree). one.plans) (sym tree);
+            points = bare.those ∙ ap (frontier costing) (cost ∙ ap (λ (one : ContourTree). one.cost) (sym tree));
+          };
+    }
+
+-- the same, where rows were looked at
+pub at-hand-still : (bouquet : BouquetTree) (number : ℕ) (old new : TriedPlans) (rows looked : List FrontierRow) → AreOfNumber bouquet number old rows → KeepsPlans old new
+    → All (IsRowOfPlans old) looked → row_points looked ≡ row_points rows → AreOfNumber bouquet number new looked
+at-hand-still bouquet number old new rows looked are same each points = record {
+  tried = tried-kept old new same are.tried;
+  each = rows-kept old new looked same each;
   those = λ contour numbered.
-      let at = subst (λ (cs : List Contour). slice_get (map contour_tree cs) (number - 1) ≡ Some contour) (sym same_contours) numbered.1 in
-      subst (λ (one : ContourTree). AreFrontierRows (bouquet_tree b).costing b.threshold one rows) (sym (numbered-is contours number contour held at is))
-      (subst (λ (n : ℕ). AreFrontierRows (bouquet_tree b).costing n (contour_tree held) rows) same_threshold
-      (subst (λ (shape : CostingShape). AreFrontierRows (costing_tree shape) threshold (contour_tree held) rows) same_surface are));
+      let those = are.those contour numbered in
+      record {
+        costing = ap costing_tree same.costing ∙ those.costing;
+        threshold = same.threshold ∙ those.threshold;
+        tried = same.plans ∙ those.tried;
+        points = points ∙ those.points;
+      };
 }
 
 -- there is such a contour
@@ -45,38 +92,24 @@ step-there b step budget is =
     let trees = map contour_tree b.contours in
     omega (arith, is.numbered.0, slice_get_within trees (step.contour - 1) is.contour is.numbered.1, length-map b.contours contour_tree)
 
--- and these are the rows at hand
-pub held-rows : (b : BouquetShape) (inside view : FrontiersShape) (rows held : List FrontierRow) → inside ≡ view → view.bouquet ≡ b → held ≡ rows
-    → AreRowsOfContour (bouquet_tree inside.bouquet) inside.number rows → AreRowsOfContour (bouquet_tree b) inside.number held
-held-rows b inside view rows held seen same is are =
-    subst (λ (all : List FrontierRow). AreRowsOfContour (bouquet_tree b) inside.number all) (sym is)
-    (subst (λ (one : BouquetShape). AreRowsOfContour (bouquet_tree one) inside.number rows) (ap (λ (f : FrontiersShape). f.bouquet) seen ∙ same) are)
+module _ (bouquet : BouquetTree) (step : Attempt) (budget number : ℕ) (plans : TriedPlans) (rows : List FrontierRow) (is : IsMemberOf bouquet (member_of step budget)) (at : number ≡ step.contour)
+    (are : AreOfNumber bouquet number plans rows) where
+  of-contour : AreOfContour bouquet is.contour plans rows
+  of-contour = are.those is.contour (subst (λ n. IsNumbered bouquet n is.contour) (sym at) is.numbered)
 
-module _ (bouquet : BouquetTree) (step : Attempt) (budget number : ℕ) (rows : List FrontierRow) (is : IsMemberOf bouquet (member_of step budget)) (at : number ≡ step.contour)
-    (are : AreRowsOfContour bouquet number rows) where
-  of-contour : AreFrontierRows bouquet.costing bouquet.threshold is.contour rows
-  of-contour = are is.contour (subst (λ n. IsNumbered bouquet n is.contour) (sym at) is.numbered)
+  listed : slice_get plans.all.plans (step.place - 1) ≡ Some (plan_tree step.plan.now)
+  listed = ap (λ (all : List PlanTree). slice_get all (step.place - 1)) of-contour.tried ∙ is.plan
 
-  -- each row has a test for the step's plan
-  pub step-wide : All (λ row. step.place - 1 < length row.covers.items) rows
-  step-wide =
-      rows-wide bouquet.costing bouquet.threshold is.contour.plans (step.place - 1) rows
-      (slice_get_within is.contour.plans (step.place - 1) (plan_tree step.plan.now) is.plan) of-contour.each
+  -- the step's plan is one of those
+  pub step-among : step.place - 1 < length plans.all.plans
+  step-among = slice_get_within plans.all.plans (step.place - 1) (plan_tree step.plan.now) listed
 
-  step-covers : (point : List ℕ) → any_row_covers (step.place - 1) point rows ≡ covers_above bouquet.costing bouquet.threshold (plan_tree step.plan.now) point (frontier bouquet.costing step.cost)
+  -- and whether it covers is told of the contour's frontier
+  pub step-covers : (point : List ℕ) → covers_above (costing_tree plans.all.costing) plans.threshold (nth_plan plans.all.plans (step.place - 1)) point (row_points rows)
+      ≡ covers_above bouquet.costing bouquet.threshold (plan_tree step.plan.now) point (frontier bouquet.costing step.cost)
   step-covers point =
-      rows-cover bouquet.costing bouquet.threshold is.contour rows (step.place - 1) (plan_tree step.plan.now) point of-contour is.plan
-      ∙ ap (λ cost. covers_above bouquet.costing bouquet.threshold (plan_tree step.plan.now) point (frontier bouquet.costing cost)) (sym is.cost)
-
-  -- it is kept where a row covers, and else skipped
-  pub step-kept : (point : List ℕ) (told : Bool) → told ≡ any_row_covers (step.place - 1) point rows → told ≡ true → None ≡ step_skip bouquet step (Some point) (Some budget)
-  step-kept point told is_told passes =
-      let covers : covers_above bouquet.costing bouquet.threshold (plan_tree step.plan.now) point (frontier bouquet.costing step.cost) ≡ true =
-      sym (step-covers point) ∙ sym is_told ∙ passes in
-      rw covers refl
-
-  pub step-skipped : (point : List ℕ) (told : Bool) → told ≡ any_row_covers (step.place - 1) point rows → told ≡ false → Some point ≡ step_skip bouquet step (Some point) (Some budget)
-  step-skipped point told is_told fails =
-      let covers : covers_above bouquet.costing bouquet.threshold (plan_tree step.plan.now) point (frontier bouquet.costing step.cost) ≡ false =
-      sym (step-covers point) ∙ sym is_told ∙ fails in
-      rw covers refl
+      let p = plan_tree step.plan.now in
+      let plan : nth_plan plans.all.plans (step.place - 1) ≡ p = get_or_from_slice_get plans.all.plans (step.place - 1) p (Scan 0) listed in
+      ap₂ (λ (one : PlanTree) (points : List (List ℕ)). covers_above (costing_tree plans.all.costing) plans.threshold one point points) plan
+      (of-contour.points ∙ ap (frontier bouquet.costing) (sym is.cost))
+      ∙ ap₂ (λ (costing : CostingTree) (percent : ℕ). covers_above costing percent p point (frontier bouquet.costing step.cost)) of-contour.costing of-contour.threshold

@@ -1,41 +1,77 @@
 -- Which plans of a contour cover which points of its frontier; and the members of a schedule, by their places.
-use Rattle.std.specs.Prelude.{◌≡◌, ℕ, ◌-◌, ◌≤◌, ◌&&◌, Bool, false, All, IfSome, List, Option, Some, None, map, slice_get, slice_index_or}
-use Rattle.std.specs.List.{list_any}
+use Rattle.std.specs.Prelude.{◌≡◌, ℕ, ◌-◌, ◌≤◌, Bool, All, IfSome, List, Option, Some, None, length, map, slice_get}
+use Rattle.sql_values.specs.Limits.{max_threshold}
+use Rattle.ess_grid.specs.Points.{IsPoint}
 use Rattle.plan_tree.specs.Plans.{PlanTree, plan_tree}
-use Rattle.cost_model.specs.Costing.{CostingShape, CostingTree}
+use Rattle.cost_model.specs.Costing.{CostingShape, CostingTree, IsCosting, costing_tree}
 use Rattle.cost_model.specs.Frontier.{frontier}
 use Rattle.cost_model.specs.Greedy.{covers_at}
+use Rattle.cost_model.specs.Optimal.{optimal_cost}
+use Rattle.plan_space.specs.Parts.{nth_plan}
 use Rattle.bouquet_type.specs.Trees.{BouquetTree, ContourTree, bouquet_tree}
 use Rattle.bouquet_type.specs.Shapes.{BouquetShape}
 use Rattle.bouquet_type.specs.Schedule.{Member}
 use Rattle.bouquet_type.specs.declared.schedule.Attempt.{Attempt}
 use Rattle.learned_run.specs.declared.rows.FrontierRow.{FrontierRow}
-use Rattle.learned_run.specs.Skips.{is_at_or_below, skip_by}
+use Rattle.learned_run.specs.declared.rows.TriedPlans.{TriedPlans}
+use Rattle.learned_run.specs.Skips.{skip_by}
 
--- which of some plans cover a point
-abbrev pub IsFrontierRow : CostingTree → (threshold : ℕ) → List PlanTree → FrontierRow → Type 0
-IsFrontierRow costing threshold plans row = row.covers.items ≡ map (λ p. covers_at costing threshold p row.point) plans
+-- a point of a contour's frontier with the optimal cost there; and which of some plans cover it, if that is worked out
+pub record IsFrontierRow (costing : CostingTree) (threshold : ℕ) (plans : List PlanTree) (row : FrontierRow) : Type 0 where
+  pub point : IsPoint costing.grid row.point
+  pub cost : row.cost ≡ optimal_cost costing row.point
+  pub covers : IfSome row.covers (λ covers. covers.items ≡ map (λ p. covers_at costing threshold p row.point) plans)
 
--- a row for each point of a contour's frontier, in order
-pub record AreFrontierRows (costing : CostingTree) (threshold : ℕ) (contour : ContourTree) (rows : List FrontierRow) : Type 0 where
-  pub points : map (λ row. row.point) rows ≡ frontier costing contour.cost
-  pub each : All (IsFrontierRow costing threshold contour.plans) rows
+-- so where nothing is worked out, and so for each of some points, in order
+pub record IsBareRow (costing : CostingTree) (row : FrontierRow) : Type 0 where
+  pub point : IsPoint costing.grid row.point
+  pub cost : row.cost ≡ optimal_cost costing row.point
+  pub bare : row.covers ≡ None
 
--- whether a row is of a point at or above this one that the plan at this place covers, and whether one of some rows is
-abbrev pub row_covers : (place : ℕ) → (point : List ℕ) → FrontierRow → Bool
-row_covers place point row = is_at_or_below point row.point && slice_index_or row.covers.items place false
+pub record AreBareRows (costing : CostingTree) (points : List (List ℕ)) (rows : List FrontierRow) : Type 0 where
+  pub those : map (λ row. row.point) rows ≡ points
+  pub each : All (IsBareRow costing) rows
 
-abbrev pub any_row_covers : (place : ℕ) → (point : List ℕ) → List FrontierRow → Bool
-any_row_covers place point rows = list_any (row_covers place point) rows
+-- plans that can be costed, as many as are told; and a row for them
+pub record AreTriedPlans (plans : TriedPlans) : Type 0 where
+  pub costing : IsCosting (costing_tree plans.all.costing)
+  pub threshold : plans.threshold ≤ max_threshold
+  pub count : plans.count ≡ length plans.all.plans
+
+abbrev pub IsRowOfPlans : TriedPlans → FrontierRow → Type 0
+IsRowOfPlans plans row = IsFrontierRow (costing_tree plans.all.costing) plans.threshold plans.all.plans row
+
+-- whether the plan at this place covers a point
+abbrev pub covers_point : TriedPlans → (place : ℕ) → (point : List ℕ) → Bool
+covers_point plans place point = covers_at (costing_tree plans.all.costing) plans.threshold (nth_plan plans.all.plans place) point
+
+-- the same plans, costed at some point
+pub record KeepsPlans (old new : TriedPlans) : Type 0 where
+  pub costing : new.all.costing ≡ old.all.costing
+  pub plans : new.all.plans ≡ old.all.plans
+  pub count : new.count ≡ old.count
+  pub threshold : new.threshold ≡ old.threshold
+
+-- plans are those of a contour, and rows those of its frontier
+pub record AreOfContour (bouquet : BouquetTree) (contour : ContourTree) (plans : TriedPlans) (rows : List FrontierRow) : Type 0 where
+  pub costing : costing_tree plans.all.costing ≡ bouquet.costing
+  pub threshold : plans.threshold ≡ bouquet.threshold
+  pub tried : plans.all.plans ≡ contour.plans
+  pub points : map (λ row. row.point) rows ≡ frontier bouquet.costing contour.cost
 
 -- a contour of this number, from 1
 abbrev pub IsNumbered : BouquetTree → (number : ℕ) → ContourTree → Type 0
 IsNumbered bouquet number contour = (1 ≤ number) × (slice_get bouquet.contours (number - 1) ≡ Some contour)
 
--- the rows are those of the contour of this number; 0 where there are none yet
-abbrev pub AreRowsOfContour : BouquetTree → (number : ℕ) → List FrontierRow → Type 0
-AreRowsOfContour bouquet number rows =
-    (contour : ContourTree) → IsNumbered bouquet number contour → AreFrontierRows bouquet.costing bouquet.threshold contour rows
+-- plans and rows are those of the contour of this number; 0 where there are none yet
+pub record AreOfNumber (bouquet : BouquetTree) (number : ℕ) (plans : TriedPlans) (rows : List FrontierRow) : Type 0 where
+  pub tried : AreTriedPlans plans
+  pub each : All (IsRowOfPlans plans) rows
+  pub those : (contour : ContourTree) → IsNumbered bouquet number contour → AreOfContour bouquet contour plans rows
+
+abbrev pub AreAtHand : BouquetTree → (number : ℕ) → Option TriedPlans → List FrontierRow → Type 0
+AreAtHand bouquet number None rows = number ≡ 0
+AreAtHand bouquet number (Some plans) rows = AreOfNumber bouquet number plans rows
 
 -- a member is the plan at its place on a contour of the bouquet, of its cost
 pub record IsMemberOf (bouquet : BouquetTree) (member : Member) : Type 0 where
@@ -64,13 +100,13 @@ step_skip bouquet step learned (Some budget) = skip_by bouquet.costing bouquet.t
 abbrev pub costing_shape : BouquetShape → CostingShape
 costing_shape bouquet = record { block = bouquet.block; stats = bouquet.stats; grid = bouquet.grid }
 
--- a bouquet, and the number of the contour whose frontier is worked out, from 1; 0 if none is
+-- a bouquet, and the number of the contour at hand, from 1; 0 if none is
 pub record FrontiersShape : Type 0 where
   pub bouquet : BouquetShape
   pub number : ℕ
 
--- what is worked out of a bouquet's frontiers: the optimal costs, once they are asked for, and the rows of one contour
-pub record AreFrontiers (frontiers : FrontiersShape) (costing : CostingShape) (surface : Option CostingShape) (rows : List FrontierRow) : Type 0 where
+-- what is known of a bouquet's frontiers: the optimal costs, once they are asked for, and the contour at hand
+pub record AreFrontiers (frontiers : FrontiersShape) (costing : CostingShape) (surface : Option CostingShape) (plans : Option TriedPlans) (rows : List FrontierRow) : Type 0 where
   pub same : costing ≡ costing_shape frontiers.bouquet
   pub made : IfSome surface (λ shape. shape ≡ costing_shape frontiers.bouquet)
-  pub those : AreRowsOfContour (bouquet_tree frontiers.bouquet) frontiers.number rows
+  pub at_hand : AreAtHand (bouquet_tree frontiers.bouquet) frontiers.number plans rows

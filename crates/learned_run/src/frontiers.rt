@@ -1,13 +1,18 @@
-// The frontiers of a bouquet's contours, of which one at a time is worked out: when a plan of it is first asked for.
+// The frontiers of a bouquet's contours, of which one is at hand: that of the plan that was asked for last.
 ghost use Rattle.std.specs.Prelude.{◌≡◌, ◌≤◌, IfOk, OnOk, length};
+ghost use Rattle.plan_tree.specs.Plans.{plan_tree};
+ghost use Rattle.cost_model.specs.Frontier.{frontier};
+ghost use Rattle.bouquet_type.specs.Shapes.{cost_on};
 ghost use Rattle.bouquet_type.specs.Trees.{bouquet_tree};
-ghost use Rattle.learned_run.specs.Covering.{IsStepOf, costing_shape, step_skip};
+ghost use Rattle.learned_run.specs.Skips.{covers_above};
+ghost use Rattle.learned_run.specs.Covering.{AreBareRows, IsMemberOf, IsStepOf, costing_shape, member_of, step_skip};
 
-use crate::rows::{FrontierRow, any_row_covers, frontier_rows};
+use crate::bare::{found_rows, kept_rows};
+use crate::rows::{FrontierRow, TriedPlans, any_row_covers};
 use bouquet_type::{Attempt, Bouquet};
 use cost_model::Costing;
 use ess_grid::Point;
-use plan_space::CostSurface;
+use plan_space::{CostSurface, CostedPlans};
 use std::alloc::{AllocError, Global};
 use std::marker::Model;
 
@@ -16,10 +21,11 @@ use std::marker::Model;
 pub(crate) struct Frontiers<'c> {
     bouquet: &'c Bouquet,
     costing: &'c Costing<'c>,
-    // The optimal costs at all points, once they are asked for.
+    // The optimal costs at all points, once they are asked for: those of a bouquet that doesn't keep them.
     surface: Option<CostSurface<'c>>,
-    // The rows of one contour, and its number, from 1; 0 while there are none.
+    // The number of the contour at hand, from 1; 0 while there is none. Its plans, and the rows of its frontier.
     number: u32,
+    plans: Option<TriedPlans<'c>>,
     rows: Vec<FrontierRow>,
 }
 
@@ -36,7 +42,7 @@ impl<'c> Model for Frontiers<'c> {
     ghost view = { λ f. record { bouquet = f.bouquet.now; number = f.number } };
 
     ghost invariant = { λ f. AreFrontiers (record { bouquet = f.bouquet.now; number = f.number })
-        f.costing.now f.surface f.rows.items };
+        f.costing.now f.surface f.plans f.rows.items };
 }
 
 impl<'c> Frontiers<'c> {
@@ -54,6 +60,7 @@ impl<'c> Frontiers<'c> {
             costing,
             surface: None,
             number: 0,
+            plans: None,
             rows: Vec::new(alloc),
         }
     }
@@ -65,11 +72,37 @@ impl<'c> Frontiers<'c> {
     {
         match self.surface.take() {
             Some(surface) => Ok(surface),
-            None => CostSurface::new(alloc, self.costing, self.bouquet.optimal_costs()),
+            None => CostSurface::new(alloc, self.costing, None),
         }
     }
 
-    // Works out the rows of the contour of this number, if they aren't there. An error is want of memory.
+    // The rows of the contour of this number, none of which is worked out. An error is want of memory.
+    fn bare_rows(&mut self, alloc: Global, number: u32) -> Result<Vec<FrontierRow>, AllocError>
+        requires some { 1 ≤ number }
+        requires there { number ≤ length self.old.bouquet.contours }
+        ensures rows { IfOk result (λ rows. AreBareRows (bouquet_tree self.old.bouquet).costing
+            (frontier (bouquet_tree self.old.bouquet).costing (cost_on self.old.bouquet number))
+            rows.items) }
+        ensures same { self.new ≡ self.old }
+    {
+        let place = number as usize - 1;
+        let cost = self.bouquet.contours()[place].cost;
+        if let Some(outline) = self.bouquet.outline() {
+            let points = &outline.frontiers[place];
+            return kept_rows(
+                alloc,
+                self.costing,
+                outline.costs.as_slice(),
+                points.as_slice(),
+            );
+        }
+        let surface = self.take_surface(alloc)?;
+        let rows = found_rows(alloc, &surface, cost);
+        self.surface = Some(surface);
+        rows
+    }
+
+    // Comes to the contour of this number, if it isn't at hand. An error is want of memory.
     fn climb_to(&mut self, alloc: Global, number: u32) -> Result<(), AllocError>
         requires some { 1 ≤ number }
         requires there { number ≤ length self.old.bouquet.contours }
@@ -79,13 +112,39 @@ impl<'c> Frontiers<'c> {
         if self.number == number {
             return Ok(());
         }
-        let surface = self.take_surface(alloc)?;
         let contour = &self.bouquet.contours()[number as usize - 1];
-        let rows = frontier_rows(alloc, &surface, contour, self.bouquet.threshold());
-        self.surface = Some(surface);
-        self.rows = rows?;
+        let all = CostedPlans::of_plans(alloc, self.costing, &contour.plans)?;
+        let rows = self.bare_rows(alloc, number)?;
+        self.plans = Some(TriedPlans {
+            all,
+            count: contour.plans.len(),
+            threshold: self.bouquet.threshold(),
+        });
+        self.rows = rows;
         self.number = number;
         Ok(())
+    }
+
+    // Whether the plan of an execution on the contour at hand covers a point of the contour's frontier at or above this one. An
+    // error is want of memory.
+    fn covers(
+        &mut self,
+        alloc: Global,
+        step: Attempt<'_>,
+        budget: u128,
+        point: &Point,
+    ) -> Result<bool, AllocError>
+        requires member { IsMemberOf (bouquet_tree self.old.bouquet) (member_of step budget) }
+        requires at { self.old.number ≡ step.contour }
+        ensures covers { let bouquet = bouquet_tree self.old.bouquet in
+            IfOk result (λ covers. covers ≡ covers_above bouquet.costing bouquet.threshold
+            (plan_tree step.entry.plan.now) point.now (frontier bouquet.costing step.entry.cost)) }
+        ensures same { self.new ≡ self.old }
+    {
+        match &mut self.plans {
+            Some(plans) => any_row_covers(alloc, plans, &mut self.rows, step.place - 1, point),
+            None => Ok(false),
+        }
     }
 
     /// By which point an execution is skipped, if it is, where this one is learned. An error is want of memory.
@@ -100,14 +159,14 @@ impl<'c> Frontiers<'c> {
             ≡ step_skip (bouquet_tree self.old.bouquet) step.entry learned step.entry.budget) }
         ensures same { self.new.bouquet ≡ self.old.bouquet }
     {
-        let Some(_budget) = step.budget else {
+        let Some(budget) = step.budget else {
             return Ok(None);
         };
         let Some(point) = learned else {
             return Ok(None);
         };
         self.climb_to(alloc, step.contour)?;
-        if any_row_covers(self.rows.as_slice(), step.place - 1, &point) {
+        if self.covers(alloc, step, budget, &point)? {
             return Ok(None);
         }
         Ok(Some(point))

@@ -6,6 +6,7 @@
 //! It never changes a budget or the order of executions, never skips the last execution, and never looks at a table itself.
 #![tactic(auto)]
 
+mod bare;
 mod corners;
 mod frontiers;
 mod learned;

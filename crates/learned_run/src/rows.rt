@@ -1,17 +1,14 @@
-// Which plans of a contour cover which points of its frontier: a row for each point.
-ghost use Rattle.std.specs.Prelude.{◌≡◌, ◌*◌, ◌+◌, ◌<◌, ◌≤◌, All, IfOk, Some, length, map, nat_le};
-ghost use Rattle.sql_values.specs.Limits.{max_threshold};
-ghost use Rattle.query_block.specs.Blocks.{block_tree};
-ghost use Rattle.cost_model.specs.Costing.{costing_tree, IsCosting};
+// Which plans of a contour cover which points of its frontier: a row for each point, worked out when it is first looked at.
+ghost use Rattle.std.specs.Prelude.{◌≡◌, ◌*◌, ◌<◌, ◌&&◌, All, IfOk, Some, length, map, nat_le};
+ghost use Rattle.cost_model.specs.Costing.{costing_tree};
 ghost use Rattle.cost_model.specs.Costs.{cost_of};
-ghost use Rattle.plan_space.specs.SurfacePoints.{IsSurfacePoint};
-ghost use Rattle.plan_space.specs.CostedPlans.{costed_at};
-ghost use Rattle.bouquet_type.specs.Trees.{IsContour, contour_tree};
-ghost use Rattle.learned_run.specs.Covering.{AreFrontierRows, IsFrontierRow, any_row_covers, row_covers};
+ghost use Rattle.cost_model.specs.Greedy.{covers_at};
+ghost use Rattle.plan_space.specs.Parts.{nth_plan};
+ghost use Rattle.learned_run.specs.Skips.{covers_above, is_at_or_below};
+ghost use Rattle.learned_run.specs.Covering.{AreTriedPlans, IsRowOfPlans, KeepsPlans, covers_point};
 
-use bouquet_type::Contour;
 use ess_grid::{Point, below};
-use plan_space::{CostSurface, CostedPlans, SurfacePoint};
+use plan_space::CostedPlans;
 use std::alloc::{AllocError, Global};
 
 /// A point of a contour's frontier.
@@ -19,95 +16,130 @@ use std::alloc::{AllocError, Global};
 pub(crate) struct FrontierRow {
     /// The point.
     pub(crate) point: Point,
-    /// For each plan of the contour, in order, whether it covers the point.
-    pub(crate) covers: Vec<bool>,
+    /// The optimal cost there, in units of work.
+    pub(crate) cost: u128,
+    /// For each plan of the contour, in order, whether it covers the point. None while that isn't worked out.
+    pub(crate) covers: Option<Vec<bool>>,
 }
 
-// Which of so many plans, costed at a point, cost at most this there, a hundredfold. An error is want of memory.
+/// The plans of a contour, which are costed at one point after another.
+#[derive(Drop)]
+pub(crate) struct TriedPlans<'c> {
+    /// The plans, in order.
+    pub(crate) all: CostedPlans<'c>,
+    /// How many there are.
+    pub(crate) count: usize,
+    /// How many percent more than the best plan a plan may cost at a point that it covers.
+    pub(crate) threshold: u32,
+}
+
+// Which plans, costed at a point, cost at most this there, a hundredfold. An error is want of memory.
 fn tests(
     alloc: Global,
-    all: &CostedPlans<'_>,
-    count: usize,
-    at: &SurfacePoint,
+    plans: &TriedPlans<'_>,
+    point: &Point,
     limit: u128,
 ) -> Result<Vec<bool>, AllocError>
-    requires count { count ≡ length all.now.plans }
-    requires costed { all.now.point ≡ Some at.now.point }
+    requires count { plans.now.count ≡ length plans.now.all.plans }
+    requires costed { plans.now.all.point ≡ Some point.now }
     ensures { IfOk result (λ tests. tests.items ≡ map (λ p. nat_le
-        (100 * cost_of (costing_tree all.now.costing) p at.now.point) limit) all.now.plans) }
+        (100 * cost_of (costing_tree plans.now.all.costing) p point.now) limit) plans.now.all.plans) }
 {
-    let mut tests = Vec::with_capacity(alloc, count)?;
-    for place in 0..count {
-        tests.push(100 * all.cost(place) <= limit)?;
+    let mut tests = Vec::with_capacity(alloc, plans.count)?;
+    for place in 0..plans.count {
+        tests.push(100 * plans.all.cost(place) <= limit)?;
     }
     Ok(tests)
 }
 
-// The row of a point. An error is want of memory.
-fn row(
+// Which plans cover the point of a row. An error is want of memory.
+fn tests_at(
     alloc: Global,
-    all: &mut CostedPlans<'_>,
-    count: usize,
-    threshold: u32,
-    at: &SurfacePoint,
-) -> Result<FrontierRow, AllocError>
-    requires count { count ≡ length all.old.plans }
-    requires threshold { threshold ≤ max_threshold }
-    requires costing { IsCosting (costing_tree all.old.costing) }
-    requires point { IsSurfacePoint (costing_tree all.old.costing) at.now }
-    ensures costed { all.new ≡ costed_at all.old at.now.point }
-    ensures point { IfOk result (λ row. row.point ≡ at.now.point) }
-    ensures row { IfOk result
-        (IsFrontierRow (costing_tree all.old.costing) threshold all.old.plans) }
+    plans: &mut TriedPlans<'_>,
+    row: &FrontierRow,
+) -> Result<Vec<bool>, AllocError>
+    requires tried { AreTriedPlans plans.old }
+    requires row { IsRowOfPlans plans.old row.now }
+    ensures same { KeepsPlans plans.old plans.new }
+    ensures tests { IfOk result (λ tests. tests.items ≡ map (λ p. covers_at
+        (costing_tree plans.old.all.costing) plans.old.threshold p row.now.point) plans.old.all.plans) }
 {
-    all.cost_at(&at.point);
-    let limit = u128::from(100 + threshold) * at.cost;
-    let covers = tests(alloc, all, count, at, limit)?;
-    Ok(FrontierRow {
-        point: at.point,
-        covers,
-    })
+    plans.all.cost_at(&row.point);
+    let limit = u128::from(100 + plans.threshold) * row.cost;
+    tests(alloc, plans, &row.point, limit)
 }
 
-/// The rows of a contour. An error is want of memory.
-pub(crate) fn frontier_rows(
+// Whether the plan at this place covers the point of a row. Where that isn't worked out yet, it is, for each plan. An error is
+// want of memory.
+fn covers(
     alloc: Global,
-    surface: &CostSurface<'_>,
-    contour: &Contour,
-    threshold: u32,
-) -> Result<Vec<FrontierRow>, AllocError>
-    requires threshold { threshold ≤ max_threshold }
-    requires contour { IsContour (costing_tree surface.now).block contour.now }
-    ensures { IfOk result (λ rows. AreFrontierRows (costing_tree surface.now) threshold
-        (contour_tree contour.now) rows.items) }
+    plans: &mut TriedPlans<'_>,
+    row: &mut FrontierRow,
+    place: usize,
+) -> Result<bool, AllocError>
+    requires tried { AreTriedPlans plans.old }
+    requires row { IsRowOfPlans plans.old row.old }
+    requires place { place < length plans.old.all.plans }
+    ensures same { KeepsPlans plans.old plans.new }
+    ensures row { IsRowOfPlans plans.old row.new }
+    ensures point { row.new.point ≡ row.old.point }
+    ensures covers { IfOk result (λ covers. covers ≡ covers_point plans.old place row.old.point) }
 {
-    let frontier = surface.frontier(alloc, contour.cost)?;
-    let mut all = CostedPlans::of_plans(alloc, surface.costing(), &contour.plans)?;
-    let mut rows = Vec::new(alloc);
-    let points = frontier.as_slice();
-    for at in points {
-        rows.push(row(alloc, &mut all, contour.plans.len(), threshold, at)?)?;
+    if let Some(covers) = &row.covers {
+        return Ok(covers[place]);
     }
-    Ok(rows)
+    let tests = tests_at(alloc, plans, row)?;
+    let covers = tests[place];
+    row.covers = Some(tests);
+    Ok(covers)
 }
 
-// Whether a row's point is at or above this one, and the plan at this place covers it.
-fn row_covers(row: &FrontierRow, place: usize, point: &Point) -> bool
-    requires { place < length row.now.covers.items }
-    ensures { result ≡ row_covers place point.now row.now }
+// Whether a row's point is at or above this one, and the plan at this place covers it. An error is want of memory.
+fn row_covers(
+    alloc: Global,
+    plans: &mut TriedPlans<'_>,
+    row: &mut FrontierRow,
+    place: usize,
+    point: &Point,
+) -> Result<bool, AllocError>
+    requires tried { AreTriedPlans plans.old }
+    requires row { IsRowOfPlans plans.old row.old }
+    requires place { place < length plans.old.all.plans }
+    ensures same { KeepsPlans plans.old plans.new }
+    ensures row { IsRowOfPlans plans.old row.new }
+    ensures point { row.new.point ≡ row.old.point }
+    ensures covers { IfOk result (λ covers. covers
+        ≡ (is_at_or_below point.now row.old.point && covers_point plans.old place row.old.point)) }
 {
-    below(point, &row.point) && row.covers[place]
+    if !below(point, &row.point) {
+        return Ok(false);
+    }
+    covers(alloc, plans, row, place)
 }
 
-/// Whether the plan at this place, from 0, covers a point at or above this one.
-pub(crate) fn any_row_covers(rows: &[FrontierRow], place: usize, point: &Point) -> bool
-    requires { All (λ row. place < length row.covers.items) rows.now }
-    ensures { result ≡ any_row_covers place point.now rows.now }
+/// Whether the plan at this place, from 0, covers a point at or above this one. Each row that is looked at is worked out then,
+/// once. An error is want of memory.
+pub(crate) fn any_row_covers(
+    alloc: Global,
+    plans: &mut TriedPlans<'_>,
+    rows: &mut Vec<FrontierRow>,
+    place: usize,
+    point: &Point,
+) -> Result<bool, AllocError>
+    requires tried { AreTriedPlans plans.old }
+    requires rows { All (IsRowOfPlans plans.old) rows.old.items }
+    requires place { place < length plans.old.all.plans }
+    ensures same { KeepsPlans plans.old plans.new }
+    ensures rows { All (IsRowOfPlans plans.old) rows.new.items }
+    ensures points { map (λ row. row.point) rows.new.items ≡ map (λ row. row.point) rows.old.items }
+    ensures covers { IfOk result (λ covers. covers
+        ≡ covers_above (costing_tree plans.old.all.costing) plans.old.threshold
+        (nth_plan plans.old.all.plans place) point.now (map (λ row. row.point) rows.old.items)) }
 {
-    for row in rows {
-        if row_covers(row, place, point) {
-            return true;
+    for at in 0..rows.len() {
+        if row_covers(alloc, plans, &mut rows[at], place, point)? {
+            return Ok(true);
         }
     }
-    false
+    Ok(false)
 }

@@ -1,30 +1,56 @@
-use Rattle.std.proofs.Common.{List, ap, arith, length, subst, sym}
-use Rattle.cost_model.specs.Costing.{costing_tree}
+use Rattle.std.proofs.Common.{◌∙◌, ℕ, List, [], ◌∷◌, ◌++◌, ap, arith, length, refl, subst, sym}
+use Rattle.std.specs.Prelude.{Vec}
+use Rattle.std.specs.declared.alloc.Global.{Global}
+use Rattle.cost_model.specs.Costing.{CostingShape, costing_tree}
+use Rattle.cost_model.specs.FrontierPoints.{frontier_points}
+use Rattle.plan_space.specs.Surface.{optimal_costs}
 use Rattle.bouquet_type.specs.declared.contour.Contour.{Contour}
 use Rattle.contours.proofs.Collected.{AreCollected, collected-none, collected-more, collected-all, made-none}
+use Rattle.contours.proofs.Outlined.{AreOutlined, outlined-more}
 use Rattle.contours.proofs.contours.contours_by.Goals as goal
 
-pub loop-contours-init : goal.loop-contours-init
-loop-contours-init c =
+pub loop-frontiers-init : goal.loop-frontiers-init
+loop-frontiers-init c =
     let outlook = c.args.outlook.now in
-    subst (λ (contours : List Contour). AreCollected (costing_tree outlook) c.args.threshold contours c.new-maker.result) (sym c.new-contours.ensures.items)
-    (collected-none c.new-maker.result outlook c.args.threshold c.new-maker.ensures)
+    let costing = costing_tree outlook in
+    record {
+      collected = subst (λ (contours : List Contour). AreCollected costing c.args.threshold contours c.new-maker.result) (sym c.new-contours.ensures.items)
+          (collected-none c.new-maker.result outlook c.args.threshold c.new-maker.ensures);
+      outlined = subst (λ (frontiers : List (Vec (List ℕ) Global)). AreOutlined costing frontiers c.new-contours.result.items) (sym c.new-frontiers.ensures.items)
+          (subst (λ (contours : List Contour). AreOutlined costing [] contours) (sym c.new-contours.ensures.items) refl);
+    }
 
-pub loop-contours-smaller : goal.loop-contours-smaller
-loop-contours-smaller c =
-    let made = rw c.in-Some.is at c.in_ok-contour.ensures.made in
-    omega (arith, ap length made.1)
+pub loop-frontiers-smaller : goal.loop-frontiers-smaller
+loop-frontiers-smaller c =
+    let made = rw c.in-Some.is at c.in_ok-found.ensures.made in
+    omega (arith, ap length made.ahead)
 
-pub loop-contours-preserved : goal.loop-contours-preserved
-loop-contours-preserved c =
+pub loop-frontiers-preserved : goal.loop-frontiers-preserved
+loop-frontiers-preserved c =
     let costing = costing_tree c.args.outlook.now in
-    let made = rw c.in-Some.is at c.in_ok-contour.ensures.made in
+    let made = rw c.in-Some.is at c.in_ok-found.ensures.made in
+    let found = c.in-Some.found in
+    let contours = c.loop-frontiers.contours.items in
+    let maker = c.loop-frontiers.maker in
     let more =
-    collected-more costing c.args.threshold c.loop-contours.contours.items c.in-Some.contour c.loop-contours.maker c.next.new.self made.0 made.1 c.loop-contours.invariant in
-    subst (λ (contours : List Contour). AreCollected costing c.args.threshold contours c.next.new.self) (sym c.in_ok-push.ensures.items) more
+    collected-more costing c.args.threshold contours found.contour maker c.next.new.self made.whole made.ahead c.loop-frontiers.invariant.collected in
+    let outlined =
+    outlined-more costing c.args.threshold c.loop-frontiers.frontiers.items contours c.in_ok-points.field-0 found maker c.next.new.self
+    c.loop-frontiers.invariant.collected.whole made (c.in_ok-points.ensures ∙ ap frontier_points c.as_slice.ensures.value) c.loop-frontiers.invariant.outlined in
+    record {
+      collected = subst (λ (contours : List Contour). AreCollected costing c.args.threshold contours c.next.new.self) (sym c.in_ok-push-2.ensures.items) more;
+      outlined = subst (λ (all : List Contour). AreOutlined costing c.push.new.self.items all) (sym {A = List Contour} c.in_ok-push-2.ensures.items)
+          (subst (λ (all : List (Vec (List ℕ) Global)). AreOutlined costing all (contours ++ found.contour ∷ [])) (sym {A = List (Vec (List ℕ) Global)} c.in_ok-push.ensures.items) outlined);
+    }
 
-pub returns : goal.returns
-returns c =
-    let none = made-none c.loop-contours.maker c.next.new.self c.in_ok-contour.field-0 c.in_ok-contour.ensures.made c.in_default.not-Some in
-    collected-all (costing_tree c.args.outlook.now) c.args.threshold c.loop-contours.contours.items c.loop-contours.maker c.costing-costing.ensures.costing c.requires none
-    c.loop-contours.invariant
+pub returns-clause-contours : goal.returns-clause-contours
+returns-clause-contours c =
+    let none = made-none c.loop-frontiers.maker c.next.new.self c.in_ok-found.field-0 c.in_ok-found.ensures.made c.in_default.not-Some in
+    collected-all (costing_tree c.args.outlook.now) c.args.threshold c.loop-frontiers.contours.items c.loop-frontiers.maker c.costing-costing.ensures.costing c.requires none
+    c.loop-frontiers.invariant.collected
+
+pub returns-clause-outline : goal.returns-clause-outline
+returns-clause-outline c = record {
+  costs = c.in_ok-costs.ensures.items ∙ c.costs.ensures ∙ ap (λ (shape : CostingShape). optimal_costs (costing_tree shape)) c.surface.ensures;
+  frontiers = c.loop-frontiers.invariant.outlined;
+}

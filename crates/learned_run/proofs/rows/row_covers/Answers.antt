@@ -1,14 +1,15 @@
-use Rattle.std.proofs.Common.{◌∙◌}
-use Rattle.std.specs.Prelude.{false}
-use Rattle.std.proofs.lemmas.List.{get_or_default}
-use Rattle.learned_run.proofs.Covered.{row-told, row-off}
+use Rattle.std.proofs.Common.{◌≡◌, ◌∙◌, refl, sym}
+use Rattle.std.specs.Prelude.{true, false}
+use Rattle.learned_run.specs.Skips.{is_at_or_below}
+use Rattle.learned_run.proofs.Covered.{below-told}
 use Rattle.learned_run.proofs.rows.row_covers.Goals as goal
 
-pub returns-then-below : goal.returns-then-below
-returns-then-below c =
-    c.index.ensures
-    ∙ get_or_default c.args.row.now.covers.items c.args.place c.index.result.now false c.requires
-    ∙ row-told c.below.result c.args.point.now c.args.row.now c.args.place c.below.ensures c.if-below.true
+pub returns-then-not-below-clause-covers : goal.returns-then-not-below-clause-covers
+returns-then-not-below-clause-covers c =
+    let above : is_at_or_below c.args.point.now c.args.row.now.point ≡ false = sym (below-told c.below.result c.args.point.now c.args.row.now.point c.below.ensures) ∙ c.if-not-below.true in
+    rw above refl
 
-pub returns-else-below : goal.returns-else-below
-returns-else-below c = row-off c.below.result c.args.point.now c.args.row.now c.args.place c.below.ensures c.if-below.false
+pub returns-clause-covers : goal.returns-clause-covers
+returns-clause-covers c =
+    let above : is_at_or_below c.args.point.now c.args.row.now.point ≡ true = sym (below-told c.below.result c.args.point.now c.args.row.now.point c.below.ensures) ∙ c.if-not-below.false in
+    rw above c.covers.ensures.covers

@@ -6,4 +6,4 @@ use Rattle.learned_run.proofs.rows.tests.Given as goal
 
 abbrev pub invariant-loop-place : goal.invariant-loop-place
 invariant-loop-place l =
-    l.tests.items ≡ map (λ p. nat_le (100 * cost_of (costing_tree l.all.costing) p l.at.point) l.limit) (take l.place l.all.plans)
+    l.tests.items ≡ map (λ p. nat_le (100 * cost_of (costing_tree l.plans.all.costing) p l.point) l.limit) (take l.place l.plans.all.plans)

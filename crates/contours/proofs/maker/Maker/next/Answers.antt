@@ -1,5 +1,6 @@
 use Rattle.std.proofs.Common.{◌≡◌, ◌∙◌, ◌+◌, ◌<◌, ◌≤◌, [], ◌∷◌, drop, refl, ap, sym, subst, arith}
 use Rattle.cost_model.specs.Costing.{CostingTree, costing_tree}
+use Rattle.cost_model.specs.Frontier.{frontier}
 use Rattle.bouquet_type.specs.Trees.{ContourTree}
 use Rattle.bouquet_type.specs.Compiled.{compiled, compiled_contour, contour_count}
 use Rattle.contours.specs.Lazy.{MakerState, whole_of, ahead_of}
@@ -41,13 +42,19 @@ invariant_of-self c =
     }
 
 pub returns-clause-made : goal.returns-clause-made
+unfolding compiled
 returns-clause-made c =
     let m = c.self.inside in
     let is = c.self.invariant in
     let costing : CostingTree = costing_tree m.outlook.now in
     let more : m.made < contour_count costing = omega (arith, is.made, is.counted, c.if-self.false) in
-    let behind = drop (m.made + 1) (compiled costing m.threshold).contours in (
-      ap whole_of c.self.view_is,
-      sym (ap ahead_of c.self.view_is) ∙ next-ahead costing m.threshold m.made more
-          ∙ ap (λ (one : ContourTree). one ∷ behind) (sym (c.in_ok-contour.ensures ∙ ap (compiled_contour costing m.threshold) is.next)),
-    )
+    let behind = drop (m.made + 1) (compiled costing m.threshold).contours in
+    let tree = c.in_ok-found.ensures.contour in
+    record {
+      whole = ap whole_of c.self.view_is;
+      ahead = sym (ap ahead_of c.self.view_is) ∙ next-ahead costing m.threshold m.made more
+          ∙ ap (λ (one : ContourTree). one ∷ behind) (sym (tree ∙ ap (compiled_contour costing m.threshold) is.next));
+      frontier = c.in_ok-found.ensures.frontier
+          ∙ ap (frontier costing) (sym (ap (λ (one : ContourTree). one.cost) tree))
+          ∙ ap (λ (one : MakerState). frontier (whole_of one).costing c.in_ok-found.found.contour.cost) c.self.view_is;
+    }

@@ -1,0 +1,57 @@
+-- Rows of a frontier that are looked at one after another, and worked out.
+use Rattle.std.proofs.Common.{◌≡◌, ◌∙◌, ℕ, ◌+◌, ◌<◌, ◌++◌, List, [], ◌∷◌, get_or, length, map, set, take, ap, ap₂, sym, arith}
+use Rattle.std.specs.Prelude.{Bool, true, false, ◌&&◌, ◌||◌}
+use Rattle.std.specs.List.{list_any}
+use Rattle.std.proofs.lemmas.List.{length-map, get_or-map, map_push, take_more}
+use Rattle.std.proofs.lemmas.List.Folds.{list_any_more, list_any_at}
+use Rattle.std.proofs.Math.Seq.{map-set_same}
+use Rattle.learned_run.specs.declared.rows.FrontierRow.{FrontierRow}
+use Rattle.learned_run.specs.declared.rows.TriedPlans.{TriedPlans}
+use Rattle.learned_run.specs.Skips.{is_at_or_below}
+use Rattle.learned_run.specs.Covering.{KeepsPlans, covers_point}
+use Rattle.learned_run.proofs.Covered.{covers-kept}
+
+abbrev pub row_points : List FrontierRow → List (List ℕ)
+row_points rows = map (λ (row : FrontierRow). row.point) rows
+
+-- a row more
+pub points-more : (rows : List FrontierRow) (row : FrontierRow) (points : List (List ℕ)) (at : ℕ) (point : List ℕ) → at < length points → point ≡ get_or points at point → row.point ≡ point
+    → row_points rows ≡ take at points → row_points (rows ++ row ∷ []) ≡ take (at + 1) points
+points-more rows row points at point there is same before =
+    map_push (λ (row : FrontierRow). row.point) rows row
+    ∙ ap₂ (λ (some : List (List ℕ)) (one : List ℕ). some ++ one ∷ []) before (same ∙ is)
+    ∙ sym (take_more points at point there)
+
+-- a row is worked out in its place
+pub points-stay : (first rows : List FrontierRow) (at : ℕ) (row worked : FrontierRow) → row ≡ get_or rows at row → worked.point ≡ row.point → row_points rows ≡ row_points first
+    → row_points (set rows at worked) ≡ row_points first
+points-stay first rows at row worked is same before =
+    map-set_same (λ (row : FrontierRow). row.point) rows at worked row (same ∙ ap (λ (row : FrontierRow). row.point) is) ∙ before
+
+module _ (first now : TriedPlans) (kept : KeepsPlans first now) (place : ℕ) (point : List ℕ) (all rows : List FrontierRow) (at : ℕ) (row : FrontierRow) (there : at < length all)
+    (is : row ≡ get_or rows at row) (same : row_points rows ≡ row_points all) (told : Bool) (tells : told ≡ is_at_or_below point row.point && covers_point now place row.point) where
+  abbrev test : List ℕ → Bool
+  test other = is_at_or_below point other && covers_point first place other
+
+  inside : at < length rows
+  inside = omega (arith, there, length-map rows (λ (row : FrontierRow). row.point), length-map all (λ (row : FrontierRow). row.point), ap length same)
+
+  here : get_or (row_points all) at row.point ≡ row.point
+  here =
+      ap (λ points. get_or points at row.point) (sym same) ∙ get_or-map (λ (row : FrontierRow). row.point) rows at row row.point inside
+      ∙ ap (λ (row : FrontierRow). row.point) (sym is)
+
+  long : at < length (row_points all)
+  long = omega (arith, there, length-map all (λ (row : FrontierRow). row.point))
+
+  passes : test row.point ≡ told
+  passes = sym (tells ∙ ap (λ covers. is_at_or_below point row.point && covers) (covers-kept first now place row.point kept))
+
+  -- one that covers settles it; one that doesn't leaves it to those behind it
+  pub one-covers : told ≡ true → true ≡ list_any test (row_points all)
+  one-covers is_covered = sym (list_any_at test (row_points all) at row.point long (ap test here ∙ passes ∙ is_covered))
+
+  pub none-covers : told ≡ false → list_any test (take at (row_points all)) ≡ false → list_any test (take (at + 1) (row_points all)) ≡ false
+  none-covers is_bare before =
+      list_any_more test (row_points all) at row.point long
+      ∙ ap₂ (λ (some : Bool) (one : Bool). some || one) before (ap test here ∙ passes ∙ is_bare)

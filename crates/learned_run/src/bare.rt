@@ -1,0 +1,61 @@
+// The points of a contour's frontier, with nothing worked out of which plans cover them.
+ghost use Rattle.std.specs.Prelude.{◌≡◌, ◌≤◌, All, IfOk, map};
+ghost use Rattle.sql_values.specs.Limits.{max_contour_cost};
+ghost use Rattle.ess_grid.specs.Points.{IsPoint, points_of};
+ghost use Rattle.cost_model.specs.Costing.{costing_tree};
+ghost use Rattle.cost_model.specs.Frontier.{frontier};
+ghost use Rattle.cost_model.specs.Optimal.{optimal_cost};
+ghost use Rattle.learned_run.specs.Covering.{AreBareRows};
+
+use crate::rows::FrontierRow;
+use cost_model::Costing;
+use ess_grid::Point;
+use plan_space::CostSurface;
+use std::alloc::{AllocError, Global};
+
+/// The rows of these points, by the optimal costs of all points of the grid, in its order. An error is want of memory.
+pub(crate) fn kept_rows(
+    alloc: Global,
+    costing: &Costing<'_>,
+    costs: &[u128],
+    points: &[Point],
+) -> Result<Vec<FrontierRow>, AllocError>
+    requires costs { costs.now
+        ≡ map (optimal_cost (costing_tree costing.now)) (points_of costing.now.grid) }
+    requires points { All (IsPoint costing.now.grid) points.now }
+    ensures { IfOk result (λ rows. AreBareRows (costing_tree costing.now) points.now rows.items) }
+{
+    let grid = costing.grid();
+    let mut rows = Vec::with_capacity(alloc, points.len())?;
+    for point in points {
+        rows.push(FrontierRow {
+            point: *point,
+            cost: costs[grid.place_of(point)],
+            covers: None,
+        })?;
+    }
+    Ok(rows)
+}
+
+/// The rows of the frontier of a contour of this cost. An error is want of memory.
+pub(crate) fn found_rows(
+    alloc: Global,
+    surface: &CostSurface<'_>,
+    cost: u128,
+) -> Result<Vec<FrontierRow>, AllocError>
+    requires { cost ≤ max_contour_cost }
+    ensures { IfOk result (λ rows. AreBareRows (costing_tree surface.now)
+        (frontier (costing_tree surface.now) cost) rows.items) }
+{
+    let frontier = surface.frontier(alloc, cost)?;
+    let points = frontier.as_slice();
+    let mut rows = Vec::with_capacity(alloc, points.len())?;
+    for at in points {
+        rows.push(FrontierRow {
+            point: at.point,
+            cost: at.cost,
+            covers: None,
+        })?;
+    }
+    Ok(rows)
+}
