@@ -11,6 +11,7 @@ mod canonical;
 mod costs;
 mod fixture;
 mod job_turns;
+mod pages;
 mod rules;
 mod runs;
 mod stores;
@@ -41,9 +42,10 @@ enum Question {
     Index,
     Heap,
     Append,
+    Page,
 }
 
-const FILES: [(&str, Question); 15] = [
+const FILES: [(&str, Question); 16] = [
     ("canonical.txt", Question::CanonicalText),
     ("runs.txt", Question::Run),
     ("large.txt", Question::Run),
@@ -59,6 +61,7 @@ const FILES: [(&str, Question); 15] = [
     ("indexes.txt", Question::Index),
     ("heaps.txt", Question::Heap),
     ("appends.txt", Question::Append),
+    ("pages.txt", Question::Page),
 ];
 
 // How many lines agree, and how many don't.
@@ -90,6 +93,7 @@ fn answered(
         Question::Index => stores::index_line(alloc, line),
         Question::Heap => stores::heap_line(alloc, line),
         Question::Append => appends::append_line(alloc, db, line),
+        Question::Page => pages::page_line(alloc, db, line),
     }
 }
 
