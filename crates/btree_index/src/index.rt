@@ -1,6 +1,6 @@
 // The index: a tree of nodes, whose leaves are its entries in order. A descent is paid by its levels.
 // It relies on the ledger for each paid read, and never changes what it was built of.
-ghost use Rattle.std.specs.Prelude.{◌≡◌, ◌+◌, ◌*◌, ◌^◌, ◌<◌, ◌≤◌, ◌++◌, if◌then◌else◌, filter, length, int_le, true, IfOk};
+ghost use Rattle.std.specs.Prelude.{◌≡◌, ◌+◌, ◌*◌, ◌^◌, ◌<◌, ◌≤◌, ◌++◌, if◌then◌else◌, filter, length, int_le, take, true, IfOk};
 ghost use Rattle.std.specs.List.{AllWithin};
 ghost use Rattle.std.specs.List.Sorted.{IsPermutation};
 ghost use Rattle.work_ledger.specs.Account.{Pays};
@@ -259,5 +259,16 @@ impl Index {
         let row = self.entries[cursor.next].1;
         cursor.next += 1;
         Ok(Some(row))
+    }
+
+    /// The entries that the cursor has left, at most `most` of them, in order, lent. They aren't paid, and no cursor moves:
+    /// it is for looking at rows that will be read soon.
+    pub fn ahead(&self, cursor: &Cursor, most: usize) -> &[(i64, u64)]
+        requires { IsOn self.now cursor.now }
+        ensures entries { result.now ≡ take most (entries_left self.now cursor.now) }
+    {
+        let entries = self.entries.as_slice();
+        let count = cursor.end.saturating_sub(cursor.next).min(most);
+        &entries[cursor.next..cursor.next + count]
     }
 }
