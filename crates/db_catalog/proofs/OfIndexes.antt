@@ -1,5 +1,5 @@
 -- The entries of a column, in rows of words and in rows of values.
-use Rattle.std.proofs.Common.{All, ◌≡◌, ℕ, zero, suc, ◌+◌, ◌-◌, ◌<◌, Bool, true, false, List, [], ◌∷◌, ◌++◌, length, map, drop, get_or, Result, Ok, Err, IfOk, ℤ, refl, sym, ap, ◌∙◌, arith, append_assoc, append-nil, if◌then◌else◌}
+use Rattle.std.proofs.Common.{take, All, ◌≡◌, ℕ, zero, suc, ◌+◌, ◌-◌, ◌<◌, Bool, true, false, List, [], ◌∷◌, ◌++◌, length, map, drop, get_or, Result, Ok, Err, IfOk, ℤ, refl, sym, ap, ◌∙◌, arith, append_assoc, append-nil, if◌then◌else◌}
 use Rattle.std.specs.Prelude.{slice_index_or, IfSome}
 use Rattle.std.specs.List.{IsDistinct}
 use Rattle.std.specs.List.Sorted.{IsPermutation}
@@ -77,6 +77,12 @@ first-below (e ∷ entries) bound all = All-head (λ (e : IndexEntry). e.1 < bou
 pub first_row-below : (entries : List IndexEntry) (cursor : Cursor) (bound : ℕ) → All (λ (e : IndexEntry). e.1 < bound) entries → IfSome (first_row (entries_left entries cursor)) (λ i. i < bound)
 first_row-below entries cursor bound all =
     first-below (entries_left entries cursor) bound
+    (All-take (λ (e : IndexEntry). e.1 < bound) (cursor.end - cursor.next) (drop cursor.next entries) (All-drop (λ (e : IndexEntry). e.1 < bound) cursor.next entries all))
+
+-- and so have those that come next
+pub ahead-below : (entries : List IndexEntry) (cursor : Cursor) (most bound : ℕ) → All (λ (e : IndexEntry). e.1 < bound) entries → All (λ (e : IndexEntry). e.1 < bound) (take most (entries_left entries cursor))
+ahead-below entries cursor most bound all =
+    All-take (λ (e : IndexEntry). e.1 < bound) most (entries_left entries cursor)
     (All-take (λ (e : IndexEntry). e.1 < bound) (cursor.end - cursor.next) (drop cursor.next entries) (All-drop (λ (e : IndexEntry). e.1 < bound) cursor.next entries all))
 
 -- the index that is built of a column's entries is the one that is kept

@@ -15,6 +15,7 @@ mod fault;
 mod fits;
 mod indexes;
 mod metered;
+mod near;
 mod plain;
 mod recode;
 mod table;

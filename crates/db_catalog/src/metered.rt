@@ -14,6 +14,7 @@ ghost use Rattle.db_catalog.specs.Cursors.{GivesNext, IsCursorOf};
 ghost use Rattle.db_catalog.specs.Meter.{Reads, HasSlot, table_pages, page_rows, whole_page_charge, IsRowIn};
 
 use crate::database::Database;
+use crate::near::{Near, is_at_first, near_entries};
 use btree_index::Cursor;
 use heap_pages::PageView;
 use sql_values::{ColumnDef, Texts};
@@ -25,6 +26,7 @@ use work_ledger::{Exhausted, Ledger, charge};
 pub struct Metered<'d> {
     database: &'d Database,
     ledger: Ledger,
+    near: Near,
 }
 
 impl<'d> Model for Metered<'d> {
@@ -44,6 +46,7 @@ impl<'d> Metered<'d> {
         Metered {
             database,
             ledger: Ledger::new(),
+            near: Near::new(),
         }
     }
 
@@ -191,9 +194,10 @@ impl<'d> Metered<'d> {
         ensures reads { Reads (node_charge * index_height self.old.database table column)
             self.old self.new result }
     {
-        self.database
-            .index(table, column)
-            .seek(from, to, &mut self.ledger)
+        let index = self.database.index(table, column);
+        let cursor = index.seek(from, to, &mut self.ledger)?;
+        self.bring_near(table, column, &cursor);
+        Ok(cursor)
     }
 
     /// The row of the cursor's next entry, which pays for the entry and moves the cursor past it. Past the last entry there
@@ -210,8 +214,21 @@ impl<'d> Metered<'d> {
             (next_charge (entries_left (index_at self.old.database table column) cursor.old))
             self.old self.new result }
     {
+        if is_at_first(cursor) {
+            self.bring_near(table, column, cursor);
+        }
         self.database
             .index(table, column)
             .next(cursor, &mut self.ledger)
+    }
+
+    // Brings the rows of the cursor's next entries near. It pays for nothing, and tells nothing.
+    fn bring_near(&self, table: u32, column: u8, cursor: &Cursor)
+        requires { IsCursorOf self.now.database table column cursor.now }
+    {
+        let entries = self
+            .database
+            .entries_ahead(table, column, cursor, near_entries(cursor));
+        self.near.look_at(self.database.heap(table), entries);
     }
 }

@@ -1,13 +1,14 @@
 // Reads that aren't paid, by which tables are counted. They rely on the heap and the indexes, and change nothing.
-ghost use Rattle.std.specs.Prelude.{◌≡◌, ℕ, ◌*◌, ◌<◌, Contains, drop, filter, length, take};
-ghost use Rattle.btree_index.specs.Entries.{HaveWords, is_within};
+ghost use Rattle.std.specs.Prelude.{◌≡◌, ℕ, ◌*◌, ◌<◌, All, Contains, drop, filter, length, take};
+ghost use Rattle.btree_index.specs.Entries.{HaveWords, IndexEntry, is_within};
 ghost use Rattle.btree_index.specs.Height.{height_of};
 ghost use Rattle.db_catalog.specs.Database.{IsRowAt, StandAsWords, table_at};
+ghost use Rattle.db_catalog.specs.Cursors.{IsCursorOf};
 ghost use Rattle.db_catalog.specs.Indexes.{index_at, index_height};
 ghost use Rattle.db_catalog.specs.Meter.{IsRowIn, page_rows, table_pages};
 
 use crate::database::Database;
-use btree_index::Index;
+use btree_index::{Cursor, Index};
 
 #[tactic(auto, using(crate::proofs::Tables::of_reads))]
 impl Database {
@@ -50,6 +51,20 @@ impl Database {
         ensures rows { StandAsWords self.now table }
     {
         self.index(table, column).within(from, to)
+    }
+
+    // The entries that a cursor has left, at most so many of them. They aren't paid.
+    pub(crate) fn entries_ahead(
+        &self,
+        table: u32,
+        column: u8,
+        cursor: &Cursor,
+        most: usize,
+    ) -> &[(i64, u64)]
+        requires { IsCursorOf self.now table column cursor.now }
+        ensures { All (λ (e : IndexEntry). e.1 < length (table_at self.now table).rows) result.now }
+    {
+        self.index(table, column).ahead(cursor, most)
     }
 
     /// How many levels a column's index has.

@@ -7,8 +7,8 @@ use Rattle.db_catalog.proofs.metered.Metered.next.Goals as goal
 
 pub returns-clause-gives : goal.returns-clause-gives
 returns-clause-gives c =
-    let db = c.self.inside.database.now in
+    let db = c.self-2.inside.database.now in
     let rows = length (table_at db c.args.table).rows in
     let below = first_row-below _ c.args.cursor.now rows (index_at-below db c.args.table c.args.column) in
     let moves = rw c.index.ensures.entries at c.next.ensures.moves in
-    rw (← c.self.view_is) (record { moves = moves; there = IfOk-map c.next.result (λ _ is. subst (λ o. IfSome o (λ i. i < rows)) (sym is) below) moves.row })
+    rw (← c.self-2.view_is) (record { moves = moves; there = IfOk-map c.next.result (λ _ is. subst (λ o. IfSome o (λ i. i < rows)) (sym is) below) moves.row })
