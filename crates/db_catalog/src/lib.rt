@@ -1,8 +1,8 @@
 //! The database: tables of typed columns under their names, their rows and indexes, the dictionary of their texts, and the
 //! meter through which alone a row is read.
 //! To the layers above a database is a list of tables of values. Earlier rows stay where they are, an index has exactly
-//! the entries of its column, a refusal names the first check that fails and changes nothing, and each read through the
-//! meter pays exactly its charge. It tells whether a block still stands over its tables.
+//! the entries of its column, a refusal names the first check that fails and changes nothing, and each row that the meter
+//! lends is paid, or lies on a page that was paid with all its rows. It tells whether a block still stands over its tables.
 //! It never reads a file or a statement, and never changes or drops a row.
 #![tactic(auto)]
 
