@@ -8,13 +8,15 @@ use Rattle.ess_grid.specs.Points.{IsGrid, IsPoint, bottom_of, top_of}
 use Rattle.ess_grid.specs.Order.{PointBelow}
 use Rattle.ess_grid.proofs.GridPoints.{IsPoint-top, PointBelow-top}
 use Rattle.plan_tree.specs.Plans.{PlanTree}
+use Rattle.plan_tree.specs.Enumerated.{IsPlan}
 use Rattle.plan_tree.proofs.Members.{IsIn}
 use Rattle.cost_model.specs.Costing.{CostingTree}
 use Rattle.cost_model.specs.Costs.{cost_of}
+use Rattle.cost_model.proofs.Least.{optimal-least}
 use Rattle.cost_model.proofs.Monotone.{cost-le}
 use Rattle.bouquet_type.specs.Schedule.{Member}
 use Rattle.learned_run.specs.Learning.{learned_point, least_levels, points_left}
-use Rattle.learned_run.specs.Raising.{IsRaised, RulesOut, IsLearned, are_some, corner_of}
+use Rattle.learned_run.specs.Raising.{ArePast, IsRaised, RulesOut, IsLearned, are_some, corner_of}
 use Rattle.learned_run.proofs.Left.{left-above, left-still, left-before, in-left, of-left}
 use Rattle.learned_run.proofs.Levels.{AreLeast, levels-are, are-levels, no-points, levels-none}
 use Rattle.learned_run.proofs.CornerPoints.{corner-level, corner-point, below-corner}
@@ -114,6 +116,20 @@ stays-raised costing p budget point is_point past =
         within = λ lower least less. absurd (omega (arith, least, less));
       };
     }
+
+-- so where even the best plan costs more at the top and at the corners
+pub stays-past : (costing : CostingTree) (p : PlanTree) (budget : ℕ) (point : List ℕ) → IsPlan costing.block p → IsPoint costing.grid point
+    → ArePast costing budget point → IsRaised costing p budget point point
+stays-past costing p budget point plan is_point past = record {
+  of_grid = is_point;
+  top = omega (arith, past.top, optimal-least costing p (top_of costing.grid) plan);
+  levels = λ axis there. record {
+    risen = omega arith;
+    past =
+        omega (arith, past.corners axis there, optimal-least costing p (corner_of costing.grid axis (slice_index point axis)) plan);
+    within = λ lower least less. absurd (omega (arith, least, less));
+  };
+}
 
 -- before an execution is exhausted all points are left
 pub nothing-learned : (costing : CostingTree) → IsGrid costing.grid → IsLearned costing [] false (Some (bottom_of costing.grid))

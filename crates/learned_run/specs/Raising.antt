@@ -4,6 +4,7 @@ use Rattle.ess_grid.specs.Points.{GridShape, IsPoint, top_of}
 use Rattle.plan_tree.specs.Plans.{PlanTree}
 use Rattle.cost_model.specs.Costing.{CostingTree}
 use Rattle.cost_model.specs.Costs.{cost_of}
+use Rattle.cost_model.specs.Optimal.{optimal_cost}
 use Rattle.bouquet_type.specs.Schedule.{Member}
 use Rattle.learned_run.specs.Learning.{least_levels, points_left}
 
@@ -22,6 +23,11 @@ pub record IsRaised (costing : CostingTree) (p : PlanTree) (budget : ℕ) (befor
   pub of_grid : IsPoint costing.grid after
   pub top : budget < cost_of costing p (top_of costing.grid)
   pub levels : (axis : ℕ) → axis < costing.grid.axes → IsLevelPast costing p budget axis (slice_index before axis) (slice_index after axis)
+
+-- the optimal costs are above a budget at the top, and at the corner of each of a point's levels
+pub record ArePast (costing : CostingTree) (budget : ℕ) (point : List ℕ) : Type 0 where
+  pub top : budget < optimal_cost costing (top_of costing.grid)
+  pub corners : (axis : ℕ) → axis < costing.grid.axes → budget < optimal_cost costing (corner_of costing.grid axis (slice_index point axis))
 
 -- the least levels of what is left, if something is, where the plan is exhausted by the budget too
 abbrev pub RulesOut : CostingTree → PlanTree → (budget : ℕ) → (before after : Option (List ℕ)) → Type 0

@@ -7,6 +7,7 @@ ghost use Rattle.cost_model.specs.Frontier.{frontier};
 ghost use Rattle.cost_model.specs.Optimal.{optimal_cost};
 ghost use Rattle.learned_run.specs.Covering.{AreBareRows};
 
+use crate::optima::optimal_at;
 use crate::rows::FrontierRow;
 use cost_model::Costing;
 use ess_grid::Point;
@@ -25,12 +26,11 @@ pub(crate) fn kept_rows(
     requires points { All (IsPoint costing.now.grid) points.now }
     ensures { IfOk result (λ rows. AreBareRows (costing_tree costing.now) points.now rows.items) }
 {
-    let grid = costing.grid();
     let mut rows = Vec::with_capacity(alloc, points.len())?;
     for point in points {
         rows.push(FrontierRow {
             point: *point,
-            cost: costs[grid.place_of(point)],
+            cost: optimal_at(costing, costs, point),
             covers: None,
         })?;
     }

@@ -8,7 +8,8 @@ ghost use Rattle.learned_run.specs.Skips.{covers_above};
 ghost use Rattle.learned_run.specs.Covering.{AreBareRows, IsMemberOf, IsStepOf, costing_shape, member_of, step_skip};
 
 use crate::bare::{found_rows, kept_rows};
-use crate::rows::{FrontierRow, TriedPlans, any_row_covers};
+use crate::probes::covers_one;
+use crate::rows::{FrontierRow, TriedPlans};
 use bouquet_type::{Attempt, Bouquet};
 use cost_model::Costing;
 use ess_grid::Point;
@@ -142,7 +143,7 @@ impl<'c> Frontiers<'c> {
         ensures same { self.new ≡ self.old }
     {
         match &mut self.plans {
-            Some(plans) => any_row_covers(alloc, plans, &mut self.rows, step.place - 1, point),
+            Some(plans) => covers_one(alloc, plans, &mut self.rows, step.place - 1, point),
             None => Ok(false),
         }
     }

@@ -11,6 +11,8 @@ mod corners;
 mod frontiers;
 mod learned;
 mod lesson;
+mod optima;
+mod probes;
 mod raise;
 mod rows;
 mod run;

@@ -64,6 +64,7 @@ pub fn learn(
 {
     let _block = b.block();
     let costing = b.costing();
+    let costs = b.optimal_costs();
     let mut frontiers = Frontiers::new(alloc, b, &costing);
     let mut lesson = Lesson::new(&costing);
     let mut schedule = Schedule::new(Kept::new(b));
@@ -83,6 +84,6 @@ pub fn learn(
         )? {
             return Ok(Learned { report, skips });
         }
-        lesson.learn(&costing, step);
+        lesson.learn(&costing, costs, step);
     }
 }
