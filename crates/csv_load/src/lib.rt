@@ -14,4 +14,4 @@ mod place;
 mod text;
 
 pub use fault::LoadFault;
-pub use loading::load;
+pub use loading::{load, load_file};

@@ -1,9 +1,13 @@
 // A file into a table: its header, then entry after entry into a batch, which the table gets when all were good. Reading
 // ends at the first fault.
-ghost use Rattle.std.specs.Prelude.{◌+◌, ◌<◌, ◌≤◌, ◌^◌, [], ◌∷◌, ◌++◌, length, map, IfOk, OnOk};
+ghost use Rattle.std.specs.Prelude.{◌≡◌, ◌+◌, ◌<◌, ◌≤◌, ◌^◌, [], ◌∷◌, ◌++◌, length, map, IfOk, OnOk, OnErr};
+ghost use Rattle.std.specs.Option.{option_and_then};
 ghost use Rattle.csv.specs.Records.{fields_of};
+ghost use Rattle.db_catalog.specs.Database.{table_at};
+ghost use Rattle.db_catalog.specs.Refused.{append_fault};
 ghost use Rattle.csv_load.specs.Entries.{records_left, GivesEntries};
-ghost use Rattle.csv_load.specs.Load.{entry_fault, entry_row, entries_fault, file_fault, file_rows, entries_of, Loads, IsBatchOf};
+ghost use Rattle.csv_load.specs.Load.{entry_fault, entry_row, entries_fault, file_fault, file_rows, entries_of, limit_of};
+ghost use Rattle.csv_load.specs.Load.{Appends, Loads, IsBatchOf};
 ghost use Rattle.csv_load.specs.Fault.{GivesFault};
 
 use crate::entries::{next_entry, reader_of};
@@ -103,6 +107,24 @@ fn batch_of(
     Ok(batch)
 }
 
+// Appends the rows of a batch to a table, and returns how many these are.
+fn append(db: &mut Database, table: u32, batch: Batch) -> Result<u64, LoadFault>
+    requires there { table < length db.old.tables }
+    requires columns { batch.columns ≡ (table_at db.old table).columns }
+    requires whole { batch.row ≡ [] }
+    ensures loaded { IfOk result (λ count. Appends table db.old db.new count batch.rows) }
+    ensures fault { GivesFault (option_and_then limit_of (append_fault db.old table batch.rows)) result }
+    ensures unchanged { OnErr result (db.new ≡ db.old) }
+{
+    let rows = batch.rows();
+    match db.append_batch(table, batch) {
+        Ok(()) => Ok(rows),
+        Err(DbFault::Limit { name, value }) => Err(LoadFault::Limit { name, value }),
+        Err(DbFault::NoMemory) => Err(LoadFault::NoMemory),
+        Err(DbFault::Duplicate { .. }) => unreachable!(),
+    }
+}
+
 /// Appends the rows of a CSV file (RFC 4180) to a table, and returns how many these are. The first entry is the header: the
 /// columns' names in their order, in any case (of ASCII). A byte order mark before it is dropped, and blank lines are no
 /// entries. An empty field is NULL, quoted or not.
@@ -116,11 +138,21 @@ pub fn load(alloc: Global, db: &mut Database, table: u32, bytes: &[u8]) -> Resul
     ensures { Loads table bytes.now db.old db.new result }
 {
     let batch = batch_of(alloc, db.key(), db.columns(table), bytes)?;
-    let rows = batch.rows();
-    match db.append_batch(table, batch) {
-        Ok(()) => Ok(rows),
-        Err(DbFault::Limit { name, value }) => Err(LoadFault::Limit { name, value }),
-        Err(DbFault::NoMemory) => Err(LoadFault::NoMemory),
-        Err(DbFault::Duplicate { .. }) => unreachable!(),
-    }
+    append(db, table, batch)
+}
+
+/// As `load`, of a file that is given up: its bytes are let go before the table takes memory for its rows.
+#[tactic(auto, unfolding(crate::specs::Load::load_of, crate::specs::Load::load_due))]
+pub fn load_file(
+    alloc: Global,
+    db: &mut Database,
+    table: u32,
+    bytes: Vec<u8>,
+) -> Result<u64, LoadFault>
+    requires { table < length db.old.tables }
+    ensures { Loads table bytes.items db.old db.new result }
+{
+    let batch = batch_of(alloc, db.key(), db.columns(table), &bytes)?;
+    drop(bytes);
+    append(db, table, batch)
 }

@@ -40,7 +40,7 @@ impl Session {
             }
         };
         match pending {
-            Pending::Load(table) => self.load_bytes(alloc, table, &bytes),
+            Pending::Load(table) => self.load_bytes(alloc, table, bytes),
             Pending::Open(opening) => self.open_bytes(alloc, opening, &bytes),
         }
     }

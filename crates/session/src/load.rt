@@ -30,21 +30,21 @@ impl Session {
         }))
     }
 
-    /// Loads the bytes of a file into the table of this number, and prints how many rows it has.
+    /// Loads the bytes of a file, which are given up, into the table of this number, and prints how many rows it has.
     pub(crate) fn load_bytes(
         &mut self,
         alloc: Global,
         table: u32,
-        bytes: &[u8],
+        bytes: Vec<u8>,
     ) -> Result<Vec<u8>, Stop>
         requires there { table < length self.old.database.tables }
         ensures due { ReturnsFree
-            (load_bytes (world_of self.old) table bytes.now)
+            (load_bytes (world_of self.old) table bytes.items)
             result (world_of self.new) }
         ensures unchanged { OnErr result (self.new ≡ self.old) }
     {
         let mut text = lines::load_room(alloc)?;
-        let rows = csv_load::load(alloc, &mut self.database, table, bytes)?;
+        let rows = csv_load::load_file(alloc, &mut self.database, table, bytes)?;
         lines::write_load(&mut text, rows);
         Ok(text)
     }

@@ -18,10 +18,10 @@ returns-in-TooLong-clause-due c = λ file stands.
 
 pub returns-in-Load-clause-due : goal.returns-in-Load-clause-due
 returns-in-Load-clause-due c = λ file stands.
-    rw c.in-Load.is (with_bytes c.args.asked.name (load_bytes (world_of c.args.self.now) c.in-Load.table) c.in-Bytes.bytes file c.load_bytes.result (world_of c.load_bytes.new.self) (rw c.in-Bytes.is at stands) (rw c.deref.ensures.value at c.load_bytes.ensures.due))
+    rw c.in-Load.is (with_bytes c.args.asked.name (load_bytes (world_of c.args.self.now) c.in-Load.table) c.in-Bytes.bytes file c.load_bytes.result (world_of c.load_bytes.new.self) (rw c.in-Bytes.is at stands) c.load_bytes.ensures.due)
 
 pub returns-clause-due : goal.returns-clause-due
 returns-clause-due c = λ file stands.
     let opening = c.in-Open.opening in
     rw c.in-Open.is (with_bytes c.args.asked.name (open_with (world_of c.args.self.now) opening.name opening.query.items (block_tree opening.block) opening.stats) c.in-Bytes.bytes file c.open_bytes.result (world_of c.open_bytes.new.self) (rw c.in-Bytes.is at stands)
-    (rw c.deref-in-Open.ensures.value at c.open_bytes.ensures.due))
+    (rw c.deref.ensures.value at c.open_bytes.ensures.due))
