@@ -1,5 +1,5 @@
 -- Whether an execution is skipped, by the rows of its contour's frontier.
-use Rattle.std.proofs.Common.{◌≡◌, ◌∙◌, ℕ, ◌-◌, ◌≤◌, ◌<◌, List, length, map, get_or, ap, ap₂, sym, subst, arith}
+use Rattle.std.proofs.Common.{◌≡◌, ◌∙◌, ℕ, ◌-◌, ◌≤◌, ◌<◌, List, [], ◌∷◌, length, map, get_or, refl, ap, ap₂, sym, subst, arith}
 use Rattle.std.specs.Prelude.{All, Bool, IfSome, Option, Some, Vec, slice_get, slice_index}
 use Rattle.std.specs.declared.alloc.Global.{Global}
 use Rattle.std.proofs.lemmas.List.{length-map, get_or-map}
@@ -91,6 +91,21 @@ pub step-there : (b : BouquetShape) (step : Attempt) (budget : ℕ) → IsMember
 step-there b step budget is =
     let trees = map contour_tree b.contours in
     omega (arith, is.numbered.0, slice_get_within trees (step.contour - 1) is.contour is.numbered.1, length-map b.contours contour_tree)
+
+tree-costs : (contours : List Contour) → map (λ (contour : ContourTree). contour.cost) (map contour_tree contours) ≡ map (λ (contour : Contour). contour.cost) contours
+tree-costs [] = refl
+tree-costs (contour ∷ more) = ap (λ costs. contour.cost ∷ costs) (tree-costs more)
+
+-- it costs what is told
+pub step-cost : (b : BouquetShape) (step : Attempt) (budget : ℕ) → IsMemberOf (bouquet_tree b) (member_of step budget) → cost_on b step.contour ≡ step.cost
+step-cost b step budget is =
+    let trees = map contour_tree b.contours in
+    let place = step.contour - 1 in
+    let inside = slice_get_within trees place is.contour is.numbered.1 in
+    ap (λ (costs : List ℕ). slice_index costs place) (sym (tree-costs b.contours))
+    ∙ get_or-map (λ (contour : ContourTree). contour.cost) trees place is.contour 0 inside
+    ∙ ap (λ (contour : ContourTree). contour.cost) (get_or_from_slice_get trees place is.contour is.contour is.numbered.1)
+    ∙ sym is.cost
 
 module _ (bouquet : BouquetTree) (step : Attempt) (budget number : ℕ) (plans : TriedPlans) (rows : List FrontierRow) (is : IsMemberOf bouquet (member_of step budget)) (at : number ≡ step.contour)
     (are : AreOfNumber bouquet number plans rows) where

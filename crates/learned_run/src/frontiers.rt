@@ -1,6 +1,7 @@
 // The frontiers of a bouquet's contours, of which one is at hand: that of the plan that was asked for last.
-ghost use Rattle.std.specs.Prelude.{◌≡◌, ◌≤◌, IfOk, OnOk, length};
+ghost use Rattle.std.specs.Prelude.{◌≡◌, ◌≤◌, IfOk, IsTrue, OnOk, length, true};
 ghost use Rattle.plan_tree.specs.Plans.{plan_tree};
+ghost use Rattle.plan_tree.specs.Enumerated.{IsPlan};
 ghost use Rattle.cost_model.specs.Frontier.{frontier};
 ghost use Rattle.bouquet_type.specs.Shapes.{cost_on};
 ghost use Rattle.bouquet_type.specs.Trees.{bouquet_tree};
@@ -8,8 +9,8 @@ ghost use Rattle.learned_run.specs.Skips.{covers_above};
 ghost use Rattle.learned_run.specs.Covering.{AreBareRows, IsMemberOf, IsStepOf, costing_shape, member_of, step_skip};
 
 use crate::bare::{found_rows, kept_rows};
-use crate::probes::covers_one;
-use crate::rows::{FrontierRow, TriedPlans};
+use crate::probes::probe_covers;
+use crate::rows::{FrontierRow, TriedPlans, any_row_covers};
 use bouquet_type::{Attempt, Bouquet};
 use cost_model::Costing;
 use ess_grid::Point;
@@ -143,9 +144,31 @@ impl<'c> Frontiers<'c> {
         ensures same { self.new ≡ self.old }
     {
         match &mut self.plans {
-            Some(plans) => covers_one(alloc, plans, &mut self.rows, step.place - 1, point),
+            Some(plans) => any_row_covers(alloc, plans, &mut self.rows, step.place - 1, point),
             None => Ok(false),
         }
+    }
+
+    // Whether a quick look finds that the plan of an execution covers a point of its contour's frontier at or above this one. It
+    // finds none where the bouquet keeps no frontiers.
+    fn probe(&self, step: Attempt<'_>, budget: u128, point: &Point) -> bool
+        requires member { IsMemberOf (bouquet_tree self.now.bouquet) (member_of step budget) }
+        requires some { 1 ≤ step.contour }
+        requires there { step.contour ≤ length self.now.bouquet.contours }
+        requires plan { IsPlan (bouquet_tree self.now.bouquet).costing.block (plan_tree step.plan.now) }
+        ensures { let bouquet = bouquet_tree self.now.bouquet in IsTrue result → true
+            ≡ covers_above bouquet.costing bouquet.threshold (plan_tree step.entry.plan.now)
+            point.now (frontier bouquet.costing step.entry.cost) }
+    {
+        let Some(outline) = self.bouquet.outline() else {
+            return false;
+        };
+        let _contours = self.bouquet.contours();
+        let kept = &outline.frontiers[step.contour as usize - 1];
+        let points = kept.as_slice();
+        let costs = outline.costs.as_slice();
+        let threshold = self.bouquet.threshold();
+        probe_covers(self.costing, costs, threshold, step.plan, points, point)
     }
 
     /// By which point an execution is skipped, if it is, where this one is learned. An error is want of memory.
@@ -155,7 +178,8 @@ impl<'c> Frontiers<'c> {
         step: Attempt<'_>,
         learned: Option<Point>,
     ) -> Result<Option<Point>, AllocError>
-        requires { IsStepOf (bouquet_tree self.old.bouquet) step step.budget }
+        requires step { IsStepOf (bouquet_tree self.old.bouquet) step step.budget }
+        requires plan { IsPlan (bouquet_tree self.old.bouquet).costing.block (plan_tree step.plan.now) }
         ensures skip { IfOk result (λ skipped. skipped
             ≡ step_skip (bouquet_tree self.old.bouquet) step.entry learned step.entry.budget) }
         ensures same { self.new.bouquet ≡ self.old.bouquet }
@@ -166,6 +190,9 @@ impl<'c> Frontiers<'c> {
         let Some(point) = learned else {
             return Ok(None);
         };
+        if self.probe(step, budget, &point) {
+            return Ok(None);
+        }
         self.climb_to(alloc, step.contour)?;
         if self.covers(alloc, step, budget, &point)? {
             return Ok(None);

@@ -1,68 +1,62 @@
-// The rows of a frontier are looked at in two passes: one in every few, and then all. A plan often covers points that are near
-// to each other, so most plans are found to cover one in the first pass, and few rows are worked out.
-ghost use Rattle.std.specs.Prelude.{◌≡◌, ◌*◌, ◌<◌, All, IfOk, IsTrue, length, map, true};
+// A quick look at a contour's frontier, one point in every few. A plan often covers points that are near to each other, so most
+// plans that cover some are found by this, without memory.
+ghost use Rattle.std.specs.Prelude.{◌≡◌, ◌≤◌, All, IsTrue, map, true};
+ghost use Rattle.sql_values.specs.Limits.{max_threshold};
+ghost use Rattle.ess_grid.specs.Points.{IsPoint, points_of};
+ghost use Rattle.query_block.specs.Blocks.{block_tree};
+ghost use Rattle.plan_tree.specs.Plans.{plan_tree};
+ghost use Rattle.plan_tree.specs.Enumerated.{IsPlan};
 ghost use Rattle.cost_model.specs.Costing.{costing_tree};
-ghost use Rattle.plan_space.specs.Parts.{nth_plan};
-ghost use Rattle.learned_run.specs.Skips.{covers_above};
-ghost use Rattle.learned_run.specs.Covering.{AreTriedPlans, IsRowOfPlans, KeepsPlans};
+ghost use Rattle.cost_model.specs.Greedy.{covers_at};
+ghost use Rattle.cost_model.specs.Optimal.{optimal_cost};
+ghost use Rattle.learned_run.specs.Skips.{covers_above, is_at_or_below};
 
-use crate::rows::{FrontierRow, TriedPlans, any_row_covers, row_covers};
-use ess_grid::Point;
-use std::alloc::{AllocError, Global};
+use crate::optima::optimal_at;
+use cost_model::Costing;
+use ess_grid::{Point, below};
+use plan_tree::Plan;
 
-// The first pass looks at one row in so many.
-const ROWS_A_PROBE: usize = 5;
+// One point in so many is looked at.
+const POINTS_A_PROBE: usize = 5;
 
-// Whether the plan at this place covers a point at or above this one that the first pass looks at, from the last row on. An
-// error is want of memory.
-fn probe_covers(
-    alloc: Global,
-    plans: &mut TriedPlans<'_>,
-    rows: &mut Vec<FrontierRow>,
-    place: usize,
-    point: &Point,
-) -> Result<bool, AllocError>
-    requires tried { AreTriedPlans plans.old }
-    requires rows { All (IsRowOfPlans plans.old) rows.old.items }
-    requires place { place < length plans.old.all.plans }
-    ensures same { KeepsPlans plans.old plans.new }
-    ensures rows { All (IsRowOfPlans plans.old) rows.new.items }
-    ensures points { map (λ row. row.point) rows.new.items ≡ map (λ row. row.point) rows.old.items }
-    ensures covers { IfOk result (λ covers. IsTrue covers → true
-        ≡ covers_above (costing_tree plans.old.all.costing) plans.old.threshold
-        (nth_plan plans.old.all.plans place) point.now (map (λ row. row.point) rows.old.items)) }
+// Whether a plan covers a point, by the optimal costs at all points of the grid, in its order.
+fn covers_at(costing: &Costing<'_>, costs: &[u128], threshold: u32, p: &Plan, point: &Point) -> bool
+    requires costs { costs.now
+        ≡ map (optimal_cost (costing_tree costing.now)) (points_of costing.now.grid) }
+    requires threshold { threshold ≤ max_threshold }
+    requires plan { IsPlan (block_tree costing.now.block) (plan_tree p.now) }
+    requires point { IsPoint costing.now.grid point.now }
+    ensures { result ≡ covers_at (costing_tree costing.now) threshold (plan_tree p.now) point.now }
 {
-    let count = rows.len();
-    for probe in 0..count / ROWS_A_PROBE {
-        let at = count - 1 - probe * ROWS_A_PROBE;
-        if row_covers(alloc, plans, &mut rows[at], place, point)? {
-            return Ok(true);
-        }
-    }
-    Ok(false)
+    let cost = costing.cost(p, point);
+    let limit = u128::from(100 + threshold) * optimal_at(costing, costs, point);
+    100 * cost <= limit
 }
 
-/// Whether the plan at this place, from 0, covers a point at or above this one. Each row that is looked at is worked out then,
-/// once. An error is want of memory.
-pub(crate) fn covers_one(
-    alloc: Global,
-    plans: &mut TriedPlans<'_>,
-    rows: &mut Vec<FrontierRow>,
-    place: usize,
+/// Whether a plan is found to cover one of some points at or above this one: of each few points the last is looked at, from the
+/// last on. The optimal costs are those at all points of the grid, in its order.
+pub(crate) fn probe_covers(
+    costing: &Costing<'_>,
+    costs: &[u128],
+    threshold: u32,
+    p: &Plan,
+    points: &[Point],
     point: &Point,
-) -> Result<bool, AllocError>
-    requires tried { AreTriedPlans plans.old }
-    requires rows { All (IsRowOfPlans plans.old) rows.old.items }
-    requires place { place < length plans.old.all.plans }
-    ensures same { KeepsPlans plans.old plans.new }
-    ensures rows { All (IsRowOfPlans plans.old) rows.new.items }
-    ensures points { map (λ row. row.point) rows.new.items ≡ map (λ row. row.point) rows.old.items }
-    ensures covers { IfOk result (λ covers. covers
-        ≡ covers_above (costing_tree plans.old.all.costing) plans.old.threshold
-        (nth_plan plans.old.all.plans place) point.now (map (λ row. row.point) rows.old.items)) }
+) -> bool
+    requires costs { costs.now
+        ≡ map (optimal_cost (costing_tree costing.now)) (points_of costing.now.grid) }
+    requires threshold { threshold ≤ max_threshold }
+    requires plan { IsPlan (block_tree costing.now.block) (plan_tree p.now) }
+    requires points { All (IsPoint costing.now.grid) points.now }
+    ensures { IsTrue result → true ≡ covers_above (costing_tree costing.now) threshold
+        (plan_tree p.now) point.now points.now }
 {
-    if probe_covers(alloc, plans, rows, place, point)? {
-        return Ok(true);
+    let count = points.len();
+    for probe in 0..count.div_ceil(POINTS_A_PROBE) {
+        let other = &points[count - 1 - probe * POINTS_A_PROBE];
+        if below(point, other) && covers_at(costing, costs, threshold, p, other) {
+            return true;
+        }
     }
-    any_row_covers(alloc, plans, rows, place, point)
+    false
 }

@@ -94,8 +94,8 @@ fn covers(
     Ok(covers)
 }
 
-/// Whether a row's point is at or above this one, and the plan at this place covers it. An error is want of memory.
-pub(crate) fn row_covers(
+// Whether a row's point is at or above this one, and the plan at this place covers it. An error is want of memory.
+fn row_covers(
     alloc: Global,
     plans: &mut TriedPlans<'_>,
     row: &mut FrontierRow,

@@ -1,37 +1,33 @@
-use Rattle.std.proofs.Common.{◌∙◌, ◌-◌, ◌*◌, arith, ap, length, length-set, sym}
-use Rattle.std.proofs.lemmas.List.Elements.{All-set}
-use Rattle.learned_run.specs.Covering.{IsRowOfPlans}
-use Rattle.learned_run.proofs.Covered.{keeps-back, keeps-on, row-kept}
-use Rattle.learned_run.proofs.Looked.{points-stay, one-covers}
+use Rattle.std.proofs.Common.{◌≡◌, ◌∙◌, inl, inr, ℕ, ◌-◌, ◌*◌, ◌<◌, List, length, ap, sym, arith}
+use Rattle.std.specs.Prelude.{Bool, true, ◌&&◌}
+use Rattle.std.specs.Int.{div_ceil}
+use Rattle.std.proofs.lemmas.Bool.{and_from, cases_lt}
+use Rattle.std.proofs.lemmas.List.Folds.{list_any_at}
+use Rattle.plan_tree.specs.Plans.{plan_tree}
+use Rattle.cost_model.specs.Costing.{costing_tree}
+use Rattle.cost_model.specs.Greedy.{covers_at}
+use Rattle.learned_run.specs.Skips.{is_at_or_below}
+use Rattle.learned_run.proofs.Covered.{below-told}
 use Rattle.learned_run.proofs.probes.probe_covers.Goals as goal
 
-pub returns-in_err-row_covers-clause-points : goal.returns-in_err-row_covers-clause-points
-returns-in_err-row_covers-clause-points c =
-    let at = c.len-count.result - 1 - c.loop-probe.probe * 5 in
-    points-stay c.args.rows.now.items c.loop-probe.rows.items at c.index_mut.result.now c.row_covers.new.row c.index_mut.ensures.value c.in_err-row_covers.ensures.point c.loop-probe.invariant.points
-
-pub returns-then-branch-clause-points : goal.returns-then-branch-clause-points
-returns-then-branch-clause-points c =
-    let at = c.len-count.result - 1 - c.loop-probe.probe * 5 in
-    points-stay c.args.rows.now.items c.loop-probe.rows.items at c.index_mut.result.now c.row_covers.new.row c.index_mut.ensures.value c.in_ok-row_covers.ensures.point c.loop-probe.invariant.points
-
-pub returns-then-branch-clause-covers : goal.returns-then-branch-clause-covers
-returns-then-branch-clause-covers c = λ _.
-    let at = c.len-count.result - 1 - c.loop-probe.probe * 5 in
-    one-covers c.args.plans.now c.loop-probe.plans c.loop-probe.invariant.same c.args.place c.args.point.now c.args.rows.now.items c.loop-probe.rows.items at c.index_mut.result.now
-    (omega (arith, c.loop-probe-test.true, c.len-count.ensures)) c.index_mut.ensures.value c.loop-probe.invariant.points c.in_ok-row_covers.field-0 c.in_ok-row_covers.ensures.covers c.if-branch.true
-
-pub loop-probe-preserved : goal.loop-probe-preserved
-loop-probe-preserved c =
-    let at = c.len-count.result - 1 - c.loop-probe.probe * 5 in
-    let first = c.args.plans.now in
-    let now = c.loop-probe.plans in
-    let same = c.loop-probe.invariant.same in
-    record {
-      same = keeps-on first now c.row_covers.new.plans same c.in_ok-row_covers.ensures.same;
-      rows = All-set (IsRowOfPlans first) c.loop-probe.rows.items at c.row_covers.new.row (row-kept now first c.row_covers.new.row (keeps-back first now same) c.in_ok-row_covers.ensures.row)
-          c.loop-probe.invariant.rows;
-      points = points-stay c.args.rows.now.items c.loop-probe.rows.items at c.index_mut.result.now c.row_covers.new.row c.index_mut.ensures.value c.in_ok-row_covers.ensures.point
-          c.loop-probe.invariant.points;
-      long = length-set c.loop-probe.rows.items at c.row_covers.new.row ∙ c.loop-probe.invariant.long;
-    }
+pub returns-then-covers_at : goal.returns-then-covers_at
+returns-then-covers_at c = λ _.
+    let costing = costing_tree c.args.costing.now in
+    let p = plan_tree c.args.p.now in
+    let point = c.args.point.now in
+    let points = c.args.points.now in
+    let other = c.index-points-count.result in
+    let at = length points - 1 - c.loop-probe.probe * 5 in
+    let test : List ℕ → Bool = λ one. is_at_or_below point one && covers_at costing c.args.threshold p one in
+    let above : is_at_or_below point other ≡ true = sym (below-told c.below.result point other c.below.ensures) ∙ c.if-below.true in
+    let covers : covers_at costing c.args.threshold p other ≡ true = sym c.covers_at.ensures ∙ c.if-covers_at.true in
+    let some : 0 < length points =
+    elim (cases_lt 0 (length points)) [
+      | inl more ↦ more
+      | inr none ↦
+          let zero : length points ≡ 0 = omega (arith, none) in
+          let nothing : div_ceil (length points) 5 ≡ 0 = ap (λ n. div_ceil n 5) zero in
+          absurd (omega (arith, c.loop-probe-test.true, c.loop-probe.auto.probe-end, c.div_ceil-probe-end.ensures, nothing))
+    ] in
+    let passes : test other ≡ true = and_from _ _ above covers in
+    sym (list_any_at test points at other (omega (arith, some)) (ap test (sym c.index-points-count.is) ∙ passes))

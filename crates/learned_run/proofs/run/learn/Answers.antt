@@ -51,8 +51,8 @@ steps-init c =
       known = rw c.new-known.ensures (nothing-known c.args.meter.now.database.tables (block_tree c.args.block.now));
     }
 
-pub skip_point-requires : goal.skip_point-requires
-skip_point-requires c =
+pub skip_point-requires-clause-step : goal.skip_point-requires-clause-step
+skip_point-requires-clause-step c =
     let b = c.args.b.now in
     let bouquet = bouquet_tree b in
     let state = schedule_of ladder_of in
@@ -63,6 +63,13 @@ skip_point-requires c =
     let takes = c.in_ok-next.ensures.goes_on in
     let at = step-at old new step takes c.attempt-step.ensures.step c.attempt-step.ensures.place c.attempt-step.ensures.cost in
     subst (λ (one : BouquetShape). IsStepOf (bouquet_tree one) step step.budget) (sym is.frontiers) (step-of bouquet (members_left old) step is.learning.members at)
+
+pub skip_point-requires-clause-plan : goal.skip_point-requires-clause-plan
+skip_point-requires-clause-plan c =
+    let plan = plan_tree c.attempt-step.result.plan.now in
+    let is = c.steps.invariant in
+    subst (λ (one : BouquetShape). IsPlan (bouquet_tree one).costing.block plan) (sym is.frontiers)
+    (subst (λ (whole : BouquetTree). IsPlan whole.costing.block plan) (c.in_ok-next.ensures.goes_on.whole ∙ is.of) c.attempt-step.ensures.plan)
 
 pub note-requires : goal.note-requires
 note-requires c =

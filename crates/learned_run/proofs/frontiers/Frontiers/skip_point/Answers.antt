@@ -7,4 +7,9 @@ use Rattle.learned_run.proofs.frontiers.Frontiers.skip_point.Goals as goal
 pub climb_to-requires-clause-there : goal.climb_to-requires-clause-there
 climb_to-requires-clause-there c =
     let b = c.args.self.now.bouquet in
-    step-there b c.args.step c.in-Some.budget (subst (IsStepOf (bouquet_tree b) c.args.step) c.in-Some.is c.requires)
+    step-there b c.args.step c.in-Some.budget (subst (IsStepOf (bouquet_tree b) c.args.step) c.in-Some.is c.requires.step)
+
+pub probe-requires-clause-there : goal.probe-requires-clause-there
+probe-requires-clause-there c =
+    let b = c.args.self.now.bouquet in
+    step-there b c.args.step c.in-Some.budget (subst (IsStepOf (bouquet_tree b) c.args.step) c.in-Some.is c.requires.step)
