@@ -1,5 +1,5 @@
 use Rattle.std.proofs.Common.{◌≡◌, ◌∙◌, ℕ, List, ap, subst, sym}
-use Rattle.std.specs.Prelude.{All, IsTrue, true}
+use Rattle.std.specs.Prelude.{All}
 use Rattle.ess_grid.specs.Points.{GridShape, IsPoint}
 use Rattle.plan_tree.specs.Plans.{plan_tree}
 use Rattle.cost_model.specs.Costing.{CostingShape, costing_tree}
