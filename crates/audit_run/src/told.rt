@@ -2,7 +2,7 @@
 use ess_grid::Point;
 
 /// What an audit tells. Costs and works are units of work.
-#[derive(Clone, Copy, Debug, Drop, PartialEq, Eq)]
+#[derive(Clone, Copy, Drop)]
 pub struct Audit {
     /// The point of the grid whose costs were looked at.
     pub point: Point,
@@ -23,7 +23,7 @@ pub struct Audit {
 }
 
 /// Why there is no audit.
-#[derive(Clone, Copy, Debug, Drop, PartialEq, Eq)]
+#[derive(Clone, Copy, Drop)]
 pub enum AuditFault {
     /// The block has more than 20000 plans. Nothing was executed.
     PlanLimit,
