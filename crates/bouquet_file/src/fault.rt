@@ -3,7 +3,7 @@ use cost_model::{CountName, Stale};
 use std::alloc::{AllocError, AllocFailed};
 
 /// The place of a value that isn't there or doesn't fit. Items are numbered from 1.
-#[derive(Clone, Copy, Debug, PartialEq, Eq)]
+#[derive(Clone, Copy)]
 pub enum FieldPath {
     /// The version.
     Bouquet,
@@ -36,7 +36,7 @@ pub enum FieldPath {
 }
 
 /// Why a file isn't opened as a bouquet: the first fault.
-#[derive(Clone, Copy, Debug, PartialEq, Eq)]
+#[derive(Clone, Copy)]
 pub enum OpenFault {
     /// It is no JSON of at most 127 levels.
     NotJson,

@@ -14,7 +14,7 @@ use sql_values::{MAX_COLUMNS, MAX_ROWS};
 use std::alloc::Global;
 
 /// What a file says was counted of a relation.
-#[derive(Clone, Copy, Debug, PartialEq, Eq)]
+#[derive(Clone, Copy)]
 pub(crate) struct KeptCounts {
     /// The rows of its table.
     pub rows: u64,

@@ -6,7 +6,7 @@ use db_catalog::Metered;
 use std::marker::Model;
 
 /// The work that all runs paid together, in units. `run` raises it by what it paid, and no other call raises it.
-#[derive(Debug, Drop)]
+#[derive(Drop)]
 pub struct Book {
     paid: u128,
 }

@@ -2,7 +2,7 @@
 use plan_tree::Plan;
 
 /// A contour: the plans that are tried under one budget.
-#[derive(Debug, Drop)]
+#[derive(Drop)]
 pub struct Contour {
     /// What the best plans at the points of the contour cost at the most, in units of work.
     pub cost: u128,

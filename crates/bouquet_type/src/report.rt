@@ -5,7 +5,7 @@ use plan_tree::Plan;
 use std::alloc::AllocError;
 
 /// How a query was answered.
-#[derive(Debug, Drop)]
+#[derive(Drop)]
 pub struct Report {
     /// How many rows the answer has.
     pub rows: u64,
@@ -41,7 +41,7 @@ impl Report {
 }
 
 /// Why a run has no answer.
-#[derive(Clone, Copy, Debug, Drop, PartialEq, Eq)]
+#[derive(Clone, Copy, Drop)]
 pub enum RunFault {
     /// What all executions spend together is more than may be spent at the most. So much is spent.
     WorkLimit {

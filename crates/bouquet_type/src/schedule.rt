@@ -12,7 +12,7 @@ use plan_tree::Plan;
 use std::alloc::{AllocError, Global};
 
 /// An execution.
-#[derive(Clone, Copy, Debug)]
+#[derive(Clone, Copy)]
 pub struct Attempt<'b> {
     /// The plan that is executed.
     pub plan: &'b Plan,

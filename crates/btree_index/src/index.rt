@@ -21,7 +21,7 @@ use work_ledger::{Exhausted, Ledger, charge};
 const FEW_ENTRIES: usize = 8;
 
 /// A place in an index: the entries from `next` up to `end`, which it excludes, are left.
-#[derive(Clone, Copy, Debug, PartialEq, Eq)]
+#[derive(Clone, Copy)]
 pub struct Cursor {
     /// The place of the next entry, from 0.
     pub next: usize,

@@ -3,7 +3,7 @@ ghost use Rattle.std.specs.Prelude.{◌≡◌};
 ghost use Rattle.cost_model.specs.Staleness.{RefusesFirst, changed, count_word};
 
 /// A count of a relation that isn't what it was.
-#[derive(Clone, Copy, Debug, PartialEq, Eq)]
+#[derive(Clone, Copy)]
 pub struct Stale {
     /// The relation, from 0 in FROM order.
     pub relation: u32,
@@ -16,7 +16,7 @@ pub struct Stale {
 }
 
 /// A count of a relation, as a refusal names it.
-#[derive(Clone, Copy, Debug, PartialEq, Eq)]
+#[derive(Clone, Copy)]
 pub enum CountName {
     /// The rows of its table.
     Rows,

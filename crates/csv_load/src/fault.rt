@@ -3,7 +3,7 @@ use sql_values::LimitName;
 use std::alloc::AllocError;
 
 /// Why a file isn't loaded. The database is then as it was. Entries are numbered from 1 without the header, fields from 1.
-#[derive(Debug, Drop, PartialEq, Eq)]
+#[derive(Drop)]
 pub enum LoadFault {
     /// The header hasn't the columns' names in their order, in any case (of ASCII). A file without entries has none.
     Header {

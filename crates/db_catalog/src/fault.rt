@@ -3,7 +3,7 @@ use sql_values::{LimitName, Text};
 use std::alloc::{AllocError, AllocFailed};
 
 /// Why a database refuses a change. It is then as it was.
-#[derive(Debug, Drop, PartialEq, Eq)]
+#[derive(Drop)]
 pub enum DbFault {
     /// The name stands already.
     Duplicate {

@@ -1,7 +1,7 @@
 use thiserror::Error;
 
 /// Why there is no such grid.
-#[derive(Clone, Copy, Debug, PartialEq, Eq, Drop, Error)]
+#[derive(Clone, Copy, Debug, Drop, Error)]
 pub enum GridFault {
     /// The levels that are given aren't 2 to 25.
     #[error("an axis can't have {given} levels")]

@@ -15,7 +15,7 @@ use std::marker::Model;
 const SELECTIVITY_BITS: u32 = 24;
 
 /// So many axes, each with so many levels.
-#[derive(Clone, Copy, Debug, PartialEq, Eq)]
+#[derive(Clone, Copy)]
 pub struct Grid {
     axes: usize,
     levels: usize,

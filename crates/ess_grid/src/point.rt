@@ -7,7 +7,7 @@ use sql_values::MAX_AXES;
 use std::marker::Model;
 
 /// A point of a grid: a level, from 0, on each axis.
-#[derive(Clone, Copy, Debug, PartialEq, Eq)]
+#[derive(Clone, Copy)]
 pub struct Point {
     axes: usize,
     // Past the axes the levels are 0.

@@ -18,7 +18,7 @@ use work_ledger::{Exhausted, Ledger, charge};
 const PAGE_WORDS: usize = 1024;
 
 /// Why a heap took no rows.
-#[derive(Clone, Copy, Debug, PartialEq, Eq)]
+#[derive(Clone, Copy)]
 pub enum HeapFault {
     /// So many rows would be more than a table may have.
     RowLimit {
@@ -41,7 +41,7 @@ impl From<AllocError> for HeapFault {
 }
 
 /// A page of a heap, by its number from 0.
-#[derive(Clone, Copy, Debug, PartialEq, Eq)]
+#[derive(Clone, Copy)]
 pub struct PageView {
     /// The page's number, from 0.
     pub number: u64,

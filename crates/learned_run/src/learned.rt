@@ -3,7 +3,7 @@ use bouquet_type::Report;
 use ess_grid::Point;
 
 /// An execution that was skipped.
-#[derive(Debug, Drop)]
+#[derive(Drop)]
 pub struct Skip {
     /// The number of its contour, from 1.
     pub contour: u32,
@@ -15,7 +15,7 @@ pub struct Skip {
 }
 
 /// How a query was answered by a run that learns.
-#[derive(Debug, Drop)]
+#[derive(Drop)]
 pub struct Learned {
     /// How it was answered. Executions that were skipped aren't counted.
     pub report: Report,

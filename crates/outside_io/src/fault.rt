@@ -4,11 +4,11 @@ use std::io;
 use std::io::ErrorKind;
 
 /// A source failed, and gave nothing.
-#[derive(Clone, Copy, Debug, PartialEq, Eq)]
+#[derive(Clone, Copy)]
 pub struct Failed;
 
 /// Why a sink didn't take the bytes.
-#[derive(Clone, Copy, Debug, PartialEq, Eq)]
+#[derive(Clone, Copy)]
 pub enum PutFault {
     /// The sink failed. It may have taken the first of the bytes.
     Failed,
@@ -17,7 +17,7 @@ pub enum PutFault {
 }
 
 /// Why a folder didn't read or write a file.
-#[derive(Clone, Copy, Debug, PartialEq, Eq)]
+#[derive(Clone, Copy)]
 pub enum FileFault {
     /// The folder has no file of that name.
     Absent,

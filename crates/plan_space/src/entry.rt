@@ -9,7 +9,7 @@ use plan_tree::Root;
 use std::cmp::Ordering;
 
 /// The cost of a plan and its outermost node. The plans of the sides stand in the entries of their sets.
-#[derive(Clone, Copy, Debug, PartialEq, Eq)]
+#[derive(Clone, Copy)]
 pub(crate) struct Entry {
     pub(crate) cost: u128,
     pub(crate) root: Root,

@@ -15,7 +15,7 @@ use query_block::Block;
 use std::alloc::{AllocError, Global};
 
 /// Why not all plans of a block are listed.
-#[derive(Clone, Copy, Debug, PartialEq, Eq)]
+#[derive(Clone, Copy)]
 pub enum AllFault {
     /// There are more than the limit.
     TooMany,

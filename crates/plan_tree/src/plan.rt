@@ -2,7 +2,7 @@
 
 /// How the rows of some relations are found. Relations, columns and edges are numbered from 0, as in a block; a plan may
 /// name any numbers, and `is_plan` tells whether they are a block's.
-#[derive(Debug, Drop)]
+#[derive(Drop)]
 pub enum Plan {
     /// All rows of a relation.
     Scan(u8),

@@ -10,7 +10,7 @@ use crate::plan::Plan;
 use std::alloc::{AllocFailed, Global};
 
 /// Why bytes aren't read as a plan.
-#[derive(Clone, Copy, Debug, PartialEq, Eq)]
+#[derive(Clone, Copy)]
 pub enum PlanFault {
     /// No plan of at most six leaves has this text.
     NotPlanText,

@@ -15,7 +15,7 @@ use std::alloc::{AllocError, Global};
 
 /// The outermost node of a plan of a set of relations: its sides are sets, bit r for relation r. What isn't in the left
 /// side of a join is in the right one. Relations, columns and edges are numbers from 0.
-#[derive(Clone, Copy, Debug, PartialEq, Eq)]
+#[derive(Clone, Copy, PartialEq, Eq)]
 pub enum Root {
     /// All rows of a relation.
     Scan(u8),
@@ -32,7 +32,7 @@ pub enum Root {
 }
 
 /// The kinds of joins by an edge.
-#[derive(Clone, Copy, PartialEq, Eq)]
+#[derive(Clone, Copy)]
 pub(crate) enum EdgeJoin {
     Hash,
     Merge,

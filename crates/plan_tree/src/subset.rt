@@ -9,7 +9,7 @@ use query_block::{Block, Edge};
 use std::marker::Model;
 
 /// A set of relations of a block, of numbers below 8. It is seen as a number: bit r is 1 where relation r is in it.
-#[derive(Clone, Copy, Debug, PartialEq, Eq)]
+#[derive(Clone, Copy)]
 pub struct Subset {
     bits: u8,
 }

@@ -16,7 +16,7 @@ use std::alloc::{AllocError, Global};
 use std::marker::Model;
 
 /// A table of FROM, and what WHERE asks of it alone.
-#[derive(Debug, Drop)]
+#[derive(Drop)]
 pub struct Relation {
     /// The table's number, from 0.
     pub table: u32,
@@ -29,7 +29,7 @@ pub struct Relation {
 }
 
 /// A query with its names bound. Its parts never change, and keep the invariant `IsBlock`.
-#[derive(Debug, Drop)]
+#[derive(Drop)]
 pub struct Block {
     relations: Vec<Relation>,
     edges: Vec<Edge>,

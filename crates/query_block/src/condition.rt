@@ -2,7 +2,7 @@
 use sql_values::{Op, Value};
 
 /// An operand of a predicate.
-#[derive(Debug, Drop)]
+#[derive(Drop)]
 pub enum Operand {
     /// A column of the condition's relation, from 0.
     Column(u8),
@@ -13,7 +13,7 @@ pub enum Operand {
 }
 
 /// A condition on a row of one relation (SQL-92, 8.12).
-#[derive(Debug, Drop)]
+#[derive(Drop)]
 pub enum Condition {
     Compare(Op, Operand, Operand),
     /// The first operand lies between the second and the third.

@@ -5,7 +5,7 @@ ghost use Rattle.query_block.specs.Blocks.{holds_texts};
 use sql_values::ColumnType;
 
 /// What a parameter stands for.
-#[derive(Clone, Copy, Debug, PartialEq, Eq)]
+#[derive(Clone, Copy)]
 pub enum Kind {
     /// A number.
     Integer,

@@ -6,7 +6,7 @@ use crate::kind::Kind;
 use sql_values::Value;
 
 /// Why values don't fit the parameters of a block.
-#[derive(Clone, Copy, Debug, PartialEq, Eq)]
+#[derive(Clone, Copy)]
 pub enum ValueFault {
     /// There are more or fewer values than parameters.
     Count { given: u64, wanted: u64 },

@@ -83,7 +83,7 @@ fn any_past(jobs: &[Job<'_>]) -> bool
     ensures { result ≡ list_any is_past (map job_tree jobs.now) }
 {
     for job in jobs {
-        if job.state() == JobState::Limited {
+        if matches!(job.state(), JobState::Limited) {
             return true;
         }
     }

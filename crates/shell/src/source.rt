@@ -16,7 +16,7 @@ const BLOCK_BYTES: usize = 131072;
 const MOST_BYTES: usize = MAX_SCRIPT_BYTES as usize + 1;
 
 /// Why a source wasn't read.
-#[derive(Clone, Copy, Debug, PartialEq, Eq)]
+#[derive(Clone, Copy)]
 pub(crate) enum SourceFault {
     /// The source failed.
     Failed,

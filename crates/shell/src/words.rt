@@ -21,7 +21,7 @@ use std::alloc::{AllocError, Global};
 const MAX_WORK: u64 = 4611686018427387904;
 
 /// What a command line asks for.
-#[derive(Clone, Copy, Debug, PartialEq, Eq)]
+#[derive(Clone, Copy)]
 pub(crate) struct Options {
     /// The most units of work of a query or an audit, from 0 to 2^62.
     pub(crate) max_work: u64,
@@ -30,7 +30,7 @@ pub(crate) struct Options {
 }
 
 /// Why the arguments give no options.
-#[derive(Clone, Copy, Debug, PartialEq, Eq)]
+#[derive(Clone, Copy)]
 pub(crate) enum WordsFault {
     /// They are no command line.
     BadWords,

@@ -3,7 +3,7 @@ use sql_values::{LimitName, Text};
 use std::alloc::{AllocError, AllocFailed};
 
 /// Why a query has no block. Names are in upper case.
-#[derive(Debug, Drop, PartialEq, Eq)]
+#[derive(Drop)]
 pub enum BindFault {
     /// The database has no such table.
     UnknownTable {

@@ -1,7 +1,7 @@
 // What is wrong with a script that has no tokens. It never names more than the first fault.
 
 /// Why a script has no tokens.
-#[derive(Clone, Copy, Debug, PartialEq, Eq)]
+#[derive(Clone, Copy)]
 pub enum LexKind {
     /// No token, white space or comment begins with this byte.
     Byte,
@@ -18,7 +18,7 @@ pub enum LexKind {
 }
 
 /// The first fault of a script.
-#[derive(Clone, Copy, Debug, PartialEq, Eq)]
+#[derive(Clone, Copy)]
 pub struct LexFault {
     /// The place of its first byte, from 0. Out of memory, no clause says which place this is.
     pub place: usize,

@@ -1,7 +1,7 @@
 // A token: its kind and its place. It never holds the token's bytes or its value.
 
 /// What a token is (SQL-92, 5.2).
-#[derive(Clone, Copy, Debug, PartialEq, Eq)]
+#[derive(Clone, Copy)]
 pub enum TokenKind {
     /// A name or a keyword: a letter, then letters, digits and `_`.
     Word,
@@ -16,7 +16,7 @@ pub enum TokenKind {
 }
 
 /// A token of a script.
-#[derive(Clone, Copy, Debug, PartialEq, Eq)]
+#[derive(Clone, Copy)]
 pub struct Token {
     pub kind: TokenKind,
     /// The place of its first byte, from 0.

@@ -2,7 +2,7 @@ use std::alloc::{AllocError, AllocFailed};
 use thiserror::Error;
 
 /// Why tokens are no statements.
-#[derive(Clone, Copy, Debug, PartialEq, Eq, Drop, Error)]
+#[derive(Clone, Copy, Debug, Drop, Error)]
 pub enum SyntaxFault {
     /// A piece between semicolons isn't a statement.
     #[error("no statement begins at byte {place}")]
@@ -16,7 +16,7 @@ pub enum SyntaxFault {
 }
 
 // Why a piece isn't read.
-#[derive(Clone, Copy, Debug, PartialEq, Eq, Drop)]
+#[derive(Clone, Copy, Drop)]
 pub(crate) enum ReadFault {
     NotAStatement,
     NoMemory,

@@ -48,7 +48,7 @@ use std::alloc::{AllocError, Global};
 use turns::{print_turns, turns};
 
 /// A statement of a script.
-#[derive(Debug, Drop)]
+#[derive(Drop)]
 pub enum Statement {
     CreateTable(TableDef),
     CreateIndex(IndexDef),

@@ -6,7 +6,7 @@ use sql_values::{ColumnDef, Op, Sequence, Text, Value};
 pub type Name = Text;
 
 /// CREATE TABLE.
-#[derive(Debug, Drop)]
+#[derive(Drop)]
 pub struct TableDef {
     pub name: Name,
     /// At least one.
@@ -14,7 +14,7 @@ pub struct TableDef {
 }
 
 /// CREATE INDEX.
-#[derive(Debug, Drop)]
+#[derive(Drop)]
 pub struct IndexDef {
     pub name: Name,
     pub table: Name,
@@ -22,14 +22,14 @@ pub struct IndexDef {
 }
 
 /// LOAD.
-#[derive(Debug, Drop)]
+#[derive(Drop)]
 pub struct LoadDef {
     pub file: Text,
     pub table: Name,
 }
 
 /// COMPILE. Levels and threshold are none where they aren't written.
-#[derive(Debug, Drop)]
+#[derive(Drop)]
 pub struct CompileDef {
     pub name: Name,
     pub levels: Option<u64>,
@@ -38,14 +38,14 @@ pub struct CompileDef {
 }
 
 /// SAVE.
-#[derive(Debug, Drop)]
+#[derive(Drop)]
 pub struct FileDef {
     pub name: Name,
     pub file: Text,
 }
 
 /// OPEN.
-#[derive(Debug, Drop)]
+#[derive(Drop)]
 pub struct OpenDef {
     pub name: Name,
     pub file: Text,
@@ -53,7 +53,7 @@ pub struct OpenDef {
 }
 
 /// RUN, or LEARN. Without USING there are no values.
-#[derive(Debug, Drop)]
+#[derive(Drop)]
 pub struct RunDef {
     pub name: Name,
     /// The values of the query's parameters, in order; never NULL.
@@ -61,7 +61,7 @@ pub struct RunDef {
 }
 
 /// TURNS. Without BY there are no numbers.
-#[derive(Debug, Drop)]
+#[derive(Drop)]
 pub struct TurnsDef {
     /// The bouquets, at least one, each with its values.
     pub uses: Sequence<RunDef>,
@@ -70,7 +70,7 @@ pub struct TurnsDef {
 }
 
 /// AUDIT. Without AT there are no levels, and without USING no values.
-#[derive(Debug, Drop)]
+#[derive(Drop)]
 pub struct AuditDef {
     pub name: Name,
     pub levels: Sequence<u64>,
@@ -79,7 +79,7 @@ pub struct AuditDef {
 }
 
 /// A query (SQL-92, 7.9).
-#[derive(Debug, Drop)]
+#[derive(Drop)]
 pub struct Query {
     /// The columns in the order in which they are written, at least one; none for `*`.
     pub columns: Option<Sequence<ColRef>>,
@@ -90,21 +90,21 @@ pub struct Query {
 }
 
 /// A table of FROM. Where no alias is written, it is the table's name.
-#[derive(Debug, Drop)]
+#[derive(Drop)]
 pub struct Item {
     pub table: Name,
     pub alias: Name,
 }
 
 /// A column as a query writes it.
-#[derive(Debug, Drop)]
+#[derive(Drop)]
 pub struct ColRef {
     pub alias: Option<Name>,
     pub column: Name,
 }
 
 /// An operand of a predicate.
-#[derive(Debug, Drop)]
+#[derive(Drop)]
 pub enum Term {
     Column(ColRef),
     /// A number or a text; never NULL.
@@ -114,7 +114,7 @@ pub enum Term {
 }
 
 /// A condition (SQL-92, 8.12). In a predicate, true stands for the predicate's own NOT.
-#[derive(Debug, Drop)]
+#[derive(Drop)]
 pub enum Cond {
     Compare(Op, Term, Term),
     /// The first term lies between the second and the third.

@@ -2,7 +2,7 @@
 use crate::text::Text;
 
 /// What a column holds.
-#[derive(Clone, Copy, Debug, PartialEq, Eq)]
+#[derive(Clone, Copy, PartialEq, Eq)]
 pub enum ColumnType {
     /// Whole numbers from -9223372036854775807 to 9223372036854775807 (SQL-92, 4.4).
     Integer,
@@ -12,7 +12,7 @@ pub enum ColumnType {
 }
 
 /// A column of a table.
-#[derive(Clone, Debug, Drop, PartialEq, Eq)]
+#[derive(Clone, Drop)]
 pub struct ColumnDef {
     /// The column's name, in upper case.
     pub name: Text,

@@ -4,7 +4,7 @@ ghost use Rattle.sql_values.specs.Limits as spec;
 ghost use Rattle.sql_values.specs.LimitNames.{limit_word};
 
 /// A limit, as a refusal names it.
-#[derive(Clone, Copy, Debug, PartialEq, Eq)]
+#[derive(Clone, Copy)]
 pub enum LimitName {
     /// Bytes of a script.
     Script,

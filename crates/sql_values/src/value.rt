@@ -13,7 +13,7 @@ pub fn null_word_is_as_stated()
 {}
 
 /// A value as a statement writes it, or as a column holds it.
-#[derive(Clone, Debug, Drop, PartialEq, Eq)]
+#[derive(Clone, Drop)]
 pub enum Value {
     /// The value that is none: SQL's NULL.
     Null,

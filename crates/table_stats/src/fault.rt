@@ -1,7 +1,7 @@
 use std::alloc::AllocError;
 
 /// Why there are no counts.
-#[derive(Clone, Copy, Debug, PartialEq, Eq)]
+#[derive(Clone, Copy)]
 pub enum StatsFault {
     /// The tables have too many combinations of one row each.
     ProductLimit {

@@ -5,7 +5,7 @@ ghost use Rattle.turns.specs.Jobs.{progress_by, report_of, job_state_of};
 use crate::state::JobState;
 use bouquet_type::{Report, RunFault};
 
-#[derive(Debug, Drop)]
+#[derive(Drop)]
 pub enum Progress {
     // So many turns were taken, and no plan is done yet.
     Running { place: u32 },

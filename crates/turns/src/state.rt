@@ -1,7 +1,7 @@
 // How a job stands, as plain data.
 
 /// How a job stands.
-#[derive(Clone, Copy, Debug, Drop, PartialEq, Eq)]
+#[derive(Clone, Copy, Drop)]
 pub enum JobState {
     /// It takes further turns. There is no row yet.
     Running {

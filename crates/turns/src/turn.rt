@@ -1,7 +1,7 @@
 // A turn that was taken, as plain data.
 
 /// A turn that was taken: one execution of one job.
-#[derive(Clone, Copy, Debug, Drop, PartialEq, Eq)]
+#[derive(Clone, Copy, Drop)]
 pub struct Turn {
     /// The number of the job, from 0.
     pub job: u32,

@@ -7,11 +7,11 @@ ghost use Rattle.work_ledger.specs.Budget.{granted, new_account};
 use std::marker::Model;
 
 /// A payment didn't fit the limit. All that was left is spent then.
-#[derive(Clone, Copy, Debug, PartialEq, Eq)]
+#[derive(Clone, Copy)]
 pub struct Exhausted;
 
 /// The work spent so far and the limit up to which it may be spent, both in units, of 0 to 2^126.
-#[derive(Debug, Drop)]
+#[derive(Drop)]
 pub struct Ledger {
     // What will be spent once all that is left is: at most the limit.
     ceiling: u128,
