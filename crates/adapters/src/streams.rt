@@ -154,12 +154,12 @@ fn a_source_over_a_reader_gives_bytes_and_failures(rt: HostRuntime) -> Result<()
 fn standard_input_and_output_have_adapters(rt: HostRuntime) {
     let taken = StdSource::new(rt.reader()).take(&mut []);
     let put = StdSink::new(io::writer(&rt)).put(b"");
-    assert!(rt; taken == Ok(0) && put == Ok(()));
+    assert!(rt; matches!(taken, Ok(0)) && put.is_ok());
 }
 
 #[test]
 fn a_sink_that_never_fails_appends(rt: HostRuntime) {
     let mut sink = NeverFailsSink::new(rt.alloc());
-    let put = (sink.put(b"one"), sink.put(b" two"));
-    assert!(rt; put == (Ok(()), Ok(())) && sink.bytes() == "one two".as_bytes());
+    let (one, two) = (sink.put(b"one"), sink.put(b" two"));
+    assert!(rt; one.is_ok() && two.is_ok() && sink.bytes() == "one two".as_bytes());
 }

@@ -1,7 +1,7 @@
 // A token: its kind and its place. It never holds the token's bytes or its value.
 
 /// What a token is (SQL-92, 5.2).
-#[derive(Clone, Copy)]
+#[derive(Clone, Copy, PartialEq, Eq)]
 pub enum TokenKind {
     /// A name or a keyword: a letter, then letters, digits and `_`.
     Word,

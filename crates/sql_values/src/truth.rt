@@ -9,7 +9,7 @@ use crate::value_order::order;
 use std::cmp::Ordering;
 
 /// What a condition is of a row (SQL-92, 8.12).
-#[derive(Clone, Copy)]
+#[derive(Clone, Copy, PartialEq, Eq)]
 pub enum Truth {
     True,
     False,
