@@ -1,68 +1,24 @@
-//! What runs through several crates and no script shows: a line of a file of `data/` has what is asked and the answer, and
-//! the program works the answer out by the crates' own calls, from scripts and texts of plans.
+//! Calls that no script reaches, with what has to come of them: a line of a file of `data/` has what is asked and the answer,
+//! and the program works the answer out by the crates' own calls, over databases that scripts make.
 //! It prints the lines whose answer is another, and how many agree; where one differs, or can't be worked out, its status
-//! is 1.
+//! is 1. No crate uses it.
 #![tactic(auto)]
 
-mod appends;
-mod bouquet_runs;
 mod bouquets;
-mod canonical;
-mod costs;
-mod fixture;
-mod job_turns;
-mod pages;
-mod rules;
+mod line;
 mod runs;
+mod scripts;
 mod stores;
-mod written;
-mod wrong;
+mod tables;
 
 use db_catalog::Database;
+use line::{Line, line_of, numbers_of};
 use std::alloc::Global;
 use std::hash::RandomState;
 use std::process::ExitCode;
 use std::{fs, io};
-use wrong::Wrong;
 
-// What the lines of a file ask for.
-#[derive(Clone, Copy)]
-enum Question {
-    CanonicalText,
-    Run,
-    Counts,
-    Change,
-    Cost,
-    Tree,
-    UsableIndex,
-    Bouquet,
-    BouquetRun,
-    JobTurns,
-    Stack,
-    Index,
-    Heap,
-    Append,
-    Page,
-}
-
-const FILES: [(&str, Question); 16] = [
-    ("canonical.txt", Question::CanonicalText),
-    ("runs.txt", Question::Run),
-    ("large.txt", Question::Run),
-    ("counts.txt", Question::Counts),
-    ("changes.txt", Question::Change),
-    ("costs.txt", Question::Cost),
-    ("trees.txt", Question::Tree),
-    ("conditions.txt", Question::UsableIndex),
-    ("bouquets.txt", Question::Bouquet),
-    ("bouquet_runs.txt", Question::BouquetRun),
-    ("job_turns.txt", Question::JobTurns),
-    ("stacks.txt", Question::Stack),
-    ("indexes.txt", Question::Index),
-    ("heaps.txt", Question::Heap),
-    ("appends.txt", Question::Append),
-    ("pages.txt", Question::Page),
-];
+const FILES: [&str; 4] = ["statements.txt", "stores.txt", "runs.txt", "bouquets.txt"];
 
 // How many lines agree, and how many don't.
 #[derive(Clone, Copy)]
@@ -71,97 +27,68 @@ struct Count {
     differ: u64,
 }
 
-// What a line has to be, with its end.
-fn answered(
-    alloc: Global,
-    question: Question,
-    db: &mut Database,
-    line: &str,
-) -> Result<String, Wrong> {
-    match question {
-        Question::CanonicalText => canonical::canonical_line(alloc, line),
-        Question::Run => runs::run_line(alloc, db, line),
-        Question::Counts => costs::count_line(alloc, db, line),
-        Question::Change => costs::change_line(alloc, db, line),
-        Question::Cost => costs::cost_line(alloc, db, line),
-        Question::Tree => rules::tree_line(alloc, db, line),
-        Question::UsableIndex => rules::usable_line(alloc, db, line),
-        Question::Bouquet => bouquets::bouquet_line(alloc, db, line),
-        Question::BouquetRun => bouquet_runs::bouquet_run_line(alloc, db, line),
-        Question::JobTurns => job_turns::job_turn_line(alloc, db, line),
-        Question::Stack => stores::stack_line(alloc, line),
-        Question::Index => stores::index_line(alloc, line),
-        Question::Heap => stores::heap_line(alloc, line),
-        Question::Append => appends::append_line(alloc, db, line),
-        Question::Page => pages::page_line(alloc, db, line),
+// The answer to a line that asks by numbers.
+fn answer_by_numbers(alloc: Global, db: &Database, line: &Line<'_>) -> Option<String> {
+    let numbers = numbers_of(alloc, line.asked)?;
+    match line.question {
+        "stack" => stores::stack(alloc, &numbers),
+        "index" => stores::index(alloc, &numbers),
+        "heap" => stores::heap(alloc, &numbers),
+        "read" => tables::read(alloc, db, line.from, &numbers),
+        "best" => bouquets::best_at(alloc, db, line.from, &numbers),
+        "jobs" => bouquets::jobs(alloc, db, line.from, &numbers),
+        _ => None,
     }
 }
 
-// Carries a script out: in a line that begins with > over a new database, with + over the one that is there.
-fn is_script(alloc: Global, db: &mut Database, line: &str) -> Result<bool, Wrong> {
-    if let Some(script) = line.strip_prefix("> ") {
-        *db = Database::new(alloc, db.key());
-        fixture::extend(alloc, db, script)?;
+// The answer to a line; of a script it is empty. None: it can't be worked out.
+fn answer_to(alloc: Global, db: &mut Database, line: &Line<'_>) -> Option<String> {
+    match line.question {
+        ">" => scripts::begin(alloc, db, line.asked),
+        "+" => scripts::extend(alloc, db, line.asked),
+        "canonical" => scripts::canonical(alloc, line.asked),
+        "run" => runs::run(alloc, db, line.from, line.asked),
+        "append" => tables::append(alloc, db, line.from, line.asked),
+        _ => answer_by_numbers(alloc, db, line),
+    }
+}
+
+// Whether a line has its answer; else both are printed.
+fn agrees(rt: &HostRuntime, db: &mut Database, text: &str) -> io::Result<bool> {
+    let line = line_of(text);
+    let found = answer_to(rt.alloc(), db, &line);
+    let found = found.as_deref().unwrap_or("none");
+    if found == line.answer {
         return Ok(true);
     }
-    if let Some(script) = line.strip_prefix("+ ") {
-        fixture::extend(alloc, db, script)?;
-        return Ok(true);
-    }
-    Ok(line.is_empty() || line.starts_with("#"))
+    println!(rt; "{text}")?;
+    println!(rt; "has to be {found}")?;
+    Ok(false)
 }
 
-// The answer to a line that asks; nothing to another.
-fn answer_of(
-    alloc: Global,
-    question: Question,
-    db: &mut Database,
-    line: &str,
-) -> Result<Option<String>, Wrong> {
-    if is_script(alloc, db, line)? {
-        return Ok(None);
-    }
-    Ok(Some(answered(alloc, question, db, line)?))
-}
-
-fn count_line(
+fn count_lines(
     rt: &HostRuntime,
-    question: Question,
     db: &mut Database,
-    line: &str,
+    text: &str,
     count: &mut Count,
 ) -> io::Result<()> {
-    match answer_of(rt.alloc(), question, db, line) {
-        Ok(None) => Ok(()),
-        Ok(Some(found)) => {
-            if found.as_str().trim_end() == line {
-                count.agree = count.agree.saturating_add(1);
-                return Ok(());
-            }
-            count.differ = count.differ.saturating_add(1);
-            let found = found.as_str();
-            println!(rt; "{line}")?;
-            println!(rt; "has to be {found}")
+    for line in text.lines() {
+        if line.is_empty() || line.starts_with('#') {
+            continue;
         }
-        Err(Wrong) => {
+        if agrees(rt, db, line)? {
+            count.agree = count.agree.saturating_add(1);
+        } else {
             count.differ = count.differ.saturating_add(1);
-            println!(rt; "can't be worked out: {line}")
         }
-    }
-}
-
-fn count_file(
-    rt: &HostRuntime,
-    file: &str,
-    question: Question,
-    count: &mut Count,
-) -> io::Result<()> {
-    let text = fs::read_to_string(rt, file)?;
-    let mut db = Database::new(rt.alloc(), RandomState::new(rt)?);
-    for line in text.as_str().lines() {
-        count_line(rt, question, &mut db, line, count)?;
     }
     Ok(())
+}
+
+fn count_file(rt: &HostRuntime, file: &str, count: &mut Count) -> io::Result<()> {
+    let mut db = Database::new(rt.alloc(), RandomState::new(rt)?);
+    let text = fs::read_to_string(rt, file)?;
+    count_lines(rt, &mut db, text.as_str(), count)
 }
 
 fn main(rt: HostRuntime) -> io::Result<ExitCode> {
@@ -169,8 +96,8 @@ fn main(rt: HostRuntime) -> io::Result<ExitCode> {
         agree: 0,
         differ: 0,
     };
-    for (file, question) in FILES {
-        count_file(&rt, file, question, &mut count)?;
+    for file in FILES {
+        count_file(&rt, file, &mut count)?;
     }
     let agree = count.agree;
     let differ = count.differ;

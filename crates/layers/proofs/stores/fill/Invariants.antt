@@ -1,8 +1,0 @@
-use Rattle.std.proofs.Common.{◌≡◌, ◌+◌, ◌≤◌}
-use Rattle.layers.proofs.stores.fill.Given as goal
-
-abbrev pub invariant-loop-number : goal.invariant-loop-number
-invariant-loop-number l = record {
-  columns : l.heap.columns ≡ l.columns;
-  room : l.rows ≤ l.heap.spare + l.number;
-}
