@@ -6,6 +6,7 @@ ghost use Rattle.query_block.specs.Blocks.{block_tree, IsPutOf, width_of};
 ghost use Rattle.query_block.specs.Meaning.{meaning_of};
 ghost use Rattle.query_block.specs.Values.{FitValues};
 ghost use Rattle.db_catalog.specs.Fits.{Fits};
+ghost use Rattle.row_stack.specs.Stack.{new_stack};
 ghost use Rattle.exec_pipe.specs.Executions.{AreRowsOf};
 ghost use Rattle.bouquet_type.specs.Trees.{bouquet_tree};
 ghost use Rattle.bouquet_type.specs.Ladders.{StandsAtFoot};
@@ -73,6 +74,40 @@ pub(crate) fn print_answer(
     Ok(text)
 }
 
+// What a block prints under these names, by a run of the bouquet whose contours a ladder gives, in an empty space.
+fn named_answer<L: Ladder + Drop>(
+    alloc: Global,
+    max_work: u64,
+    database: &Database,
+    ladder: L,
+    block: &Block,
+    names: &[Text],
+    space: &mut Space,
+    book: &mut Book,
+) -> Result<Vec<u8>, Stop>
+    requires foot { StandsAtFoot (L.state ladder) }
+    requires put { IsPutOf (L.state ladder).whole.costing.block (block_tree block.now) }
+    requires fits { Fits database.now (block_tree block.now) }
+    requires names { names.now ≡ header_of database.now (block_tree block.now) }
+    requires work { space.old.work ≡ new_stack (width_of (block_tree block.now)) }
+    requires result { space.old.result ≡ new_stack (width_of (block_tree block.now)) }
+    requires room { book.old + max_work ≤ max_account }
+    ensures due { (world : World) → world.database ≡ database.now → ReturnsDue
+        (block_answer max_work world (L.state ladder).whole (block_tree block.now))
+        result world book.old book.new }
+    ensures pays { PaysAtMost max_work book.old book.new }
+{
+    let mut meter = Metered::new(database);
+    match run_ladder(alloc, ladder, block, &mut meter, space, book, max_work) {
+        Ok(report) => Ok(print_answer(alloc, database, block, names, &space.result, &report)?),
+        Err(RunFault::WorkLimit { spent }) => Err(Stop::Refused(Refusal::PastWork {
+            spent,
+            entered: true,
+        })),
+        Err(RunFault::NoMemory) => Err(Stop::NoMemory),
+    }
+}
+
 /// What a block prints, by a run of the bouquet whose contours a ladder gives, which stands at its foot. The block is the
 /// bouquet's own, with some values in place of its parameters. The run may spend `max_work` units, and what it paid is
 /// entered in the book, whatever the answer.
@@ -93,18 +128,12 @@ pub(crate) fn block_answer<L: Ladder + Drop>(
         result world book.old book.new }
     ensures pays { PaysAtMost max_work book.old book.new }
 {
-    let _relations = block.relations();
     let names = header_of(alloc, database, block)?;
-    let mut meter = Metered::new(database);
+    let _relations = block.relations();
     let mut space = Space::new(alloc, block.width());
-    match run_ladder(alloc, ladder, block, &mut meter, &mut space, book, max_work) {
-        Ok(report) => Ok(print_answer(alloc, database, block, &names, &space.result, &report)?),
-        Err(RunFault::WorkLimit { spent }) => Err(Stop::Refused(Refusal::PastWork {
-            spent,
-            entered: true,
-        })),
-        Err(RunFault::NoMemory) => Err(Stop::NoMemory),
-    }
+    named_answer(
+        alloc, max_work, database, ladder, block, &names, &mut space, book,
+    )
 }
 
 /// What a bouquet's block prints with these values in place of its parameters, which they fit.

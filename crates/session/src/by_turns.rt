@@ -1,5 +1,5 @@
 // TURNS: every use is looked up, and every number of BY, before a row is read. No book takes in what the jobs spend.
-ghost use Rattle.std.specs.Prelude.{◌≡◌, ◌<◌, ◌≤◌, None, All, IfOk, OnOk, length, map};
+ghost use Rattle.std.specs.Prelude.{◌≡◌, ◌<◌, ◌≤◌, ℕ, List, None, All, IfOk, OnOk, length, map};
 ghost use Rattle.std.specs.List.{list_any};
 ghost use Rattle.sql_parse.specs.Trees.{Turns};
 ghost use Rattle.turns.specs.Jobs.{job_tree};
@@ -14,7 +14,7 @@ ghost use Rattle.session.specs.World.{World};
 use crate::refusal::Refusal;
 use crate::session::Session;
 use crate::stop::Stop;
-use crate::turn_lines::{push_answers, push_turns};
+use crate::turn_lines::turns_text;
 use crate::uses::Used;
 use db_catalog::Database;
 use sql_parse::TurnsDef;
@@ -90,6 +90,36 @@ fn any_past(jobs: &[Job<'_>]) -> bool
     false
 }
 
+// What these jobs of bouquets print that take turns by these numbers, from 0, and then round by round.
+fn jobs_answer(
+    alloc: Global,
+    max_work: u64,
+    database: &Database,
+    all: &[Used<'_>],
+    numbers: &[u32],
+    jobs: &mut [Job<'_>],
+) -> Result<Vec<u8>, Stop>
+    requires usable { All (IsExecutable database.now) all.now }
+    requires few { length all.now ≤ max_jobs }
+    requires fresh { map job_tree jobs.old
+        ≡ fresh_jobs (map (task_of_use max_work database.now) all.now) }
+    requires there { All (λ number. number < length all.now) numbers.now }
+    ensures { (world : World) (by : List ℕ) → world.database ≡ database.now
+        → numbers.now ≡ numbers_from_0 by → ReturnsFree
+        (turns_answer max_work world by (map (task_of_use max_work world.database) all.now))
+        result world }
+{
+    let first = take_turns(alloc, jobs, numbers)?;
+    let others = finish_turns(alloc, jobs)?;
+    if any_past(jobs) {
+        return Err(Stop::Refused(Refusal::PastWork {
+            spent: u128::from(max_work),
+            entered: false,
+        }));
+    }
+    Ok(turns_text(alloc, max_work, database, all, &first, &others, jobs)?)
+}
+
 // What the jobs of bouquets print that take turns by these numbers, from 1, and then round by round. Each may spend `max_work`
 // units.
 fn turns_answer(
@@ -108,19 +138,7 @@ fn turns_answer(
 {
     let numbers = numbers_from_0(alloc, all.len(), by)?;
     let mut jobs = jobs_of(alloc, max_work, database, all)?;
-    let first = take_turns(alloc, &mut jobs, &numbers)?;
-    let others = finish_turns(alloc, &mut jobs)?;
-    if any_past(&jobs) {
-        return Err(Stop::Refused(Refusal::PastWork {
-            spent: u128::from(max_work),
-            entered: false,
-        }));
-    }
-    let mut text = Vec::new(alloc);
-    push_turns(alloc, &mut text, all, &first)?;
-    push_turns(alloc, &mut text, all, &others)?;
-    push_answers(alloc, &mut text, max_work, database, all, &jobs)?;
-    Ok(text)
+    jobs_answer(alloc, max_work, database, all, &numbers, &mut jobs)
 }
 
 impl Session {

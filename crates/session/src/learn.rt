@@ -5,6 +5,7 @@ ghost use Rattle.query_block.specs.Blocks.{block_tree, IsPutOf, width_of};
 ghost use Rattle.query_block.specs.Meaning.{meaning_of};
 ghost use Rattle.query_block.specs.Values.{FitValues};
 ghost use Rattle.db_catalog.specs.Fits.{Fits};
+ghost use Rattle.row_stack.specs.Stack.{new_stack};
 ghost use Rattle.exec_pipe.specs.Executions.{AreRowsOf};
 ghost use Rattle.bouquet_type.specs.Trees.{bouquet_tree};
 ghost use Rattle.bouquet_type.specs.Reports.{told_end};
@@ -59,6 +60,39 @@ fn print_learned(
     Ok(text)
 }
 
+// What a block prints under these names, by a run of a bouquet that learns, in an empty space.
+fn named_answer(
+    alloc: Global,
+    max_work: u64,
+    database: &Database,
+    bouquet: &Bouquet,
+    block: &Block,
+    names: &[Text],
+    space: &mut Space,
+) -> Result<Vec<u8>, Stop>
+    requires put { IsPutOf (block_tree bouquet.now.block) (block_tree block.now) }
+    requires fits { Fits database.now (block_tree block.now) }
+    requires names { names.now ≡ header_of database.now (block_tree block.now) }
+    requires work { space.old.work ≡ new_stack (width_of (block_tree block.now)) }
+    requires result { space.old.result ≡ new_stack (width_of (block_tree block.now)) }
+    ensures { (world : World) → world.database ≡ database.now → ReturnsFree
+        (learned_block_answer max_work world (bouquet_tree bouquet.now) (block_tree block.now))
+        result world }
+{
+    let mut meter = Metered::new(database);
+    match learn(alloc, bouquet, block, &mut meter, space, max_work) {
+        Ok(learned) => {
+            let rows = &space.result;
+            Ok(print_learned(alloc, database, bouquet, block, names, rows, &learned)?)
+        }
+        Err(RunFault::WorkLimit { spent }) => Err(Stop::Refused(Refusal::PastWork {
+            spent,
+            entered: false,
+        })),
+        Err(RunFault::NoMemory) => Err(Stop::NoMemory),
+    }
+}
+
 // What a block prints, by a run of a bouquet that learns. The block is the bouquet's own, with some values in place of its
 // parameters. The run may spend `max_work` units.
 fn learned_block_answer(
@@ -74,21 +108,12 @@ fn learned_block_answer(
         (learned_block_answer max_work world (bouquet_tree bouquet.now) (block_tree block.now))
         result world }
 {
-    let _relations = block.relations();
     let names = header_of(alloc, database, block)?;
-    let mut meter = Metered::new(database);
+    let _relations = block.relations();
     let mut space = Space::new(alloc, block.width());
-    match learn(alloc, bouquet, block, &mut meter, &mut space, max_work) {
-        Ok(learned) => {
-            let rows = &space.result;
-            Ok(print_learned(alloc, database, bouquet, block, &names, rows, &learned)?)
-        }
-        Err(RunFault::WorkLimit { spent }) => Err(Stop::Refused(Refusal::PastWork {
-            spent,
-            entered: false,
-        })),
-        Err(RunFault::NoMemory) => Err(Stop::NoMemory),
-    }
+    named_answer(
+        alloc, max_work, database, bouquet, block, &names, &mut space,
+    )
 }
 
 // What a bouquet's block prints with these values in place of its parameters, which they fit, by a run that learns.

@@ -1,5 +1,5 @@
 // What turns print: a line for each, then the answer of each job.
-ghost use Rattle.std.specs.Prelude.{◌≡◌, ◌<◌, ◌≤◌, ◌++◌, All, OnOk, length, map};
+ghost use Rattle.std.specs.Prelude.{◌≡◌, ◌<◌, ◌≤◌, ◌++◌, All, IfOk, OnOk, length, map};
 ghost use Rattle.std.specs.List.{flat_map};
 ghost use Rattle.plan_tree.specs.Plans.{plan_tree};
 ghost use Rattle.bouquet_type.specs.Trees.{bouquet_tree};
@@ -55,8 +55,8 @@ fn push_turn(
     Ok(())
 }
 
-/// Appends a line for each turn that jobs of these bouquets took.
-pub(crate) fn push_turns(
+// Appends a line for each turn that jobs of these bouquets took.
+fn push_turns(
     alloc: Global,
     text: &mut Vec<u8>,
     all: &[Used<'_>],
@@ -94,8 +94,8 @@ fn push_answer(
     text.extend_from_slice(&answer)
 }
 
-/// Appends the answer of each job of these bouquets that is answered.
-pub(crate) fn push_answers(
+// Appends the answer of each job of these bouquets that is answered.
+fn push_answers(
     alloc: Global,
     text: &mut Vec<u8>,
     max_work: u64,
@@ -112,4 +112,29 @@ pub(crate) fn push_answers(
         push_answer(alloc, text, database, &all[place], job)?;
     }
     Ok(())
+}
+
+/// What jobs of these bouquets print that took turns, first these and then the others.
+pub(crate) fn turns_text(
+    alloc: Global,
+    max_work: u64,
+    database: &Database,
+    all: &[Used<'_>],
+    first: &[Turn],
+    others: &[Turn],
+    jobs: &[Job<'_>],
+) -> Result<Vec<u8>, AllocError>
+    requires usable { All (IsExecutable database.now) all.now }
+    requires first { All (IsTurnOf (length all.now)) first.now }
+    requires others { All (IsTurnOf (length all.now)) others.now }
+    requires jobs { map task_of jobs.now ≡ map (task_of_use max_work database.now) all.now }
+    ensures { IfOk result (λ text. text.items
+        ≡ flat_map (turn_line (bouquets_of all.now)) (first.now ++ others.now)
+        ++ flat_map job_text (map job_tree jobs.now)) }
+{
+    let mut text = Vec::new(alloc);
+    push_turns(alloc, &mut text, all, first)?;
+    push_turns(alloc, &mut text, all, others)?;
+    push_answers(alloc, &mut text, max_work, database, all, jobs)?;
+    Ok(text)
 }

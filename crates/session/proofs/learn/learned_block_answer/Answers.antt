@@ -1,19 +1,7 @@
--- The space is wide enough, and what is printed is due.
-use Rattle.std.proofs.Common.{◌≡◌, ◌∙◌, ℕ, List, true, false, nat_le, sym, ap, if◌then◌else◌, arith, rules}
-use Rattle.std.proofs.lemmas.Bool.{le-leb}
+-- The space is wide enough.
+use Rattle.std.proofs.Common.{arith, rules}
 use Rattle.query_block.specs.Blocks.{block_tree}
-use Rattle.db_catalog.specs.Database.{DatabaseState}
-use Rattle.db_catalog.specs.Meter.{MeterState}
-use Rattle.bouquet_type.specs.Runs.{RunEnd}
-use Rattle.bouquet_type.specs.Reports.{told_end}
-use Rattle.bouquet_type.specs.Trees.{bouquet_tree}
-use Rattle.bouquet_run.specs.Outcomes.{works_over}
-use Rattle.learned_run.specs.Skips.{learned_end, skips_of}
-use Rattle.learned_run.specs.declared.learned.Skip.{Skip}
 use Rattle.bouquet_type.proofs.Wide.{words_some}
-use Rattle.session.specs.Outcome.{Outcome, Prints, Refuses}
-use Rattle.session.specs.Printed.{learned_text}
-use Rattle.session.specs.declared.refusal.Refusal.TheVariants as refusal
 use Rattle.session.proofs.learn.learned_block_answer.Goals as goal
 
 pub new-space-requires : goal.new-space-requires
@@ -21,17 +9,3 @@ new-space-requires c = record {
   some_words = omega (arith, c.width.ensures.width, words_some (block_tree c.args.block.now) c.relations-relations.ensures.block);
   few_words = search rules;
 }
-
-pub returns-in-Ok : goal.returns-in-Ok
-returns-in-Ok c = λ world is.
-    let whole = bouquet_tree c.args.bouquet.now in
-    let block = block_tree c.args.block.now in
-    let learned = c.in-Ok.learned in
-    let runs = c.in-Ok.ensures.answers.0 in
-    let due : DatabaseState → List Skip → RunEnd → Outcome = λ database skips end.
-    if nat_le end.total c.args.max_work then Prints (learned_text database whole block skips end) 0 world else Refuses (refusal.PastWork c.args.max_work false) in
-    let seen : world.database ≡ c.new-meter.result.database = is ∙ sym (ap (λ (meter : MeterState). meter.database) c.new-meter.ensures) in
-    let end : learned_end whole (works_over world.database block) ≡ told_end learned.report = ap (λ (database : DatabaseState). learned_end whole (works_over database block)) seen ∙ sym runs.end in
-    let skips : skips_of whole (works_over world.database block) ≡ learned.skips.items = ap (λ (database : DatabaseState). skips_of whole (works_over database block)) seen ∙ sym runs.skips in
-    let within : nat_le learned.report.work c.args.max_work ≡ true = le-leb _ _ runs.fits in
-    (λ i. due (is i) (skips i) (end i)) ∙ rw within (ap (λ (text : List ℕ). Prints text 0 world) (sym c.in_ok-print_learned-in-Ok.ensures))
