@@ -7,7 +7,7 @@ use Rattle.turns.specs.Jobs.{JobShape, job_tree, task_of}
 use Rattle.turns.specs.Standing.{JobTask}
 use Rattle.turns.specs.Taking.{jobs_turned, numbers_to_end, turns_told}
 use Rattle.turns.specs.declared.turn.Turn.{Turn}
-use Rattle.session.specs.Outcome.{Outcome, Prints, Refuses}
+use Rattle.session.specs.Outcome.{Prints, Refuses}
 use Rattle.session.specs.Printed.{job_text, turn_line}
 use Rattle.session.specs.Turns.{fresh_jobs, is_past, jobs_by, jobs_ended, numbers_from_0, turns_answer, turns_taken}
 use Rattle.session.specs.Uses.{IsTurnOf, bouquets_of, task_of_use}

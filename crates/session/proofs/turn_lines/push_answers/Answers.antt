@@ -25,3 +25,15 @@ push_answer-requires-clause-job c =
     ∙ ap (λ l. get_or l place (task_of job)) c.requires.jobs
     ∙ get_or-map asked all place used (task_of job) there' ∙ ap asked (sym c.index-all-place.is) in
     same ∙ ap (λ most. task_of_use most database used) (sym (ap (λ (task : JobTask). task.most) same))
+
+pub loop-place-preserved : goal.loop-place-preserved
+loop-place-preserved c =
+    let jobs : List JobShape = c.args.jobs.now in
+    let place : ℕ = c.loop-place.place in
+    let job : JobShape = c.index-jobs-place.result in
+    let before : List ℕ = c.args.text.now.items in
+    let taken : take (place + 1) jobs ≡ take place jobs ++ job ∷ [] =
+    take_more jobs place job c.loop-place-test.true ∙ ap (λ j. take place jobs ++ j ∷ []) (sym c.index-jobs-place.is) in
+    c.in_ok-push_answer.ensures ∙ (λ i. c.loop-place.invariant i ++ job_text (job_tree job))
+    ∙ flat_map_more job_text before (map job_tree (take place jobs)) (job_tree job)
+    ∙ ap (λ l. before ++ flat_map job_text l) (sym (ap (map job_tree) taken ∙ map-append job_tree (take place jobs) (job ∷ [])))
