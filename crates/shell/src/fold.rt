@@ -12,6 +12,7 @@ ghost use Rattle.sql_parse.specs.Counts.{HasUpTo, HaveUpTo};
 ghost use Rattle.session.specs.Bounds.{IsAnsweredWithin};
 ghost use Rattle.session.specs.Returns.{PaysAtMost};
 ghost use Rattle.session.specs.States.{world_of};
+ghost use Rattle.session.specs.World.{nothing_made};
 ghost use Rattle.shell.specs.Due.{GivesFile, IsCarriedOut, CarriesAll, CarriesOne};
 
 use crate::Status;
@@ -101,6 +102,36 @@ fn carry_out_one<F: Folder, K: Sink>(
     }
 }
 
+// Carries the statements out on a session in which nothing is made, one after another, up to and with the first that is refused.
+fn carry_out_each<F: Folder, K: Sink>(
+    alloc: Global,
+    max_work: u64,
+    session: &mut Session,
+    statements: &[Statement],
+    folder: &mut F,
+    sink: &mut K,
+    book: &mut Book,
+) -> Status
+    requires new { world_of session.old ≡ nothing_made }
+    requires well_formed { All (λ statement.
+        IsWellFormed (statement_tree statement)) statements.now }
+    requires counted { HaveUpTo max_script_bytes statements.now }
+    requires unpaid { book.old ≡ 0 }
+    requires most { max_work ≤ 2 ^ 62 }
+    ensures carries { CarriesAll max_work (Rose (K.faults sink.old) (K.faults sink.new))
+        (map statement_tree statements.now) (F.state folder.old) (F.state folder.new) result
+        (K.got sink.old) (K.got sink.new) book.new }
+    ensures sink { K.faults sink.old ≤ K.faults sink.new }
+{
+    for statement in statements {
+        match carry_out_one(alloc, max_work, session, statement, folder, sink, book) {
+            Ok(()) => {}
+            Err(ended) => return ended,
+        }
+    }
+    Status::Done
+}
+
 /// Carries the statements out, one after another, up to and with the first that is refused.
 pub(crate) fn carry_out_all<F: Folder, K: Sink>(
     alloc: Global,
@@ -122,11 +153,13 @@ pub(crate) fn carry_out_all<F: Folder, K: Sink>(
     ensures sink { K.faults sink.old ≤ K.faults sink.new }
 {
     let mut session = Session::new(alloc, key);
-    for statement in statements {
-        match carry_out_one(alloc, max_work, &mut session, statement, folder, sink, book) {
-            Ok(()) => {}
-            Err(ended) => return ended,
-        }
-    }
-    Status::Done
+    carry_out_each(
+        alloc,
+        max_work,
+        &mut session,
+        statements,
+        folder,
+        sink,
+        book,
+    )
 }

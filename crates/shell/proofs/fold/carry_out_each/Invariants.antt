@@ -2,7 +2,7 @@ use Rattle.std.proofs.Common.{◌*◌, ◌^◌, ◌≤◌, map}
 use Rattle.sql_parse.specs.Trees.{statement_tree}
 use Rattle.session.specs.States.{world_of}
 use Rattle.shell.proofs.Carrying.{IsCarried}
-use Rattle.shell.proofs.fold.carry_out_all.Given as goal
+use Rattle.shell.proofs.fold.carry_out_each.Given as goal
 
 abbrev pub invariant-loop-statement : goal.invariant-loop-statement
 invariant-loop-statement g l = record {

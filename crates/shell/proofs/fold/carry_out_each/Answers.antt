@@ -6,11 +6,11 @@ use Rattle.session.specs.States.{world_of}
 use Rattle.shell.proofs.Carrying.{carried_none, carried_all}
 use Rattle.shell.proofs.Folders.{rose_in}
 use Rattle.shell.proofs.Ends.{ended_at, on_at}
-use Rattle.shell.proofs.fold.carry_out_all.Goals as goal
+use Rattle.shell.proofs.fold.carry_out_each.Goals as goal
 
 pub loop-statement-init : goal.loop-statement-init
 loop-statement-init g c = record {
-  carried = rw (c.new-session.ensures, c.requires.unpaid) (carried_none c.args.max_work (map statement_tree c.args.statements.now) (g.F.Folder.state c.args.folder.now) (g.K.Sink.got c.args.sink.now));
+  carried = rw (c.requires.new, c.requires.unpaid) (carried_none c.args.max_work (map statement_tree c.args.statements.now) (g.F.Folder.state c.args.folder.now) (g.K.Sink.got c.args.sink.now));
   sink = omega arith;
   spent = omega arith;
 }
