@@ -9,11 +9,15 @@ use Rattle.sql_parse.specs.Counts.{predicates_in, predicates_in_all}
 use Rattle.sql_bind.specs.declared.fault.BindFault.{BindFault}
 use Rattle.sql_bind.specs.declared.fault.BindFault.TheVariants.{NoMemory}
 use Rattle.sql_bind.specs.Names.{first_fault_from}
-use Rattle.sql_bind.specs.Predicates.{predicates, predicates_of_all, all_predicates}
+use Rattle.query_block.specs.declared.kind.Kind.{Kind}
+use Rattle.sql_parse.specs.declared.tree.Term.{Term}
+use Rattle.sql_bind.specs.Named.{NamedTable}
+use Rattle.sql_bind.specs.Kinds.{kind_of_term}
+use Rattle.sql_bind.specs.Predicates.{term_kind_fault, term_kinds_fault, predicates, predicates_of_all, all_predicates}
 use Rattle.sql_bind.specs.Conjuncts.{conjuncts, all_conjuncts}
 use Rattle.sql_bind.specs.Refused.{RefusesBlock}
 
-or-assoc : {A : Type 0} (a b c : Option A) → option_or (option_or a b) c ≡ option_or a (option_or b c)
+pub or-assoc : {A : Type 0} (a b c : Option A) → option_or (option_or a b) c ≡ option_or a (option_or b c)
 or-assoc None b c = refl
 or-assoc (Some x) b c = refl
 
@@ -76,6 +80,16 @@ predicates_in_part part = predicates (condition_tree part)
 
 pub predicates-flat : IsFlat all_predicates predicates_in_part
 predicates-flat part parts = refl
+
+-- an operand of a predicate passed, so the first fault is among those behind it
+pub term-passed : (tables : List NamedTable) (due : Option BindFault) (number : ℕ) (kind : Kind) (terms : List Term) (i : ℕ) (term : Term) → i < length terms → term ≡ get_or terms i term
+    → due ≡ term_kinds_fault tables number kind (drop i terms) → term_kind_fault number kind (kind_of_term tables term) ≡ None
+    → due ≡ term_kinds_fault tables number kind (drop (i + 1) terms)
+term-passed tables due number kind terms i term below is left none =
+    let behind = drop (i + 1) terms in
+    left ∙ at_drop_more (term_kinds_fault tables number kind) terms i term below
+    ∙ ap (λ one. term_kinds_fault tables number kind (one ∷ behind)) (sym is)
+    ∙ ap (λ first. option_or first (term_kinds_fault tables number kind behind)) none
 
 abbrev pub conjuncts_in_part : Cond → List ConditionTree
 conjuncts_in_part part = conjuncts (condition_tree part)

@@ -1,5 +1,6 @@
 pub mod Found
 pub mod Faults
+pub mod Tables
 pub mod Chains
 pub mod Joined
 pub mod Collected

@@ -1,8 +1,8 @@
 -- A condition has a kind for each of its parameters, at the place of its number.
-use Rattle.std.proofs.Common.{◌≡◌, ◌∙◌, ℕ, ◌+◌, ◌<◌, List, [], ◌∷◌, ◌++◌, Option, Some, None, length, drop, get_or, flat_map, slice_index_or, refl, sym, ap, subst, arith, append-nil, append_assoc, length-append}
+use Rattle.std.proofs.Common.{◌≡◌, ◌∙◌, ℕ, ◌+◌, ◌<◌, List, [], ◌∷◌, ◌++◌, Option, Some, None, length, drop, take, get_or, flat_map, slice_index_or, refl, sym, ap, subst, arith, append-nil, append_assoc, length-append}
 use Rattle.std.specs.List.{filter_map}
 use Rattle.std.specs.Prelude.{unwrap_or}
-use Rattle.std.proofs.lemmas.List.{at_drop_more}
+use Rattle.std.proofs.lemmas.List.{at_drop_more, take_more}
 use Rattle.std.proofs.lemmas.Grind.{flat_map-append}
 use Rattle.query_block.specs.declared.kind.Kind.{Kind}
 use Rattle.query_block.specs.declared.kind.Kind.TheVariants as kind
@@ -12,7 +12,7 @@ use Rattle.sql_parse.specs.declared.tree.Term.TheVariants as term
 use Rattle.sql_parse.specs.Trees.{ConditionTree, ConditionTrees, Compare, Between, OneOf, IsNull, Not, And, Or, NoMore, More, condition_tree}
 use Rattle.sql_parse.specs.Parameters.{parameter_of, parameters_in, parameters_in_all, parameters_of_condition, AreNumberedFrom}
 use Rattle.sql_bind.specs.Named.{NamedTable}
-use Rattle.sql_bind.specs.Kinds.{kind_of_terms, given_kinds, parameters_among}
+use Rattle.sql_bind.specs.Kinds.{kind_of_term, kind_of_terms, given_kind, given_kinds, parameters_among}
 use Rattle.sql_bind.specs.Predicates.{predicates, predicates_of_all, all_predicates, predicate_parameters, condition_parameters, all_condition_parameters}
 use Rattle.sql_bind.specs.Binding.{parameter_kinds}
 
@@ -68,6 +68,18 @@ parameters-next tables parts i part before below is =
     at_drop_more whole parts i part below ∙ ap (λ one. whole (one ∷ behind)) (sym is)
     ∙ ap (λ kinds. before ++ kinds) (parameters-both tables (predicates (condition_tree part)) (all_predicates behind))
     ∙ sym (append_assoc before (condition_parameters tables (condition_tree part)) (all_condition_parameters tables behind))
+
+-- what a predicate of this kind gives its operands up to a place, with one operand more
+pub given-next : (tables : List NamedTable) (of : Kind) (terms : List Term) (i : ℕ) (term : Term) (before : List Kind) → i < length terms → term ≡ get_or terms i term
+    → (before ++ given_kinds tables of (take i terms)) ++ given_kind of (kind_of_term tables term) ≡ before ++ given_kinds tables of (take (i + 1) terms)
+given-next tables of terms i term before below is =
+    let give : Term → List Kind = λ one. given_kind of (kind_of_term tables one) in
+    let given = given_kinds tables of (take i terms) in
+    append_assoc before given (give term)
+    ∙ ap (λ kinds. before ++ kinds) (sym (
+    ap (given_kinds tables of) (take_more terms i term below) ∙ flat_map-append give (take i terms) (get_or terms i term ∷ [])
+    ∙ ap (λ one. given ++ (give one ++ [])) (sym is) ∙ ap (λ kinds. given ++ kinds) (append-nil (give term))
+    ))
 
 -- the parameter of this number is there, and of this kind
 abbrev pub HasKind : List Kind → Kind → ℕ → Type 0

@@ -3,7 +3,7 @@ ghost use Rattle.std.specs.Prelude.{◌≡◌, ◌≢◌, ◌≤◌, ◌<◌, []
 ghost use Rattle.sql_values.specs.Limits.{max_relations};
 ghost use Rattle.sql_values.specs.Dictionary.{has_text};
 ghost use Rattle.db_catalog.specs.Database.{table_number};
-ghost use Rattle.sql_bind.specs.Binding.{named_table, named_tables, past_limit, table_fault, from_fault};
+ghost use Rattle.sql_bind.specs.Binding.{named_table, named_tables, past_limit, table_fault, item_fault, from_fault};
 ghost use Rattle.sql_bind.specs.Named.{IsNamed};
 ghost use Rattle.sql_bind.specs.Refused.{RefusesAlways, RefusesBlock};
 
@@ -86,6 +86,24 @@ fn named_table<'q>(database: &'q Database, item: &'q Item, number: u32) -> Named
     }
 }
 
+// An item behind these as the table that it names. The database has the table, and no item before has the alias.
+fn next_table<'q>(
+    database: &'q Database,
+    before: &[Item],
+    item: &'q Item,
+) -> Result<NamedTable<'q>, BindFault>
+    ensures refuses { RefusesBlock
+        (item_fault database.now (map (λ item. item.alias) before.now) item.now) result }
+    ensures table { IfOk result (λ table. table ≡ named_table database.now item.now) }
+    ensures named { IfOk result IsNamed }
+{
+    let number = number_of(database, item)?;
+    if has_alias(before, &item.alias) {
+        return Err(duplicate_alias(&item.alias));
+    }
+    Ok(named_table(database, item, number))
+}
+
 /// The tables of FROM.
 pub(crate) fn named_tables<'q>(
     alloc: Global,
@@ -99,11 +117,8 @@ pub(crate) fn named_tables<'q>(
 {
     let mut tables = Vec::with_capacity(alloc, items.len())?;
     for i in 0..items.len() {
-        let number = number_of(database, &items[i])?;
-        if has_alias(&items[..i], &items[i].alias) {
-            return Err(duplicate_alias(&items[i].alias));
-        }
-        tables.push(named_table(database, &items[i], number))?;
+        let table = next_table(database, &items[..i], &items[i])?;
+        tables.push(table)?;
     }
     Ok(Scope::new(tables))
 }

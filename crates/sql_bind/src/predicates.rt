@@ -1,6 +1,6 @@
 // The checks of predicates: their columns, and the kinds of what they compare. The kinds of their parameters are
 // collected on the way.
-ghost use Rattle.std.specs.Prelude.{◌≡◌, ◌≤◌, ◌+◌, ◌++◌, ◌^◌, [], ◌∷◌, IfOk, OnOk, map};
+ghost use Rattle.std.specs.Prelude.{◌≡◌, ◌≤◌, ◌<◌, ◌+◌, ◌++◌, ◌^◌, [], ◌∷◌, IfOk, MatchResult, Ok, Err, OnOk, map};
 ghost use Rattle.sql_parse.specs.Trees.{condition_tree, operands};
 ghost use Rattle.sql_parse.specs.Counts.{predicates_in, predicates_in_all};
 ghost use Rattle.sql_bind.specs.Kinds.{parameters_among};
@@ -131,6 +131,17 @@ fn check_list(
     check_kinds(scope, others, kind, predicate, parameters)
 }
 
+// The number behind that of a predicate that passed its check.
+fn number_behind(checked: Result<(), BindFault>, number: u64) -> Result<u64, BindFault>
+    requires { number < 2 ^ 32 }
+    ensures { MatchResult checked (λ _. result ≡ Ok (number + 1)) (λ fault. result ≡ Err fault) }
+{
+    match checked {
+        Ok(()) => Ok(number + 1),
+        Err(fault) => Err(fault),
+    }
+}
+
 /// Refuses a condition at the first predicate with a fault. The first predicate has this number; returned is the number
 /// behind the last one. The kinds of the parameters are added in written order.
 #[cycle(predicates)]
@@ -151,27 +162,21 @@ pub(crate) fn check_predicates(
 {
     match condition {
         Cond::Compare(_, left, right) => {
-            check_two(alloc, scope, number as u32, left, right, parameters)?;
-            Ok(number + 1)
+            let checked = check_two(alloc, scope, number as u32, left, right, parameters);
+            number_behind(checked, number)
         }
         Cond::Between(_, of, low, high) => {
-            check_three(alloc, scope, number as u32, of, low, high, parameters)?;
-            Ok(number + 1)
+            let checked = check_three(alloc, scope, number as u32, of, low, high, parameters);
+            number_behind(checked, number)
         }
         Cond::OneOf(_, of, terms) => {
-            check_list(
-                alloc,
-                scope,
-                number as u32,
-                of,
-                terms.as_slice(),
-                parameters,
-            )?;
-            Ok(number + 1)
+            let terms = terms.as_slice();
+            let checked = check_list(alloc, scope, number as u32, of, terms, parameters);
+            number_behind(checked, number)
         }
         Cond::IsNull(_, column) => {
-            check_column(alloc, scope, column)?;
-            Ok(number + 1)
+            let checked = check_column(alloc, scope, column);
+            number_behind(checked, number)
         }
         Cond::Not(inner) => check_predicates(alloc, scope, inner, number, parameters),
         Cond::And(parts) => check_parts(alloc, scope, parts.as_slice(), number, parameters),
