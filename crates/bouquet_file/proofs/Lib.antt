@@ -6,3 +6,4 @@ pub mod Plans
 pub mod Again
 pub mod Bouquets
 pub mod Grids
+pub mod Found

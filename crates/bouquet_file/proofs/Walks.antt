@@ -1,7 +1,7 @@
 -- Lists of values that are gone through one item after another.
 use Rattle.std.proofs.Common.{◌≡◌, ℕ, ◌+◌, ◌<◌, ◌≤◌, List, [], ◌∷◌, ◌++◌, length, map, drop, get_or, Result, Ok, Err, refl, sym, ap, ◌∙◌, append_assoc, append-nil}
 use Rattle.std.specs.Prelude.{IsErrAnd}
-use Rattle.std.proofs.lemmas.List.{at_drop_more, drop_all}
+use Rattle.std.proofs.lemmas.List.{at_drop_more, drop_all, map_push}
 use Rattle.bouquet_file.specs.declared.fault.OpenFault.{OpenFault}
 use Rattle.bouquet_file.specs.Steps.{Checked, pure, ◌>>=◌, each, GivesChecked}
 
@@ -42,6 +42,13 @@ walk-goes_on {V} {X} {A} see read values place value done first there is found w
     by : (rest : Checked (List A)) → joined done (rest >>= λ others. pure (first ∷ others)) ≡ joined (done ++ first ∷ []) rest
     by (Ok more) = ap Ok (sym (append_assoc done (first ∷ []) more))
     by (Err why) = refl
+
+-- what is read is pushed as it is seen
+pub walk-pushes : {V X T A : Type 0} (see : V → X) (read : ℕ → X → Checked A) (view : T → A) (values : List V) (place : ℕ) (value : V) (done pushed : List T) (first : T) → place < length values
+    → value ≡ get_or values place value → read (place + 1) (see value) ≡ Ok (view first) → pushed ≡ done ++ first ∷ []
+    → Walked see read values place (map view done) → Walked see read values (place + 1) (map view pushed)
+walk-pushes see read view values place value done pushed first there is found push walked =
+    rw (push, map_push view done first) (walk-goes_on see read values place value (map view done) (view first) there is found walked)
 
 pub walk-fails : {V X A : Type 0} (see : V → X) (read : ℕ → X → Checked A) (values : List V) (place : ℕ) (value : V) (done : List A) (why : OpenFault) → place < length values → value ≡ get_or values place value
     → Walked see read values place done → read (place + 1) (see value) ≡ Err why → each read 1 (map see values) ≡ Err why

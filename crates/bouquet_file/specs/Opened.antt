@@ -5,27 +5,32 @@ use Rattle.serde_json.specs.Data.{Data}
 use Rattle.serde_json.specs.Read.{read}
 use Rattle.query_block.specs.Blocks.{BlockTree, axes_of}
 use Rattle.cost_model.specs.declared.stats.Stats.{Stats}
-use Rattle.bouquet_type.specs.Trees.{BouquetTree}
+use Rattle.bouquet_type.specs.Trees.{BouquetTree, ContourTree}
 use Rattle.bouquet_file.specs.declared.fault.OpenFault.TheVariants as fault
 use Rattle.bouquet_file.specs.Steps.{Checked, pure, ◌>>=◌, ◌>>◌, need, check}
 use Rattle.bouquet_file.specs.Checks.{changed_counts, unless_changed, contours_at}
-use Rattle.bouquet_file.specs.Parts.{parts_of}
+use Rattle.bouquet_file.specs.Parts.{FileParts, parts_of}
 
 -- the value for which the bytes of a file stand, where they are JSON
 abbrev pub json_value : List ℕ → Option Data
 json_value bytes = if is_utf8 bytes then read bytes else None
 
--- the bouquet of a value for this query, whose block and counts these are: there is a value, and its parts fit, first of
--- all; then it is of this query, it keeps as many parameters as the block has, its counts are those of the tables, and its
--- contours have costs and plans that a bouquet may have
+-- the contours of a file with these parts, for this query, whose block and counts these are: it is of this query, it keeps as
+-- many parameters as the block has, its counts are those of the tables, and its contours have costs and plans that a
+-- bouquet may have
+abbrev pub current_contours : FileParts → (query : List ℕ) → BlockTree → Stats → Checked (List ContourTree)
+current_contours parts query block stats = do
+  check fault.OtherQuery (bytes_eq parts.query query)
+  check (fault.Parameters parts.parameters (length block.parameters)) (nat_eq parts.parameters (length block.parameters))
+  unless_changed (changed_counts 0 parts.counts stats.relations)
+  contours_at block parts.contours
+
+-- the bouquet of a value: there is a value, and its parts fit, first of all; then come its contours
 abbrev pub file_of : Option Data → (query : List ℕ) → BlockTree → Stats → Checked BouquetTree
 file_of value query block stats = do
   file ← need fault.NotJson value
   parts ← parts_of file block
-  check fault.OtherQuery (bytes_eq parts.query query)
-  check (fault.Parameters parts.parameters (length block.parameters)) (nat_eq parts.parameters (length block.parameters))
-  unless_changed (changed_counts 0 parts.counts stats.relations)
-  found ← contours_at block parts.contours
+  found ← current_contours parts query block stats
   pure (record {
     costing = record { block = block; stats = stats; grid = record { axes = axes_of block; levels = parts.levels } };
     threshold = parts.threshold;

@@ -1,17 +1,19 @@
 // The bouquet of a file, or the first fault.
-ghost use Rattle.std.specs.Prelude.{◌≡◌, IfOk};
+ghost use Rattle.std.specs.Prelude.{◌≡◌, ◌≤◌, All, IfOk, length};
+ghost use Rattle.sql_values.specs.Limits.{max_relations, max_contours};
 ghost use Rattle.serde_json.specs.View.{view};
 ghost use Rattle.query_block.specs.Blocks.{block_tree};
 ghost use Rattle.cost_model.specs.Fits.{FitsBlock};
-ghost use Rattle.bouquet_type.specs.Trees.{bouquet_tree};
-ghost use Rattle.bouquet_file.specs.Steps.{GivesChecked, need};
-ghost use Rattle.bouquet_file.specs.Opened.{json_value, opened};
+ghost use Rattle.bouquet_type.specs.Trees.{IsContour, bouquet_tree, contour_tree};
+ghost use Rattle.bouquet_file.specs.Steps.{GivesChecked, GivesEach, need};
+ghost use Rattle.bouquet_file.specs.Parts.{HasTexts, parts_seen};
+ghost use Rattle.bouquet_file.specs.Opened.{current_contours, json_value, opened};
 
 use crate::contours::contours_of;
 use crate::fault::OpenFault;
-use crate::parts::parts_of;
+use crate::parts::{Parts, parts_of};
 use crate::relations::check_counts;
-use bouquet_type::Bouquet;
+use bouquet_type::{Bouquet, Contour};
 use cost_model::Stats;
 use query_block::Block;
 use serde_json::{Category, Value};
@@ -28,6 +30,40 @@ fn value_of(alloc: Global, bytes: &[u8]) -> Result<Value, OpenFault>
             _ => Err(OpenFault::NotJson),
         },
     }
+}
+
+// The contours of a file with these parts, where it is of this query and its numbers are those of now.
+fn current_contours(
+    alloc: Global,
+    parts: &Parts<'_>,
+    query: &[u8],
+    block: &Block,
+    stats: &Stats,
+) -> Result<Vec<Contour>, OpenFault>
+    requires stats { FitsBlock (block_tree block.now) stats.now }
+    requires counts { length parts.now.counts.items ≡ length block.now.relations }
+    requires few_counts { length parts.now.counts.items ≤ max_relations }
+    requires few_contours { length parts.now.contours.items ≤ max_contours }
+    requires texts { All HasTexts parts.now.contours.items }
+    ensures contours { GivesEach contour_tree result
+        (current_contours (parts_seen parts.now) query.now (block_tree block.now) stats.now) }
+    ensures count { IfOk result
+        (λ contours. length contours.items ≡ length parts.now.contours.items) }
+    ensures are_contours { IfOk result
+        (λ contours. All (IsContour (block_tree block.now)) contours.items) }
+{
+    if parts.query != query {
+        return Err(OpenFault::OtherQuery);
+    }
+    let present = block.parameters().len() as u64;
+    if parts.parameters != present {
+        return Err(OpenFault::Parameters {
+            kept: parts.parameters,
+            present,
+        });
+    }
+    check_counts(parts.counts.as_slice(), stats.relations.as_slice())?;
+    contours_of(alloc, block, parts.contours.as_slice())
 }
 
 /// The bouquet that a file says, of the query with this canonical text, whose block and counts these are. It may have any
@@ -49,17 +85,6 @@ pub fn from_bytes(
 {
     let file = value_of(alloc, bytes)?;
     let parts = parts_of(alloc, &file, &block)?;
-    if parts.query != query {
-        return Err(OpenFault::OtherQuery);
-    }
-    let present = block.parameters().len() as u64;
-    if parts.parameters != present {
-        return Err(OpenFault::Parameters {
-            kept: parts.parameters,
-            present,
-        });
-    }
-    check_counts(parts.counts.as_slice(), stats.relations.as_slice())?;
-    let contours = contours_of(alloc, &block, parts.contours.as_slice())?;
+    let contours = current_contours(alloc, &parts, query, &block, &stats)?;
     Ok(Bouquet::new(block, stats, parts.grid, parts.threshold, contours))
 }
