@@ -83,6 +83,32 @@ fn put_entries<R: Read>(
     unreachable!()
 }
 
+// The rows of a file whose entries the reader gives, each into this one.
+fn read_batch<R: Read>(
+    alloc: Global,
+    key: RandomState,
+    columns: &[ColumnDef],
+    reader: &mut Reader<R>,
+    entry: &mut ByteRecord,
+) -> Result<Batch, LoadFault>
+    requires gives { GivesEntries R.remaining reader.old }
+    requires short { length (records_left R.remaining reader.old) ≤ 2 ^ 63 }
+    requires some { 1 ≤ length columns.now }
+    requires few { length columns.now < 2 ^ 31 }
+    ensures rows { IfOk result (IsBatchOf columns.now
+        (file_rows columns.now (records_left R.remaining reader.old))) }
+    ensures fault { GivesFault (file_fault columns.now
+        (records_left R.remaining reader.old)) result }
+{
+    if !next_entry(reader, entry)? {
+        return Err(LoadFault::Header { field: 1 });
+    }
+    check_header(entry, columns)?;
+    let mut batch = Batch::new(alloc, key, columns)?;
+    put_entries(&mut batch, columns, reader, entry)?;
+    Ok(batch)
+}
+
 // The rows of a file.
 fn batch_of(
     alloc: Global,
@@ -98,13 +124,7 @@ fn batch_of(
 {
     let mut reader = reader_of(alloc, bytes);
     let mut entry = ByteRecord::new(alloc);
-    if !next_entry(&mut reader, &mut entry)? {
-        return Err(LoadFault::Header { field: 1 });
-    }
-    check_header(&entry, columns)?;
-    let mut batch = Batch::new(alloc, key, columns)?;
-    put_entries(&mut batch, columns, &mut reader, &mut entry)?;
-    Ok(batch)
+    read_batch(alloc, key, columns, &mut reader, &mut entry)
 }
 
 // Appends the rows of a batch to a table, and returns how many these are.
