@@ -1,4 +1,5 @@
-use Rattle.std.proofs.Common.{rules, ◌≡◌, ◌≤◌, ℕ, ◌+◌, ◌-◌, ◌%◌, List, set, take, replicate, ◌∙◌, ap, sym, ◌<◌, length, ◌++◌, arith, append_assoc}
+use Rattle.std.proofs.Common.{rules, ◌≡◌, ◌≤◌, ℕ, ◌+◌, ◌-◌, ◌%◌, List, set, take, replicate, ◌∙◌, ap, sym, ◌<◌, length, ◌++◌, arith, append_assoc, length-append, length-take-le}
+use Rattle.std.proofs.Math.Seq.{take-append-add, take-append_seam}
 use Rattle.std.specs.List.{flat_map, range_with_len}
 use Rattle.std.specs.Fmt.{decimal}
 use Rattle.std.proofs.lemmas.Fmt.{decimal_nonempty, length-decimal-le}
@@ -16,7 +17,12 @@ few-digits n small = length-decimal-le 6 n (omega arith) (omega (arith, small)) 
 
 take-front : (front rest : List ℕ) (n room : ℕ) → length front ≡ n → n ≤ room
     → take n (take room (front ++ rest)) ≡ front
-take-front front rest n room whole fits = grind (arith, common_steps)
+take-front front rest n room whole fits =
+    let more : room ≡ length front + (room - n) = omega (arith, whole, fits) in
+    ap (λ r. take n (take r (front ++ rest))) more
+    ∙ ap (take n) (take-append-add front rest (room - n))
+    ∙ ap (λ i. take i (front ++ take (room - n) rest)) (sym whole)
+    ∙ take-append_seam front (take (room - n) rest)
 
 -- what is copied begins with the whole entry
 line-copied : (copied rest : List ℕ) (a b end : ℕ)
@@ -24,7 +30,7 @@ line-copied : (copied rest : List ℕ) (a b end : ℕ)
     → a < 1000000 → b < 1000000
     → take (end - 1 + 2) (take 16 copied) ≡ entry_line a b
 line-copied copied rest a b end is_copied is_end short_a short_b =
-    let width : length (entry_line a b) ≡ end - 1 + 2 = grind (arith, common_steps, is_end) in
+    let width : length (entry_line a b) ≡ end - 1 + 2 = simp length-append (omega (arith, is_end)) in
     ap (λ xs. take (end - 1 + 2) (take 16 xs)) is_copied
     ∙ take-front (entry_line a b) rest (end - 1 + 2) 16 width
     (omega (arith, is_end, few-digits a short_a, few-digits b short_b))
@@ -65,7 +71,9 @@ pub push_line-requires-clause-second : goal.push_line-requires-clause-second
 push_line-requires-clause-second c =
     let end : c.len-end.result ≡ length (decimal c.args.first) + 1 + length (decimal c.args.second) =
     grind (arith, common_steps) in
-    let room : length (take 16 c.deref.result.now) ≡ 16 = grind (arith, common_steps) in
+    let behind : 16 ≤ length c.deref.result.now =
+    omega (arith, ap length (c.deref.ensures.value ∙ c.in_ok-extend_from_slice-3.ensures.items), length-append c.push-2.new.self.items (replicate 16 0)) in
+    let room : length (take 16 c.deref.result.now) ≡ 16 = length-take-le 16 c.deref.result.now behind in
     omega (arith, end, room, few-digits _ c.requires.first_short, few-digits _ c.requires.second_short)
 
 pub loop-d-preserved : goal.loop-d-preserved
