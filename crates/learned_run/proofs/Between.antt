@@ -1,6 +1,6 @@
 -- What holds between two steps of a run that learns.
 use Rattle.std.proofs.Common.{◌≡◌, ◌∙◌, inl, inr, ℕ, ℤ, ◌+◌, ◌-◌, ◌<◌, ◌≤◌, ◌++◌, List, [], ◌∷◌, length, refl, ap, sym, subst, arith, append_assoc}
-use Rattle.std.specs.Prelude.{All, Bool, true, false, Option, Some, None, IfSome, IsSomeAnd, IsErrAnd, Result, Ok, Err, is_some, if◌then◌else◌}
+use Rattle.std.specs.Prelude.{All, Bool, MatchResult, true, false, Option, Some, None, IfSome, IsSomeAnd, IsErrAnd, Result, Ok, Err, is_some, if◌then◌else◌}
 use Rattle.std.proofs.lemmas.Bool.{cases_Bool}
 use Rattle.std.proofs.lemmas.List.{append-nil}
 use Rattle.std.proofs.lemmas.List.Elements.{All-nil, All-head, All-tail, All-push}
@@ -23,6 +23,7 @@ use Rattle.bouquet_type.specs.Cursor.{AttemptTree, IsSchedule, ScheduleState, St
 use Rattle.bouquet_type.specs.Runs.{RunEnd}
 use Rattle.bouquet_type.specs.Skipping.{without_skipped}
 use Rattle.bouquet_type.specs.declared.schedule.Attempt.{Attempt}
+use Rattle.bouquet_type.specs.declared.report.Report.{Report}
 use Rattle.bouquet_type.specs.declared.report.RunFault.{RunFault}
 use Rattle.bouquet_type.specs.declared.report.RunFault.TheVariants.{WorkLimit, NoMemory}
 use Rattle.run_step.specs.Coming.{Coming, Passes, Ends, GoesOn, TellsStep, coming}
@@ -235,6 +236,11 @@ pub refused-so : (bouquet : BouquetTree) (block : BlockTree) (database : Databas
     → RefusesLearned bouquet block database most spent fault × (results ≡ [])
 refused-so bouquet block database most spent comes results (WorkLimit told) past tells = ((past tells.0, tells.1, tells.2), tells.3)
 refused-so bouquet block database most spent comes results NoMemory past tells = (tt, tells)
+
+-- why a run is refused is handed on
+pub refused-told : (Answers : Report → Type 0) (Refuses : RunFault → Type 0) (told : Result Report RunFault) (fault : RunFault) → IsErrAnd told (λ one. one ≡ fault) → Refuses fault → MatchResult told Answers Refuses
+refused-told Answers Refuses (Ok report) fault is refused = absurd is
+refused-told Answers Refuses (Err one) fault is refused = subst Refuses (sym is) refused
 
 pub refused-answer : (bouquet : BouquetTree) (block : BlockTree) (database : DatabaseState) (most spent : ℕ) (results : List (List ℤ)) (answer : Result Learned RunFault) (fault : RunFault)
     → IsErrAnd answer (λ told. told ≡ fault) → RefusesLearned bouquet block database most spent fault × (results ≡ []) → AnswersLearned bouquet block database most spent results answer

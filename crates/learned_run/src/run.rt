@@ -1,6 +1,6 @@
 // The run that learns. It relies on a schedule for the order and the budgets, on the steps for rows, work and what is told, and
 // on the frontiers for what is skipped.
-ghost use Rattle.std.specs.Prelude.{◌≡◌, ◌<◌, ◌≤◌, ◌^◌, ◌++◌, [], ◌∷◌, OnOk};
+ghost use Rattle.std.specs.Prelude.{◌≡◌, ◌<◌, ◌≤◌, ◌^◌, ◌++◌, [], ◌∷◌, MatchResult, OnOk, Ok, Err};
 ghost use Rattle.query_block.specs.Blocks.{block_tree, IsPutOf};
 ghost use Rattle.exec_pipe.specs.Scenes.{IsEmptyContext};
 ghost use Rattle.exec_pipe.specs.Runs.{OnlyRuns};
@@ -10,7 +10,7 @@ ghost use Rattle.learned_run.specs.Outcomes.{AnswersLearned};
 use crate::frontiers::Frontiers;
 use crate::learned::{Learned, Skip};
 use crate::lesson::Lesson;
-use bouquet_type::{Attempt, Bouquet, Kept, RunFault, Schedule};
+use bouquet_type::{Attempt, Bouquet, Kept, Report, RunFault, Schedule};
 use db_catalog::Metered;
 use ess_grid::Point;
 use known_rows::KnownRows;
@@ -34,6 +34,56 @@ fn note(skips: &mut Vec<Skip>, step: Attempt<'_>, point: Point) -> Result<(), Al
         point,
     })?;
     Ok(())
+}
+
+// Executes what is due, one execution after another, but for those that are ruled out, which become skips. No skip is there
+// before it.
+fn execute_unskipped(
+    alloc: Global,
+    b: &Bouquet,
+    block: &Block,
+    frontiers: &mut Frontiers<'_>,
+    skips: &mut Vec<Skip>,
+    meter: &mut Metered<'_>,
+    space: &mut Space,
+    max_work: u64,
+) -> Result<Report, RunFault>
+    requires block { IsPutOf (block_tree b.now.block) (block_tree block.now) }
+    requires frontiers { frontiers.old.bouquet ≡ b.now }
+    requires skips { skips.old.items ≡ [] }
+    requires context { IsEmptyContext meter.old (block_tree block.now) space.old }
+    requires unspent { meter.old.account.spent ≡ 0 }
+    ensures answers { MatchResult result
+        (λ report. AnswersLearned (bouquet_tree b.now) (block_tree block.now) meter.old.database
+        max_work meter.new.account.spent space.new.result.rows
+        (Ok (record { report = report; skips = skips.new })))
+        (λ fault. AnswersLearned (bouquet_tree b.now) (block_tree block.now) meter.old.database
+        max_work meter.new.account.spent space.new.result.rows (Err fault)) }
+    ensures within { meter.new.account.spent ≤ max_work }
+    ensures leaves { OnlyRuns meter.old meter.new space.old space.new }
+{
+    let _block = b.block();
+    let costing = b.costing();
+    let costs = b.optimal_costs();
+    let mut lesson = Lesson::new(&costing);
+    let mut schedule = Schedule::new(Kept::new(b));
+    let mut known = KnownRows::new();
+    let mut runs = 0;
+    'steps: loop {
+        schedule.next(alloc)?;
+        let step = schedule.attempt();
+        if let Some(point) = frontiers.skip_point(alloc, step, lesson.point())? {
+            note(skips, step, point)?;
+            continue;
+        }
+        runs += 1;
+        if let Some(report) = execute(
+            alloc, block, step, runs, meter, space, &mut known, max_work,
+        )? {
+            return Ok(report);
+        }
+        lesson.learn(&costing, costs, step);
+    }
 }
 
 /// Answers the query of a bouquet as a run does that skips what its exhausted executions have ruled out. An execution of a plan
@@ -62,28 +112,18 @@ pub fn learn(
     ensures within { meter.new.account.spent ≤ max_work }
     ensures leaves { OnlyRuns meter.old meter.new space.old space.new }
 {
-    let _block = b.block();
     let costing = b.costing();
-    let costs = b.optimal_costs();
     let mut frontiers = Frontiers::new(alloc, b, &costing);
-    let mut lesson = Lesson::new(&costing);
-    let mut schedule = Schedule::new(Kept::new(b));
-    let mut known = KnownRows::new();
     let mut skips = Vec::new(alloc);
-    let mut runs = 0;
-    'steps: loop {
-        schedule.next(alloc)?;
-        let step = schedule.attempt();
-        if let Some(point) = frontiers.skip_point(alloc, step, lesson.point())? {
-            note(&mut skips, step, point)?;
-            continue;
-        }
-        runs += 1;
-        if let Some(report) = execute(
-            alloc, block, step, runs, meter, space, &mut known, max_work,
-        )? {
-            return Ok(Learned { report, skips });
-        }
-        lesson.learn(&costing, costs, step);
-    }
+    let report = execute_unskipped(
+        alloc,
+        b,
+        block,
+        &mut frontiers,
+        &mut skips,
+        meter,
+        space,
+        max_work,
+    )?;
+    Ok(Learned { report, skips })
 }

@@ -6,6 +6,6 @@ use Rattle.learned_run.proofs.bare.found_rows.Given as goal
 
 abbrev pub invariant-loop-at : goal.invariant-loop-at
 invariant-loop-at l = record {
-  those : map (λ row. row.point) l.rows.items ≡ map (λ at. at.point) (take l.at-index l.points);
+  those : map (λ row. row.point) l.rows.items ≡ take l.at-index (map (λ at. at.point) l.points);
   each : All (IsBareRow (costing_tree l.surface)) l.rows.items;
 }

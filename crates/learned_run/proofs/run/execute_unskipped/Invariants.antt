@@ -7,7 +7,7 @@ use Rattle.bouquet_type.specs.Cursor.{IsSchedule, members_left, schedule_of}
 use Rattle.bouquet_type.specs.Kept.{ladder_of}
 use Rattle.bouquet_type.specs.Trees.{bouquet_tree}
 use Rattle.learned_run.proofs.Between.{IsLearning}
-use Rattle.learned_run.proofs.run.learn.Given as goal
+use Rattle.learned_run.proofs.run.execute_unskipped.Given as goal
 
 abbrev pub invariant-steps : goal.invariant-steps
 invariant-steps l =
