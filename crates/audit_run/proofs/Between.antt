@@ -19,7 +19,9 @@ use Rattle.bouquet_type.specs.Trees.{BouquetTree, bouquet_tree}
 use Rattle.audit_run.specs.declared.figures.Figures.{Figures}
 use Rattle.audit_run.specs.declared.figures.Measured.{Measured}
 use Rattle.audit_run.specs.Measures.{Measure, measure_of, measures_of, worst_of}
-use Rattle.audit_run.specs.Executed.{measure, AreWith, HasWork}
+use Rattle.audit_run.specs.declared.told.AuditFault.{AuditFault}
+use Rattle.audit_run.specs.declared.told.AuditFault.TheVariants.{PlanLimit, WorkLimit, NoMemory}
+use Rattle.audit_run.specs.Executed.{measure, AreWith, HasWork, StopsAudit}
 use Rattle.audit_run.specs.Audits.{audit_of, work_of_all}
 use Rattle.audit_run.proofs.Some.{cost_some, work_some}
 use Rattle.audit_run.proofs.Worst.{IsMeasure}
@@ -66,6 +68,28 @@ module _ (bouquet : BouquetTree) (block : BlockTree) (database : DatabaseState) 
       let rest = measures_in (drop (index + 1) plans) in
       let left = next-left plans index plan there at ∙ ap (λ n. n ∷ rest) (sym is) in
       figures-next (measures_in plans) rest m old new spent (subst (λ left. AreFigures (measures_in plans) left old spent) left are) has with
+
+  -- the next plan works no more than all of them, with what is spent before it
+  next-within : (plans : List Plan) (index : ℕ) (plan : Plan) (figures : Figures) (spent : ℕ) → index < length plans → plan ≡ get_or plans index plan → map plan_tree plans ≡ plans_of block
+      → AreFigures (measures_in plans) (measures_in (drop index plans)) figures spent → spent + work_of database.tables block (plan_tree plan) ≤ work_of_all block database
+  next-within plans index plan figures spent there at all are =
+      let rest = measures_in (drop (index + 1) plans) in
+      let m = measure_of bouquet block database point (plan_tree plan) in
+      omega (
+        arith,
+        are.work,
+        ap (sum_by (λ (n : Measure). n.work)) (next-left plans index plan there at),
+        sum_by-cons (λ (n : Measure). n.work) m rest,
+        work-measured (map plan_tree plans),
+        ap (sum_by (work_of database.tables block)) all,
+      )
+
+  -- so what stops it stops the audit
+  pub stops : (plans : List Plan) (index : ℕ) (plan : Plan) (figures : Figures) (spent most : ℕ) (fault : AuditFault) → index < length plans → plan ≡ get_or plans index plan → map plan_tree plans ≡ plans_of block
+      → AreFigures (measures_in plans) (measures_in (drop index plans)) figures spent → StopsAudit (spent + work_of database.tables block (plan_tree plan)) most fault → StopsAudit (work_of_all block database) most fault
+  stops plans index plan figures spent most PlanLimit there at all are stop = stop
+  stops plans index plan figures spent most (WorkLimit told) there at all are stop = (omega (arith, stop.0, next-within plans index plan figures spent there at all are), stop.1)
+  stops plans index plan figures spent most NoMemory there at all are stop = stop
 
   -- the figures of all plans, told
   pub told : (plans : List Plan) (figures : Figures) (spent most : ℕ) → 1 ≤ length (plans_of block)
