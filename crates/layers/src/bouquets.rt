@@ -12,7 +12,7 @@ use cost_model::{Costing, Stats};
 use db_catalog::{Database, Metered};
 use ess_grid::Grid;
 use plan_space::best;
-use plan_tree::{Plan, plan_text};
+use plan_tree::plan_text;
 use query_block::Block;
 use row_stack::Space;
 use std::alloc::Global;
@@ -41,14 +41,6 @@ fn prepare(alloc: Global, db: &Database, query: &str) -> Option<Prepared>
     Some(Prepared { block, stats, grid })
 }
 
-// A plan and what it costs.
-fn priced(alloc: Global, plan: &Plan, cost: u128) -> Option<String> {
-    let text = plan_text(alloc, plan).ok()?;
-    let mut text = String::from_utf8(text).ok()?;
-    write!(text, " {cost}").ok()?;
-    Some(text)
-}
-
 // The best plan of a query at the point of a place, and its cost.
 pub(crate) fn best_at(alloc: Global, db: &Database, query: &str, asked: &[u32]) -> Option<String> {
     let place = *asked.first()? as usize;
@@ -59,7 +51,9 @@ pub(crate) fn best_at(alloc: Global, db: &Database, query: &str, asked: &[u32]) 
     let point = prepared.grid.point(place);
     let costing = Costing::new(&prepared.block, &prepared.stats, &prepared.grid);
     let (plan, cost) = best(alloc, &costing, &point).ok()?;
-    priced(alloc, &plan, cost)
+    let mut text = String::from_utf8(plan_text(alloc, &plan).ok()?).ok()?;
+    write!(text, " {cost}").ok()?;
+    Some(text)
 }
 
 // The compiled bouquet of a query, with a threshold in percent.
@@ -130,44 +124,30 @@ fn put_standing(text: &mut String, job: &Job<'_>) -> Option<()> {
     }
 }
 
-// Takes turns of these numbers, and puts down how both jobs stand then.
-fn put_turns(
-    text: &mut String,
-    alloc: Global,
-    jobs: &mut [Job<'_>; 2],
-    numbers: &[u32],
-) -> Option<()> {
-    if !are_jobs(numbers) {
+// What the run of a bouquet tells, and how two jobs of it stand after turns: the most work and the turns stand behind the
+// threshold.
+fn bouquet_text(alloc: Global, db: &Database, bouquet: &Bouquet, asked: &[u32]) -> Option<String> {
+    let [_, most, turns @ ..] = asked else {
+        return None;
+    };
+    if !are_jobs(turns) {
         return None;
     }
-    take_turns(alloc, jobs, numbers).ok()?;
-    put_standing(text, &jobs[0])?;
-    put_standing(text, &jobs[1])
-}
-
-// What the run of a bouquet tells, and how two jobs of it stand after turns of these numbers.
-fn bouquet_text(
-    alloc: Global,
-    db: &Database,
-    bouquet: &Bouquet,
-    most: u64,
-    numbers: &[u32],
-) -> Option<String> {
+    let most = u64::from(*most);
     let block = executed(alloc, db, bouquet)?;
     let mut text = run_text(alloc, db, bouquet, &block, most)?;
     let mut jobs = [
         Job::new(alloc, db, bouquet, &block, most),
         Job::new(alloc, db, bouquet, &block, most),
     ];
-    put_turns(&mut text, alloc, &mut jobs, numbers)?;
+    take_turns(alloc, &mut jobs, turns).ok()?;
+    put_standing(&mut text, &jobs[0])?;
+    put_standing(&mut text, &jobs[1])?;
     Some(text)
 }
 
-// The same of the compiled bouquet of a query, with a threshold, the most work, and the numbers of turns.
+// The same of the compiled bouquet of a query.
 pub(crate) fn jobs(alloc: Global, db: &Database, query: &str, asked: &[u32]) -> Option<String> {
-    let [threshold, most, numbers @ ..] = asked else {
-        return None;
-    };
-    let bouquet = bouquet_of(alloc, db, query, *threshold)?;
-    bouquet_text(alloc, db, &bouquet, u64::from(*most), numbers)
+    let bouquet = bouquet_of(alloc, db, query, *asked.first()?)?;
+    bouquet_text(alloc, db, &bouquet, asked)
 }

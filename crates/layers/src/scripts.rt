@@ -41,11 +41,8 @@ pub(crate) fn table_of(db: &Database, name: &[u8]) -> Option<u32>
 fn create_index(db: &mut Database, index: &IndexDef) -> Option<()> {
     let table = table_of(db, index.table.bytes())?;
     let columns = db.columns(table);
-    let column = columns
-        .iter()
-        .position(|column| column.name == index.column)?;
-    db.create_index(index.name.bytes(), table, column as u8)
-        .ok()
+    let place = columns.iter().position(|it| it.name == index.column)?;
+    db.create_index(index.name.bytes(), table, place as u8).ok()
 }
 
 // So many rows of a number and its rest.
@@ -111,21 +108,13 @@ pub(crate) fn begin(alloc: Global, db: &mut Database, script: &str) -> Option<St
     extend(alloc, db, script)
 }
 
-// The block of the first of these statements.
-fn bound(alloc: Global, db: &Database, statements: &[Statement]) -> Option<Block>
-    requires well_formed { AreWellFormed statements.now }
-    requires counted { HaveUpTo 1000000 statements.now }
-{
+// The block of a query.
+pub(crate) fn block_of(alloc: Global, db: &Database, query: &str) -> Option<Block> {
+    let statements = statements_of(alloc, query)?;
     match statements.first()? {
         Statement::Select(query) => bind(alloc, db, query).ok(),
         _ => None,
     }
-}
-
-// The block of a query.
-pub(crate) fn block_of(alloc: Global, db: &Database, query: &str) -> Option<Block> {
-    let statements = statements_of(alloc, query)?;
-    bound(alloc, db, &statements)
 }
 
 // The canonical text of a statement.
