@@ -11,3 +11,4 @@ pub mod Placing
 pub mod TableText
 pub mod FirstBytes
 pub mod Combined
+pub mod RowsInTurn
