@@ -1,11 +1,11 @@
 // The statements of the language. Each has a production, in a file of its name: how it is read and how it is printed.
 // Here they are put together: a statement is known by the word that it begins with.
 
-ghost use Rattle.std.specs.Prelude.{Option, Some, None, length, ◌==◌, if◌then◌else◌};
+ghost use Rattle.std.specs.Prelude.{Option, Some, None, drop, length, ◌==◌, if◌then◌else◌};
 ghost use Rattle.sql_parse.specs.Trees.{statement_tree};
 ghost use Rattle.sql_parse.specs.Reading.{Gives, GivesValue, GivesStatement};
 ghost use Rattle.sql_parse.specs.Printing.{PutsParts};
-ghost use Rattle.sql_parse.specs.Statements.{create_at, statement_at, statement_of, statement_parts};
+ghost use Rattle.sql_parse.specs.Statements.{among, create_at, productions, statement_at, statement_of, statement_parts};
 
 mod audit;
 mod bouquet_use;
@@ -81,26 +81,10 @@ fn create<'s>(alloc: Global, piece: Piece<'s>) -> Result<(Statement, Piece<'s>),
     create_index(alloc, after)
 }
 
-// A statement at the front of the tokens.
-#[tactic(auto, unfolding(crate::specs::Statements::statement_at))]
-fn first_statement<'s>(alloc: Global, piece: Piece<'s>) -> Result<(Statement, Piece<'s>), ReadFault>
-    ensures { GivesStatement result (statement_at piece.entry) }
+// A statement that begins with none of the first five keywords.
+fn other_statement<'s>(alloc: Global, piece: Piece<'s>) -> Result<(Statement, Piece<'s>), ReadFault>
+    ensures { GivesStatement result (among (drop 5 productions) piece.entry) }
 {
-    if let Some(after) = piece.after_word(b"CREATE") {
-        return create(alloc, after);
-    }
-    if let Some(after) = piece.after_word(b"LOAD") {
-        return load(alloc, after);
-    }
-    if let Some(after) = piece.after_word(b"COMPILE") {
-        return compile(alloc, after);
-    }
-    if let Some(after) = piece.after_word(b"RUN") {
-        return run(alloc, after);
-    }
-    if let Some(after) = piece.after_word(b"EXPLAIN") {
-        return explain(alloc, after);
-    }
     if let Some(after) = piece.after_word(b"SAVE") {
         return save_file(alloc, after);
     }
@@ -121,6 +105,29 @@ fn first_statement<'s>(alloc: Global, piece: Piece<'s>) -> Result<(Statement, Pi
     }
     let (query, rest) = select(alloc, piece)?;
     Ok((Statement::Select(query), rest))
+}
+
+// A statement at the front of the tokens.
+#[tactic(auto, unfolding(crate::specs::Statements::statement_at))]
+fn first_statement<'s>(alloc: Global, piece: Piece<'s>) -> Result<(Statement, Piece<'s>), ReadFault>
+    ensures { GivesStatement result (statement_at piece.entry) }
+{
+    if let Some(after) = piece.after_word(b"CREATE") {
+        return create(alloc, after);
+    }
+    if let Some(after) = piece.after_word(b"LOAD") {
+        return load(alloc, after);
+    }
+    if let Some(after) = piece.after_word(b"COMPILE") {
+        return compile(alloc, after);
+    }
+    if let Some(after) = piece.after_word(b"RUN") {
+        return run(alloc, after);
+    }
+    if let Some(after) = piece.after_word(b"EXPLAIN") {
+        return explain(alloc, after);
+    }
+    other_statement(alloc, piece)
 }
 
 // A value after which no token is left.
