@@ -16,7 +16,7 @@ use Rattle.sql_values.proofs.Dictionary.{with_texts-with_texts, Begins-with_text
 use Rattle.heap_pages.specs.Rows.{cut_rows}
 use Rattle.sql_values.specs.Stored.{ValueRow, IsRowOf, AreWords, row_of, texts_in}
 use Rattle.db_catalog.specs.declared.table.Table.{Table}
-use Rattle.db_catalog.specs.Database.{table_at, more_rows, more_indexed, with_rows}
+use Rattle.db_catalog.specs.Database.{new_table, table_at, more_rows, more_indexed, with_rows}
 use Rattle.db_catalog.specs.Indexes.{kept_index, no_indexes}
 use Rattle.db_catalog.specs.Kept.{MeanRows, SameRows, TakesWords, AppendsWords, IndexesColumn, with_column, IsBatch, stored_table, kept_words, IsKept, AreKept}
 use Rattle.db_catalog.specs.Refused.{words_in}
@@ -244,6 +244,14 @@ table_appended names texts tables table name columns kept new few some few_colum
   });
   distinct_texts = kept.distinct_texts;
 }
+
+-- and is seen behind them
+pub table_seen : (texts : List (List ℕ)) (tables : List Table) (table : Table) (name : List ℕ) (columns : List ColumnDef) →
+    table.name ≡ name → table.columns.items ≡ columns → table.heap.rows ≡ [] → table.indexes ≡ no_indexes →
+    map (stored_table texts) (tables ++ table ∷ []) ≡ map (stored_table texts) tables ++ new_table name columns ∷ []
+table_seen texts tables table name columns named has none unindexed =
+    map-append (stored_table texts) tables (table ∷ [])
+    ∙ (λ i. map (stored_table texts) tables ++ record { name = named i; columns = has i; indexed = (unindexed i).columns; rows = map (row_of texts (has i)) (none i) } ∷ [])
 
 -- the words of tables that are seen
 pub words_seen : (texts : List (List ℕ)) (tables : List Table) → words_in (map (stored_table texts) tables) ≡ kept_words tables

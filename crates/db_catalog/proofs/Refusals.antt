@@ -9,6 +9,7 @@ use Rattle.sql_values.proofs.Dictionary.{position-below, position_none}
 use Rattle.std.specs.Option.{option_or}
 use Rattle.std.proofs.lemmas.Bool.{ltb-false}
 use Rattle.sql_values.specs.declared.limit.LimitName.{LimitName}
+use Rattle.heap_pages.specs.Changes.{Becomes}
 use Rattle.db_catalog.specs.declared.fault.DbFault.{DbFault}
 use Rattle.db_catalog.specs.declared.fault.DbFault.TheVariants.{Duplicate, Limit, NoMemory}
 use Rattle.db_catalog.specs.Refused.{Refuses, RefusesExactly, TellsLimit, IsTold, RefusesWhereDue, past, taken, indexed_fault}
@@ -50,6 +51,21 @@ due_first a b (Err x) e is h = subst (λ o. IsSomeAnd (option_or o b) (λ one. I
 pub name_first : (a b : Option DbFault) (name : List ℕ) (e : DbFault) → a ≡ Some (Duplicate name) → (e ≢ NoMemory → e ≡ Duplicate name) → IsSomeAnd (option_or a b) (λ one. IsTold one e)
 name_first a b name e h told = subst (λ o. IsSomeAnd (option_or o b) (λ one. IsTold one e)) (sym h) told
 
+-- and what they tell is handed on
+due_told : (due : Option DbFault) (e : DbFault) → IsSomeAnd due (λ one. IsTold one e) → e ≢ NoMemory → due ≡ Some e
+due_told None e told other = absurd told
+due_told (Some (Duplicate name)) e told other = ap Some (sym (told other))
+due_told (Some (Limit name value)) e told other = ap Some (sym told)
+due_told (Some NoMemory) e told other = absurd (other told)
+
+pub due_handed_on : {T : Type 0} (due : Option DbFault) (r : Result T DbFault) (e : DbFault) → IsErrAnd r (λ x. x ≡ e) → IsSomeAnd due (λ one. IsTold one e) → Refuses due r
+due_handed_on due (Ok x) e is told = absurd is
+due_handed_on due (Err x) e is told = record { answered = tt; refused = λ other. due_told due e told (λ none. other (is ∙ none)) ∙ ap Some (sym is) }
+
+pub due_limit : {T : Type 0} (due : Option DbFault) (r : Result T DbFault) (e : DbFault) → IsErrAnd r (λ x. x ≡ e) → IsSomeAnd due (λ one. IsTold one e) → TellsLimit due r
+due_limit due (Ok x) e is told = absurd is
+due_limit due (Err x) e is told = λ name value limit. is ∙ subst (λ o. IsSomeAnd o (λ one. IsTold one e)) limit told
+
 -- a limit that is passed
 pub limit_told : {T : Type 0} (due : Option DbFault) (r : Result T DbFault) (e : DbFault) → IsErrAnd r (λ x. x ≡ e) → due ≡ Some e → TellsLimit due r
 limit_told due (Ok x) e is h = absurd is
@@ -80,6 +96,11 @@ handed_on due (Err x) e is h = record { answered = tt; refused = λ other. h.ref
 pub handed_on_first : {T E : Type 0} (a b : Option DbFault) (r : Result T DbFault) (e : DbFault) → IsErrAnd r (λ x. x ≡ e) → Refuses {T = E} a (Err e) → Refuses {T = T} (option_or a b) r
 handed_on_first a b (Ok x) e is h = absurd is
 handed_on_first a b (Err x) e is h = record { answered = tt; refused = λ other. ap (λ o. option_or o b) (h.refused (λ none. other (is ∙ none)) ∙ ap Some (sym is)) }
+
+-- what stays as it was where a refusal is handed on
+pub unchanged_on : {S T : Type 0} (after old new : S) (r : Result T DbFault) (e : DbFault) → IsErrAnd r (λ x. x ≡ e) → new ≡ old → Becomes after old new r
+unchanged_on after old new (Ok x) e is same = absurd is
+unchanged_on after old new (Err x) e is same = record { made = tt; unchanged = same }
 
 -- what holds on an answer of this kind
 pub on_err : {T E P : Type 0} (r : Result T E) → is_err r ≡ true → OnErr r P → P

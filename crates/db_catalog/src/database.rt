@@ -194,8 +194,8 @@ impl Database {
     {
         self.check_creation(name, columns)?;
         let number = self.tables.len() as u32;
-        let table = Table::new(self.alloc, name, columns)?;
         self.tables.reserve(1)?;
+        let table = Table::new(self.alloc, name, columns)?;
         self.names.add(name)?;
         push_within(&mut self.tables, table);
         Ok(number)
@@ -220,7 +220,6 @@ impl Database {
 
     /// Makes an index, of a name, of a column of a table. The checks, in order: the name, among those of all indexes, then
     /// the column, which is indexed already; that refusal has the column's name.
-    #[tactic(auto, using(crate::proofs::Tables::of_reads))]
     pub fn create_index(&mut self, name: &[u8], table: u32, column: u8) -> Result<(), DbFault>
         requires { column < length (table_at self.old table).columns }
         ensures created { let after = with_index self.old name.now table column in

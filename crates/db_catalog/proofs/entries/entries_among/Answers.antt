@@ -8,6 +8,24 @@ use Rattle.db_catalog.proofs.Cut.{cut_last, long_cut}
 use Rattle.db_catalog.proofs.OfIndexes.{next_entry}
 use Rattle.db_catalog.proofs.entries.entries_among.Goals as goal
 
+-- the words of a row are there
+within : (c : goal.In-loop-i) → c.loop-i.i * c.args.width + c.args.width ≤ length c.args.words.now
+within c =
+    let ends : (c.loop-i.i + 1) * c.args.width ≤ c.args.rows * c.args.width = mul-le-mul_right c.args.width (omega (arith, c.loop-i-test.true)) in
+    omega (arith, ends, c.requires.filled)
+
+pub overflow_mul-row : goal.overflow_mul-row
+overflow_mul-row c = omega (arith, within c)
+
+pub overflow_mul-row-in-loop-i : goal.overflow_mul-row-in-loop-i
+overflow_mul-row-in-loop-i c = omega (arith, within c)
+
+pub overflow_add-row : goal.overflow_add-row
+overflow_add-row c = omega (arith, within c)
+
+pub slice_bounds-row-end : goal.slice_bounds-row-end
+slice_bounds-row-end c = within c
+
 pub loop-i-preserved : goal.loop-i-preserved
 loop-i-preserved c =
     let words = c.args.words.now in

@@ -6,6 +6,17 @@ use Rattle.db_catalog.specs.Indexes.{word_entry, word_entries}
 use Rattle.db_catalog.proofs.OfIndexes.{next_entry}
 use Rattle.db_catalog.proofs.entries.entries_in.Goals as goal
 
+-- each row of the heap is as wide as the heap
+row_wide : (c : goal.After-get) → length c.get.result.now ≡ c.args.heap.now.columns
+row_wide c =
+    let rows = c.args.heap.now.rows in
+    let words = c.get.result.now in
+    subst (λ w. length w ≡ c.args.heap.now.columns) (get_or_from_slice_get rows c.loop-i.i words words c.get.ensures)
+    (c.requires.wide c.loop-i.i words (slice_get_within rows c.loop-i.i words c.get.ensures))
+
+pub bounds-get-column : goal.bounds-get-column
+bounds-get-column c = omega (arith, row_wide c, c.requires.there)
+
 pub loop-i-preserved : goal.loop-i-preserved
 loop-i-preserved c =
     let rows = c.args.heap.now.rows in

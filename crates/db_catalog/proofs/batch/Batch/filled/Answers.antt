@@ -1,9 +1,36 @@
-use Rattle.std.proofs.Common.{◌≡◌, ◌+◌, ◌-◌, ◌*◌, ◌/◌, ◌∙◌, [], sym, ap, subst, length, take, drop, get_or, arith}
+use Rattle.std.proofs.Common.{◌≡◌, ◌≤◌, ◌+◌, ◌-◌, ◌*◌, ◌/◌, ◌∙◌, [], sym, ap, subst, length, take, drop, get_or, arith}
+use Rattle.std.proofs.Math.Nat.{div-mul-le_self, mul-le-mul_right}
 use Rattle.sql_values.specs.Stored.{IsRowOf}
 use Rattle.heap_pages.specs.Rows.{cut_rows}
 use Rattle.db_catalog.specs.Batch.{with_whole_row}
 use Rattle.db_catalog.proofs.Cut.{cut_last, get_or-cut_rows, long_cut}
 use Rattle.db_catalog.proofs.batch.Batch.filled.Goals as goal
+
+-- the values of a row are there
+within : (c : goal.After-batch-in-loop-i-1) → c.loop-i.i * length c.args.columns.now + length c.args.columns.now ≤ length c.args.values.now
+within c =
+    let width = length c.args.columns.now in
+    let count = length c.args.values.now / width in
+    let ends : (c.loop-i.i + 1) * width ≤ count * width = mul-le-mul_right width (omega (arith, c.loop-i-test.true)) in
+    omega (arith, ends, div-mul-le_self (length c.args.values.now) width)
+
+pub nonzero_div-i-end : goal.nonzero_div-i-end
+nonzero_div-i-end c = omega (arith, c.requires.some)
+
+pub loop-i-init : goal.loop-i-init
+loop-i-init c = c.in_ok-batch.ensures
+
+pub overflow_mul-i : goal.overflow_mul-i
+overflow_mul-i c = omega (arith, within c)
+
+pub overflow_mul-i-in-loop-i : goal.overflow_mul-i-in-loop-i
+overflow_mul-i-in-loop-i c = omega (arith, within c)
+
+pub overflow_add-i : goal.overflow_add-i
+overflow_add-i c = omega (arith, within c)
+
+pub slice_bounds-put_row-end : goal.slice_bounds-put_row-end
+slice_bounds-put_row-end c = within c
 
 pub put_row-requires-clause-fits : goal.put_row-requires-clause-fits
 put_row-requires-clause-fits c =
@@ -24,3 +51,9 @@ loop-i-preserved c =
     c.in_ok-put_row.ensures
     ∙ (λ j. with_whole_row (c.loop-i.invariant j) (take (is_width j) (drop start c.args.values.now)))
     ∙ ap (λ rows. record { columns = c.args.columns.now; rows = rows; row = [] }) (sym (cut_last width c.loop-i.i c.args.values.now))
+
+pub returns : goal.returns
+returns c =
+    let width = length c.args.columns.now in
+    c.loop-i.invariant
+    ∙ ap (λ n. record { columns = c.args.columns.now; rows = cut_rows width n c.args.values.now; row = [] }) (omega (arith, c.loop-i-test.false, c.loop-i.auto.i-end))

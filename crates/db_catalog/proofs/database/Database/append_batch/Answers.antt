@@ -1,4 +1,4 @@
-use Rattle.std.proofs.Common.{List, ℕ, ℤ, rules, ◌≡◌, ◌^◌, ◌≤◌, ◌∙◌, ◌++◌, ◌<◌, [], sym, ap, subst, length, take, drop, slice_get, None, Err, arith}
+use Rattle.std.proofs.Common.{List, ℕ, ℤ, rules, ◌≡◌, ◌*◌, ◌^◌, ◌≤◌, ◌∙◌, ◌++◌, ◌<◌, [], sym, ap, subst, length, take, drop, slice_get, None, Err, arith}
 use Rattle.std.specs.Prelude.{IsSomeAnd}
 use Rattle.std.proofs.lemmas.List.{length-map, take_at}
 use Rattle.sql_values.specs.Dictionary.{with_texts, Begins}
@@ -8,8 +8,8 @@ use Rattle.sql_values.proofs.Dictionary.{Begins-with_texts, Begins_itself, take-
 use Rattle.heap_pages.specs.Rows.{cut_rows}
 use Rattle.db_catalog.specs.Database.{table_at, with_rows}
 use Rattle.db_catalog.specs.Refused.{Refuses, room_fault, texts_fault}
-use Rattle.db_catalog.specs.Kept.{AreKept, SameRows, AppendsWords, HasWords}
-use Rattle.db_catalog.proofs.Refusals.{exact_refuses, limit_told, no_limit, not_first, handed_on, handed_on_first, on_err, on_ok}
+use Rattle.db_catalog.specs.Kept.{AreKept, MeanRows, SameRows, AppendsWords, HasWords}
+use Rattle.db_catalog.proofs.Refusals.{out_of_memory, unchanged_on, exact_refuses, limit_told, no_limit, not_first, handed_on, handed_on_first, on_err, on_ok}
 use Rattle.db_catalog.proofs.Cut.{long_cut}
 use Rattle.db_catalog.proofs.BatchParts.{rows_of}
 use Rattle.db_catalog.proofs.Tables.{database_of, named, is_kept, has_words}
@@ -141,3 +141,26 @@ pub returns-clause-limit : goal.returns-clause-limit
 returns-clause-limit c =
     let count = counted c.batch.inside.texts c.batch.inside.columns.items c.batch.inside.rows c.batch.inside.words.items c.args.batch.rows (ap (λ b. b.rows) c.batch.view_is) in
     λ name value. no_limit (room_fault c.args.self.now c.args.table (length c.args.batch.rows)) name value (ap (room_fault c.args.self.now c.args.table) count ∙ c.in_ok-check_room.ensures)
+
+pub settle-requires-clause-filled : goal.settle-requires-clause-filled
+settle-requires-clause-filled c =
+    ap length c.deref_mut.ensures.value ∙ c.batch.invariant.words_fill_rows ∙ ap (λ cs. c.batch.inside.rows * length cs) (sym c.deref.ensures.value)
+
+pub settle-requires-clause-mean : goal.settle-requires-clause-mean
+settle-requires-clause-mean c =
+    subst (λ cs. MeanRows c.batch.inside.texts cs (cut_rows (length cs) c.batch.inside.rows c.deref_mut.result.now)) (sym c.deref.ensures.value)
+    (subst (λ ws. MeanRows c.batch.inside.texts c.batch.inside.columns.items (cut_rows (length c.batch.inside.columns.items) c.batch.inside.rows ws)) (sym c.deref_mut.ensures.value) c.batch.invariant.rows_mean)
+
+pub invariant_of-self : goal.invariant_of-self
+invariant_of-self c = subst (λ t. AreKept c.self.inside.names t c.self.inside.tables.items) (sym c.in_err-settle.ensures.unchanged) c.self.invariant
+
+pub returns-in_err-settle-clause-appended : goal.returns-in_err-settle-clause-appended
+returns-in_err-settle-clause-appended c =
+    unchanged_on (with_rows c.args.self.now c.args.table c.args.batch.rows) c.args.self.now _ c.from_residual-in_err-settle.result c.in_err-settle.field-0.0 c.from_residual-in_err-settle.ensures.1
+    (ap (λ t. named c.self.inside.index_names (database_of t c.self.inside.tables.items)) c.in_err-settle.ensures.unchanged ∙ c.self.view_is)
+
+pub append_words-requires-clause-there : goal.append_words-requires-clause-there
+append_words-requires-clause-there c = omega (arith, is_kept _ _ _ _ c.self.view_is c.requires.there, ap length c.deref_mut-2.ensures.value)
+
+pub returns-then-is_err-clause-refuses : goal.returns-then-is_err-clause-refuses
+returns-then-is_err-clause-refuses c = out_of_memory _
