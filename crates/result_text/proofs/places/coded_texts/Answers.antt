@@ -21,8 +21,3 @@ loop-code-preserved c =
       texts = subst (λ (l : List CodedText). All (IsCodedText c.args.texts.now) l) (sym pushed)
           (All-push (IsCodedText c.args.texts.now) c.loop-code.coded.items one c.loop-code.invariant.texts (c.text_of.ensures.text ∙ ap Some (sym c.new-text.ensures)));
     }
-
-pub text_of-requires : goal.text_of-requires
-text_of-requires c = let code = get_or c.args.codes.now c.loop-code.code-index (pos 0) in
-    let same : to_z w64 (of_z w64 code) ≡ code = grind (arith, to_z-of_z) in
-    record { there = rw same (c.requires c.loop-code.code-index (pos 0) c.loop-code-test.true) }

@@ -1,5 +1,4 @@
-use Rattle.std.proofs.Common.{All, ◌≡◌, ◌∙◌, ℕ, List, IfOk, ap, length, map, subst, sym}
-use Rattle.std.proofs.lemmas.List.{length-map}
+use Rattle.std.proofs.Common.{All, ◌≡◌, ◌∙◌, ℕ, List, IfOk, ap, map, subst, sym}
 use Rattle.std.specs.List.{range_with_len}
 use Rattle.sql_values.specs.declared.column.ColumnType.{ColumnType}
 use Rattle.sql_values.specs.Stored.{ValueRow, values_of, AreWordsOf}
@@ -7,7 +6,7 @@ use Rattle.query_block.specs.Blocks.{BlockTree, IsBlock, block_tree, kind_of}
 use Rattle.query_block.specs.Combined.{AreCombinedWords, word_place}
 use Rattle.result_text.specs.Combined.{printed_rows, words_at}
 use Rattle.result_text.specs.Printed.{table_text}
-use Rattle.result_text.specs.Rows.{WordRow, words_of}
+use Rattle.result_text.specs.Rows.{WordRow}
 use Rattle.query_block.proofs.Combined.{places-inside}
 use Rattle.result_text.proofs.Combined.{rows-allowed, rows-mean, rows-whole}
 use Rattle.result_text.proofs.projection.print_rows.Goals as goal
@@ -62,19 +61,3 @@ returns c =
     (c.deref-5.ensures.value ∙ c.in_ok-kinds.ensures.kinds)
     (c.deref-6.ensures.value ∙ c.in_ok-lent-2.ensures ∙ ap (λ (places : List ℕ). map (words_at places) rows) (c.deref-3.ensures.value ∙ c.in_ok-places.ensures)) in
     subst (λ (values : List ValueRow). IfOk c.table_text-2.result (λ text. text.items ≡ table_text c.args.names.now values)) told.1 c.table_text-2.ensures
-
-pub projected_rows-requires : goal.projected_rows-requires
-projected_rows-requires c =
-    c.deref-4.ensures.value ∙ c.in_ok-words.ensures
-    ∙ ap (λ (places : List ℕ). words_of (map (words_at places) c.args.rows.now.rows)) (c.deref-2.ensures.value ∙ sym c.deref-3.ensures.value)
-
--- as many kinds as names
-pub table_text-requires-clause-named : goal.table_text-requires-clause-named
-table_text-requires-clause-named c =
-    c.requires.named ∙ sym (ap length (c.deref-then-are_in_place.ensures.value ∙ c.in_ok-kinds.ensures.kinds)
-    ∙ length-map c.args.block.now.projection (kind_of (block_tree c.args.block.now).relations))
-
-pub table_text-requires-2-clause-named : goal.table_text-requires-2-clause-named
-table_text-requires-2-clause-named c =
-    c.requires.named ∙ sym (ap length (c.deref-5.ensures.value ∙ c.in_ok-kinds.ensures.kinds)
-    ∙ length-map c.args.block.now.projection (kind_of (block_tree c.args.block.now).relations))
