@@ -3,7 +3,7 @@ use Rattle.std.proofs.Common.{◌≡◌, ◌∙◌, ℕ, ◌<◌, ◌++◌, List
 use Rattle.std.specs.Prelude.{All}
 use Rattle.std.specs.List.{flat_map, list_any}
 use Rattle.std.proofs.lemmas.List.{length-map}
-use Rattle.turns.specs.Jobs.{JobShape, job_tree, task_of}
+use Rattle.turns.specs.Jobs.{JobShape, job_tree}
 use Rattle.turns.specs.Standing.{JobTask}
 use Rattle.turns.specs.Taking.{jobs_turned, numbers_to_end, turns_told}
 use Rattle.turns.specs.declared.turn.Turn.{Turn}

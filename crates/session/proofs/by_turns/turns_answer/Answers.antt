@@ -1,5 +1,5 @@
 -- The jobs are before their first turns.
-use Rattle.std.proofs.Common.{◌≡◌, ◌∙◌, ◌<◌, length, map, sym, ap, subst}
+use Rattle.std.proofs.Common.{◌∙◌, ◌<◌, length, map, sym, ap, subst}
 use Rattle.std.specs.Prelude.{All}
 use Rattle.turns.specs.Jobs.{job_tree}
 use Rattle.session.proofs.by_turns.turns_answer.Goals as goal
