@@ -4,7 +4,7 @@ use Rattle.std.proofs.Common.{◌≡◌, ℕ, ℤ, pos, ◌+◌, ◌*◌, ◌<�
 use Rattle.std.specs.Prelude.{cond, int_le, not, slice_index_or}
 use Rattle.std.specs.Ordering.{int_eq}
 use Rattle.std.proofs.lemmas.List.{get_or_default, get_or-drop, get_or-map, get_or-take, length-map}
-use Rattle.std.proofs.lemmas.Bool.{and_parts, false_from_ne_true, true≢false}
+use Rattle.std.proofs.lemmas.Bool.{false_from_ne_true, true≢false}
 use Rattle.sql_values.specs.declared.column.ColumnType.{ColumnType}
 use Rattle.sql_values.specs.declared.column.ColumnType.TheVariants.{Integer, Varchar}
 use Rattle.sql_values.specs.declared.value.Value.TheVariants as value
@@ -57,13 +57,15 @@ module _ (texts : List (List ℕ)) (own : RelationTree) (found : ColumnRange) (i
       ∙ meets-part (is_fixed_usable own.columns found.column) own.filter row met in
       ap (λ b. not b && is_in found.range word) (of-null ∙ some) ∙ ap (is_in found.range) of-value ∙ within
 
--- a word of the range is one of them, if the range has none that is less than the least of them
-pub has-within : (found : ColumnRange) (least word : ℤ) → int_le least word ≡ (not (int_eq word null_word) && int_le found.range.from word)
-    → (int_le least word && int_le word found.range.to) ≡ true → has_word found word ≡ true
-has-within found least word is both =
-    let (lower, upper) = and_parts (int_le least word) (int_le word found.range.to) both in
-    let (some, from) = and_parts (not (int_eq word null_word)) (int_le found.range.from word) (sym is ∙ lower) in
-    ap (λ b. b && is_in found.range word) some ∙ ap (λ b. b && int_le word found.range.to) from ∙ upper
+both-first : (a b c : Bool) → (a && (b && c)) ≡ ((a && b) && c)
+both-first true b c = refl
+both-first false b c = refl
+
+-- two tests tell whether a word is one of them, by the least of them and by the end of the range
+pub has-tested : (found : ColumnRange) (least word : ℤ) → int_le least word ≡ (not (int_eq word null_word) && int_le found.range.from word)
+    → has_word found word ≡ (int_le least word && int_le word found.range.to)
+has-tested found least word is =
+    both-first (not (int_eq word null_word)) (int_le found.range.from word) (int_le word found.range.to) ∙ ap (λ b. b && int_le word found.range.to) (sym is)
 
 -- a slot whose row may not meet the filter, by the words that are known, holds a row that doesn't
 pub passed-fails : (texts : List (List ℕ)) (own : RelationTree) (known : Option ColumnRange) (slots from to : ℕ) (page : List ℤ) → IsKnownOf texts own known → ArePageRows texts own.columns slots page
