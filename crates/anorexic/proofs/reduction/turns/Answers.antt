@@ -4,9 +4,11 @@ use Rattle.std.specs.Ordering.{is_gt}
 use Rattle.std.proofs.lemmas.Bool.{eqb-true, eqb-false}
 use Rattle.std.proofs.lemmas.List.{append-nil, length-map, nil_from_length}
 use Rattle.std.proofs.lemmas.List.Elements.{All-nil, All-push, All-filter}
+use Rattle.std.proofs.lemmas.Result.{IfOk-from_err}
 use Rattle.cost_model.specs.Greedy.{greedy_turns}
 use Rattle.anorexic.specs.Frontiers.{plan_at, point_at_place}
 use Rattle.anorexic.specs.Turns.{is_marked, turn_order}
+use Rattle.anorexic.proofs.Table.{row-within}
 use Rattle.anorexic.proofs.Steps.{all-points, places-within, takes-more}
 use Rattle.anorexic.proofs.Turns.{none-left, no-turns}
 use Rattle.anorexic.proofs.reduction.turns.Goals as goal
@@ -48,6 +50,13 @@ first_candidate-candidate-requires-clause-some c =
     let there = c.loop-turn.invariant.1 0 0 (omega (arith, some)) in
     let (number, below, _) = c.requires.each (slice_index_or c.loop-turn.uncovered.items 0 0) there in
     omega (arith, below, length-map c.args.candidates.now (plan_at c.args.frontier.now))
+
+pub close-requires-clause-rows : goal.close-requires-clause-rows
+close-requires-clause-rows c = λ k d below.
+    omega (arith, row-within (slice_index_or c.loop-turn.uncovered.items k d) (length c.args.frontier.now) (length c.args.candidates.now) (c.loop-turn.invariant.1 k d below), c.requires.table)
+
+pub returns-in_err-push : goal.returns-in_err-push
+returns-in_err-push c = IfOk-from_err c.from_residual-in_err-push.result _ c.from_residual-in_err-push.ensures.0
 
 pub loop-turn-preserved : goal.loop-turn-preserved
 loop-turn-preserved c =
