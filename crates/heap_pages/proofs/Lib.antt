@@ -4,3 +4,4 @@ pub mod PageStarts
 pub mod Reciprocal
 pub mod OfRows
 pub mod PlainPages
+mod Refusals

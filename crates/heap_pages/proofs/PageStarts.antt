@@ -13,6 +13,10 @@ page_start rows per_page page there =
     let upto : (page + 1) * per_page ≤ (rows + (per_page - 1)) / per_page * per_page = mul-le-mul_right per_page (omega (arith, there)) in
     omega (arith, upto, div-mul-le_self (rows + (per_page - 1)) per_page)
 
+-- the page of a row begins no later than the row, and ends behind it
+pub page_around : (i per_page number : ℕ) → 1 ≤ per_page → number ≡ i / per_page → (number * per_page ≤ i) × (i < number * per_page + per_page)
+page_around i per_page number some is = rw is (div-mul-le_self i per_page, omega arith)
+
 -- a page that begins before the end of all pages is one of them
 pub page_before : (number count size : ℕ) → number * size < count * size → number < count
 page_before number count size before = lt_of_mul-lt-mul_right size before

@@ -1,8 +1,11 @@
 -- The pages that were taken hold all rows, and the next row belongs on the first page with room.
-use Rattle.std.proofs.Common.{◌≡◌, ◌+◌, ◌-◌, ◌/◌, ◌≤◌, length, ap, ◌∙◌, arith}
+use Rattle.std.proofs.Common.{◌≡◌, ℤ, ◌+◌, ◌-◌, ◌/◌, ◌≤◌, List, ◌++◌, length, sym, ap, subst, ◌∙◌, arith}
 use Rattle.std.proofs.lemmas.List.{length-append}
-use Rattle.heap_pages.specs.Layout.{PagesState}
+use Rattle.heap_pages.specs.Layout.{IsLaidOut, PagesState}
+use Rattle.heap_pages.specs.Rows.{HeapState, Row, cut_rows}
+use Rattle.heap_pages.proofs.CutRows.{cut_rows-append_all, length-cut_rows}
 use Rattle.heap_pages.proofs.PageStarts.{some_rows, words_begun, words_fit, words_held, pages_enough}
+use Rattle.heap_pages.proofs.Refusals.{limit_kept, limit_of_memory, limit_told, unchanged_on}
 use Rattle.heap_pages.proofs.heap.Heap.append_rows.Goals as goal
 
 pub append_all-requires-clause-begun : goal.append_all-requires-clause-begun
@@ -41,4 +44,44 @@ invariant_of-self-2 c =
       few_rows = omega arith;
       words_fill_rows = omega (arith, more, ap (λ (p : PagesState). length p.words) c.in_ok-reach.ensures.made, ap length c.deref.ensures.value, filled, c.self.invariant.words_fill_rows);
       room = rw (ap (λ (p : PagesState). p.count) c.append_all.ensures) (omega (arith, rows_held));
+    }
+
+pub returns-then-n-self-clause-limit : goal.returns-then-n-self-clause-limit
+returns-then-n-self-clause-limit c =
+    let count = ap (λ (heap : HeapState). length heap.rows) (sym c.self.view_is) ∙ length-cut_rows c.self.inside.columns c.self.inside.rows c.self.inside.pages.words in
+    limit_told (length c.args.self.now.rows + c.args.n) (c.self.inside.rows + c.args.n) (omega (arith, count)) (omega (arith, count, c.if-n-self.true))
+
+pub returns-in_err-reach-clause-limit : goal.returns-in_err-reach-clause-limit
+returns-in_err-reach-clause-limit c =
+    let count = ap (λ (heap : HeapState). length heap.rows) (sym c.self.view_is) ∙ length-cut_rows c.self.inside.columns c.self.inside.rows c.self.inside.pages.words in
+    limit_of_memory (length c.args.self.now.rows + c.args.n) c.from_residual.result (omega (arith, count, c.if-n-self.false, c.self.invariant.few_rows)) c.from_residual.ensures.1
+
+pub returns-clause-limit : goal.returns-clause-limit
+returns-clause-limit c =
+    let count = ap (λ (heap : HeapState). length heap.rows) (sym c.self.view_is) ∙ length-cut_rows c.self.inside.columns c.self.inside.rows c.self.inside.pages.words in
+    limit_kept (length c.args.self.now.rows + c.args.n) tt (omega (arith, count, c.if-n-self.false, c.self.invariant.few_rows))
+
+pub pages_for-requires-clause-some : goal.pages_for-requires-clause-some
+pages_for-requires-clause-some c = some_rows _ _ _ _ _ _ c.self.invariant
+
+pub invariant_of-self : goal.invariant_of-self
+invariant_of-self c =
+    subst (λ (pages : PagesState). IsLaidOut c.self.inside.columns c.self.inside.per_page c.self.inside.reciprocal c.self.inside.rows c.self.inside.spare pages) (sym c.in_err-reach.ensures.unchanged) c.self.invariant
+
+pub returns-in_err-reach-clause-appended : goal.returns-in_err-reach-clause-appended
+returns-in_err-reach-clause-appended c =
+    unchanged_on _ _ _ c.from_residual.result c.from_residual.ensures.1
+    (ap (λ (pages : PagesState). record { columns = c.self.inside.columns; rows = cut_rows c.self.inside.columns c.self.inside.rows pages.words; spare = c.self.inside.spare }) c.in_err-reach.ensures.unchanged ∙ c.self.view_is)
+
+pub returns-clause-appended : goal.returns-clause-appended
+returns-clause-appended c =
+    let words : c.append_all.new.self.words ≡ c.self.inside.pages.words ++ c.args.words.items =
+    ap (λ (pages : PagesState). pages.words) c.append_all.ensures ∙ (λ i. (c.in_ok-reach.ensures.made i).words ++ c.deref.ensures.value i) in
+    record {
+      made =
+          ap (λ (ws : List ℤ). record { columns = c.self.inside.columns; rows = cut_rows c.self.inside.columns (c.self.inside.rows + c.args.n) ws; spare = 0 }) words
+          ∙ ap (λ (rows : List Row). record { columns = c.self.inside.columns; rows = rows; spare = 0 })
+          (cut_rows-append_all c.self.inside.columns c.self.inside.rows c.args.n c.self.inside.pages.words c.args.words.items c.self.invariant.words_fill_rows)
+          ∙ ap (λ (heap : HeapState). record { columns = heap.columns; rows = heap.rows ++ cut_rows heap.columns c.args.n c.args.words.items; spare = 0 }) c.self.view_is;
+      unchanged = tt;
     }
