@@ -1,7 +1,7 @@
 -- What holds of all options holds of those that the arguments give.
 use Rattle.std.proofs.Common.{◌≡◌, ℕ, Option, Some, None}
 use Rattle.std.specs.Prelude.{IfSome}
-use Rattle.shell.specs.Words.{Options}
+use Rattle.command_line.specs.Words.{Options}
 
 pub where_asked : {P : Options → Type 0} (given : Option Options) → ((options : Options) → options.demo ≡ None → P options) → IfSome given (λ options. options.demo ≡ None → P options)
 where_asked None holds = tt

@@ -2,9 +2,6 @@ pub mod Asked
 pub mod Beginning
 pub mod Carried
 pub mod Carrying
-pub mod ClapLine
-pub mod ClapWords
-pub mod CutAtEquals
 pub mod Demonstrations
 pub mod Ends
 pub mod Folders
@@ -13,6 +10,3 @@ pub mod Runs
 pub mod Scripts
 pub mod Steps
 pub mod TokensFew
-pub mod WordNumbers
-pub mod WordsGiven
-pub mod WordsRead

@@ -1,5 +1,5 @@
 -- What is due to a script, and what a run of the program did of it.
-use Rattle.std.specs.Prelude.{◌≡◌, ◌≢◌, ◌⊎◌, ℕ, ◌+◌, ◌<◌, ◌≤◌, true, false, List, [], ◌∷◌, ◌++◌, take, length, map, codes, Option, Some, Result, Ok, Err, IfOk, IfErr, if◌then◌else◌}
+use Rattle.std.specs.Prelude.{◌≡◌, ◌≢◌, ◌⊎◌, ℕ, ◌+◌, ◌<◌, ◌≤◌, true, false, List, [], ◌∷◌, ◌++◌, take, length, map, codes, Option, Some, None, IsSomeAnd, Result, Ok, Err, IfOk, IfErr, if◌then◌else◌}
 use Rattle.std.specs.Io.KnownBytes.{Appends, Keeps}
 use Rattle.outside_io.specs.Count.{Rose, raised}
 use Rattle.outside_io.specs.Files.{Files, FolderState, KeepsOthers}
@@ -15,6 +15,7 @@ use Rattle.session.specs.Statements.{AsksForFile, WritesFile}
 use Rattle.session.specs.World.{World}
 use Rattle.session.specs.declared.refusal.Refusal.{Refusal}
 use Rattle.session.specs.declared.refusal.Refusal.TheVariants as refusal
+use Rattle.command_line.specs.Words.{options_of}
 use Rattle.demo_data.specs.Demo.{demo_files, demo_script}
 use Rattle.shell.specs.Script.{Answer, AreAnsweredWithin, AreGiven, ScriptState, Step, answer_of, at_start, files_after, printed_by, script_answer, state_after, step_outcome}
 use Rattle.shell.specs.declared.status.Status.{Status}
@@ -28,6 +29,10 @@ exit_number status.BadWords = 2
 exit_number status.ReadFault = 3
 exit_number status.WriteFault = 4
 exit_number status.NoMemory = 5
+
+-- the words ask for a run of the source's script
+abbrev pub RunsSource : List (List ℕ) → Type 0
+RunsSource words = IsSomeAnd (options_of words) (λ options. options.demo ≡ None)
 
 -- how a script is read: as its statements; or it is refused whole, since it is too long, or by its first fault of
 -- tokens, or by its first piece that is no statement

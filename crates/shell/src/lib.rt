@@ -12,7 +12,6 @@ mod script;
 mod sink;
 mod source;
 mod status;
-mod words;
 
 pub use program::{one_answer_is_due, serve};
 pub use status::Status;

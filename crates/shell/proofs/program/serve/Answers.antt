@@ -1,6 +1,6 @@
 -- There was no memory to read the arguments, so nothing was done; a demonstration takes nothing from the source.
 use Rattle.std.proofs.Common.{inr, refl}
-use Rattle.shell.specs.Words.{options_of, word_texts}
+use Rattle.command_line.specs.Words.{options_of, word_texts}
 use Rattle.shell.specs.declared.status.Status.TheVariants as status
 use Rattle.shell.proofs.Asked.{where_asked, where_shown}
 use Rattle.shell.proofs.Demonstrations.{demonstrates_nothing}

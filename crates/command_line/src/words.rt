@@ -7,10 +7,10 @@ ghost use Rattle.std.specs.Str.{bytes_eq};
 ghost use Rattle.std.specs.Option.{option_to_list};
 ghost use Rattle.std.specs.String.{string_bytes};
 ghost use Rattle.clap.specs.Words.{first_value, found_of, kind_of};
-ghost use Rattle.shell.specs.Words as spec;
+ghost use Rattle.command_line.specs.Words as spec;
 ghost use Rattle.demo_data.specs.Demo.{greatest_demo};
-ghost use Rattle.shell.specs.Limits.{max_work};
-ghost use Rattle.shell.specs.Words.{options_of, options_of_numbers, options_value, word_texts};
+ghost use Rattle.command_line.specs.Limits.{max_work};
+ghost use Rattle.command_line.specs.Words.{options_of, options_of_numbers, options_value, word_texts};
 
 use clap::error::ErrorKind;
 use clap::{Arg, ArgAction, ArgMatches, Command, Error};
@@ -22,16 +22,16 @@ const MAX_WORK: u64 = 4611686018427387904;
 
 /// What a command line asks for.
 #[derive(Clone, Copy)]
-pub(crate) struct Options {
+pub struct Options {
     /// The most units of work of a query or an audit, from 0 to 2^62.
-    pub(crate) max_work: u64,
+    pub max_work: u64,
     /// The number of the demonstration, from 1 to 2000, where it is to be shown.
-    pub(crate) demo: Option<u32>,
+    pub demo: Option<u32>,
 }
 
 /// Why the arguments give no options.
 #[derive(Clone, Copy)]
-pub(crate) enum WordsFault {
+pub enum WordsFault {
     /// They are no command line.
     BadWords,
     /// Out of memory.
@@ -39,7 +39,7 @@ pub(crate) enum WordsFault {
 }
 
 impl From<AllocError> for WordsFault {
-    ghost use Rattle.shell.specs.declared.words.WordsFault.TheVariants.{NoMemory};
+    ghost use Rattle.command_line.specs.declared.words.WordsFault.TheVariants.{NoMemory};
 
     ghost from_gives = { λ _ fault. fault ≡ NoMemory };
 
@@ -138,7 +138,7 @@ fn matched<'a>(alloc: Global, words: &'a [String]) -> Result<ArgMatches<'a>, Wor
 }
 
 /// The options that the words give.
-pub(crate) fn read_words(alloc: Global, words: &[String]) -> Result<Options, WordsFault>
+pub fn read_words(alloc: Global, words: &[String]) -> Result<Options, WordsFault>
     ensures read { IfOk result (λ options.
         options_of (word_texts words.now) ≡ Some (options_value options)) }
     ensures refused { IsErrOf result WordsFault.BadWords →

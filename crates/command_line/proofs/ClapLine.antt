@@ -9,7 +9,7 @@ use Rattle.clap.specs.declared.builder.ArgAction.TheVariants.{Set}
 use Rattle.clap.specs.declared.builder.arg.Arg.{Arg}
 use Rattle.clap.specs.declared.builder.command.Command.{Command}
 use Rattle.clap.specs.declared.builder.command.Command.TheViews.{out-Command}
-use Rattle.shell.specs.Words.{max_work_name, demo_name}
+use Rattle.command_line.specs.Words.{max_work_name, demo_name}
 
 -- ---- the command, with a rule for each option: true stands for `--max-work`, false for `--demo`
 

@@ -1,13 +1,13 @@
 -- The arguments of the command line.
 use Rattle.std.specs.Prelude.{◌≡◌, ℕ, ◌==◌, ◌&&◌, ◌||◌, Bool, nat_le, List, [], ◌∷◌, length, map, filter, codes, String, string_bytes}
-use Rattle.std.specs.Prelude.{Option, Some, None, IsSomeAnd, option_map, option_and_then, unwrap_or, if◌then◌else◌}
+use Rattle.std.specs.Prelude.{Option, Some, None, option_map, option_and_then, unwrap_or, if◌then◌else◌}
 use Rattle.std.specs.List.{list_all, list_any, before_first, after_first}
 use Rattle.std.specs.Str.{bytes_eq}
 use Rattle.std.specs.Str.Parse.{digits_value}
 use Rattle.std.specs.declared.alloc.Global.{Global}
 use Rattle.demo_data.specs.Demo.{greatest_demo}
-use Rattle.shell.specs.declared.words.Options.{Options as OptionsRead}
-use Rattle.shell.specs.Limits.{max_work}
+use Rattle.command_line.specs.declared.words.Options.{Options as OptionsRead}
+use Rattle.command_line.specs.Limits.{max_work}
 
 -- what a command line asks for: the most work of a query, and the number of the demonstration, where it is to be shown
 pub record Options : Type 0 where
@@ -91,10 +91,6 @@ options_of words = option_and_then options_of_uses (uses_of_words words)
 -- the bytes of the words
 abbrev pub word_texts : List (String Global) → List (List ℕ)
 word_texts words = map string_bytes words
-
--- the words ask for a run of the source's script
-abbrev pub RunsSource : List (List ℕ) → Type 0
-RunsSource words = IsSomeAnd (options_of words) (λ options. options.demo ≡ None)
 
 -- what was read of them
 abbrev pub options_value : OptionsRead → Options

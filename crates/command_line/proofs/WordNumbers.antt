@@ -9,7 +9,7 @@ use Rattle.std.proofs.lemmas.Bool.{leb-true}
 use Rattle.std.proofs.lemmas.Bool.Decides.{nat_tests}
 use Rattle.std.proofs.lemmas.Int.Digits.{digits_value-lt}
 use Rattle.clap.proofs.WalkLemmas.{both}
-use Rattle.shell.specs.Words.{is_digit, is_number}
+use Rattle.command_line.specs.Words.{is_digit, is_number}
 
 digit_below : (byte : ℕ) → is_digit byte ≡ true → digit_value byte < 10
 digit_below byte e = grind (arith, nat_tests)

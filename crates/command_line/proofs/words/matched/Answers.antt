@@ -4,10 +4,10 @@ use Rattle.std.specs.Option.{option_to_list}
 use Rattle.std.specs.Str.{bytes_eq}
 use Rattle.clap.specs.Words.{HasKind, fault_of, found_of, is_simple, is_simple_and_free, matches_of}
 use Rattle.clap.proofs.WalkLemmas.{first_value-rows, list_any-map}
-use Rattle.shell.specs.Words.{options_of_numbers}
-use Rattle.shell.proofs.ClapLine.{hyphens, is_line}
-use Rattle.shell.proofs.WordsGiven.{of_rows, takes_line, refuses_line}
-use Rattle.shell.proofs.words.matched.Goals as goal
+use Rattle.command_line.specs.Words.{options_of_numbers}
+use Rattle.command_line.proofs.ClapLine.{hyphens, is_line}
+use Rattle.command_line.proofs.WordsGiven.{of_rows, takes_line, refuses_line}
+use Rattle.command_line.proofs.words.matched.Goals as goal
 
 pub returns-then-has_hyphens-clause-refused : goal.returns-then-has_hyphens-clause-refused
 returns-then-has_hyphens-clause-refused c _ =

@@ -13,9 +13,9 @@ use Rattle.clap.specs.Walk.{Outcome, Waiting, after_flag, after_step, bundle, id
 use Rattle.clap.proofs.WalkLemmas.{bundle_ends}
 use Rattle.clap.proofs.FaultLemmas.{fault_ends}
 use Rattle.clap.specs.declared.error.kind.ErrorKind.TheVariants.{TooManyValues, UnknownArgument}
-use Rattle.shell.specs.Words.{Use, is_equals, is_option_name, joined_use}
-use Rattle.shell.proofs.ClapLine.{Fails, Pending, at, held, hyphens, id, name, next_walk, none-or_else, or_else-none, settles, top, turn, unwaited, waiting}
-use Rattle.shell.proofs.CutAtEquals.{no_equals, behind_hyphens}
+use Rattle.command_line.specs.Words.{Use, is_equals, is_option_name, joined_use}
+use Rattle.command_line.proofs.ClapLine.{Fails, Pending, at, held, hyphens, id, name, next_walk, none-or_else, or_else-none, settles, top, turn, unwaited, waiting}
+use Rattle.command_line.proofs.CutAtEquals.{no_equals, behind_hyphens}
 
 -- ---- the name of an option, and one joined to its number
 

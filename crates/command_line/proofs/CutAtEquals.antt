@@ -2,7 +2,7 @@
 use Rattle.std.proofs.Common.{◌≡◌, ◌∙◌, ◌||◌, ℕ, suc, ◌+◌, Bool, cond, true, false, true≢false, not, List, [], ◌∷◌, ◌++◌, take, drop, refl, sym, ap, ap₂, arith}
 use Rattle.std.specs.List.{list_any, before_first, after_first, position_or_len}
 use Rattle.std.proofs.lemmas.Bool.Decides.{nat_tests}
-use Rattle.shell.specs.Words.{is_equals}
+use Rattle.command_line.specs.Words.{is_equals}
 
 more : (n : ℕ) → 1 + n ≡ suc n
 more n = omega arith

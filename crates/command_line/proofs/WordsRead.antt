@@ -7,10 +7,10 @@ use Rattle.clap.specs.Words.{Row, Text, Kinds}
 use Rattle.clap.specs.Kinds.{or_else}
 use Rattle.clap.specs.Walk.{Walk, settled, settled_rows}
 use Rattle.clap.specs.Faults.{walk_fault, settle_fault}
-use Rattle.shell.specs.Words.{Use, is_equals, is_option_name, joined_use, demo_name, max_work_name, uses_of_words}
-use Rattle.shell.proofs.ClapLine.{Fails, Pending, at, hyphens, id, name, next_walk, none-or_else, or_else-none, settles, top, turn, unwaited, waiting}
-use Rattle.shell.proofs.CutAtEquals.{cut_at_equals}
-use Rattle.shell.proofs.ClapWords.{IsPlain, after_joined, after_name, at_joined, at_name, neither, number_word, plain_number, refused_word}
+use Rattle.command_line.specs.Words.{Use, is_equals, is_option_name, joined_use, demo_name, max_work_name, uses_of_words}
+use Rattle.command_line.proofs.ClapLine.{Fails, Pending, at, hyphens, id, name, next_walk, none-or_else, or_else-none, settles, top, turn, unwaited, waiting}
+use Rattle.command_line.proofs.CutAtEquals.{cut_at_equals}
+use Rattle.command_line.proofs.ClapWords.{IsPlain, after_joined, after_name, at_joined, at_name, neither, number_word, plain_number, refused_word}
 
 -- a use of an option: which one, and the text of its number
 pub data Pick : Type 0 where

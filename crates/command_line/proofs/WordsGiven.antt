@@ -6,7 +6,7 @@ use Rattle.std.specs.List.{list_all}
 use Rattle.std.specs.Str.Parse.{digits_value}
 use Rattle.clap.specs.declared.error.kind.ErrorKind.{ErrorKind}
 use Rattle.demo_data.specs.Demo.{greatest_demo}
-use Rattle.shell.specs.Limits.{max_work}
+use Rattle.command_line.specs.Limits.{max_work}
 use Rattle.std.proofs.lemmas.Bool.Decides.{nat_tests}
 use Rattle.clap.specs.Words.{Row, Text, Kinds, fault_of, first_of, matches_of}
 use Rattle.clap.specs.Kinds.{or_else}
@@ -15,10 +15,10 @@ use Rattle.clap.specs.Simple.{built}
 use Rattle.clap.specs.Faults.{check_fault, default_fault, defaults_fault, given_default_fault, settle_fault, walk_fault}
 use Rattle.clap.proofs.FaultLemmas.{leaf_fault}
 use Rattle.clap.proofs.WalkLemmas.{both}
-use Rattle.shell.specs.Words.{Options, at_most_one_within, is_digit, is_number, number_within, options_of, options_of_numbers, options_of_uses, max_work_name, demo_name, numbers_given}
-use Rattle.shell.proofs.ClapLine.{at, line_app, or_else-none, rule, top}
-use Rattle.shell.proofs.ClapWords.{IsPlain, plain_first}
-use Rattle.shell.proofs.WordsRead.{Fits, Meaning, Pick, Reads, end_of, faults, has_hyphens, meaning, no_uses, pick, rows_at_end, use_of, uses}
+use Rattle.command_line.specs.Words.{Options, at_most_one_within, is_digit, is_number, number_within, options_of, options_of_numbers, options_of_uses, max_work_name, demo_name, numbers_given}
+use Rattle.command_line.proofs.ClapLine.{at, line_app, or_else-none, rule, top}
+use Rattle.command_line.proofs.ClapWords.{IsPlain, plain_first}
+use Rattle.command_line.proofs.WordsRead.{Fits, Meaning, Pick, Reads, end_of, faults, has_hyphens, meaning, no_uses, pick, rows_at_end, use_of, uses}
 
 -- ---- the end of the parse: no option has a default, and none is required
 
