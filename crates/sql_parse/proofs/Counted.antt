@@ -5,7 +5,7 @@ use Rattle.std.proofs.lemmas.List.Elements.{filter_map-append}
 use Rattle.sql_parse.specs.Lexemes.{Lexeme}
 use Rattle.sql_parse.specs.Trees.{ConditionTree, ConditionTrees, Compare, Between, OneOf, IsNull, Not, And, Or, NoMore, More, StatementTree}
 use Rattle.sql_parse.specs.Parameters.{parameter_of, parameters_in, parameters_in_all, parameters_of_condition}
-use Rattle.sql_parse.specs.Counts.{predicates_in, predicates_in_all, operands_in, operands_in_all, of_condition, condition_of, operands_of, IsWithinTokens, HasUpTo}
+use Rattle.sql_parse.specs.Counts.{predicates_in, predicates_in_all, operands_in, operands_in_all, of_condition, condition_of, HasUpTo}
 use Rattle.sql_parse.specs.Statements.{IsStatement}
 use Rattle.sql_parse.proofs.Numbers.{numbers_in}
 use Rattle.sql_parse.proofs.Operands.{terms_in, terms_in_all, terms_of_condition}
@@ -68,7 +68,8 @@ condition-parameters : (condition : Option ConditionTree) → filter_map paramet
 condition-parameters None = refl
 condition-parameters (Some tree) = parameters-terms tree
 
-pub statement-counted : IsWithinTokens operands_of IsStatement
+pub statement-counted : (tokens : List Lexeme) (statement : StatementTree) → IsStatement tokens statement
+    → of_condition operands_in (condition_of statement) ≤ length tokens
 statement-counted tokens statement form =
     omega (arith, condition-operands (condition_of statement), (statement-held tokens statement form).few)
 

@@ -8,7 +8,7 @@ use Rattle.sql_parse.specs.declared.mark.Mark.{Mark}
 use Rattle.sql_parse.specs.declared.mark.Mark.TheVariants as m
 use Rattle.sql_parse.specs.Lexemes.{Lexeme, Word, Number, Text, Sign, Parameter, mark, is_reserved}
 use Rattle.sql_parse.specs.Trees.{StatementTree}
-use Rattle.sql_parse.specs.Grammar.{Rule, IsName, Separated, InParentheses, IsColRef, IsInteger, IsLiteral, IsTerm}
+use Rattle.sql_parse.specs.Grammar.{Rule, IsNameToken, Separated, InParentheses, IsColRef, IsInteger, IsLiteral, IsTerm}
 use Rattle.sql_parse.specs.Reading.{Reader, ◌>>=◌, choose, same, after_mark, after_word, name_at, number_at, text_token_at, more_at, list_with_first, list_at, in_parentheses_at, colref_at, unsigned_at, integer_at, parameter_at, token_kind_at, literal_of_kind, literal_at, operand_of_kind, operand_at}
 use Rattle.sql_parse.specs.Statements.{IsStatement}
 
@@ -91,10 +91,6 @@ pub either_word : {B : Type 0} (word : List ℕ) (tokens : List Lexeme) (P : B �
     → ((rest : List Lexeme) → tokens ≡ Word word ∷ rest → IfFound P (f rest)) → IfFound P (choose (after_word word tokens) otherwise f)
 either_word word tokens P otherwise f none next =
     either_found (λ rest. tokens ≡ Word word ∷ rest) P (after_word word tokens) otherwise f (after_word-reads word tokens) none next
-
--- a word that is a name
-abbrev pub IsNameToken : Rule (List ℕ)
-IsNameToken tokens name = (tokens ≡ Word name ∷ []) × IsName name
 
 name_each : (tokens : List Lexeme) → IfFound (IsRead IsNameToken tokens) (name_at tokens)
 unfolding name_at

@@ -3,9 +3,9 @@ use Rattle.std.proofs.Common.{inl, inr, [], ◌∷◌, ◌++◌, refl, ap, ◌�
 use Rattle.sql_parse.specs.declared.mark.Mark.TheVariants as m
 use Rattle.sql_parse.specs.Limits.{nesting_limit}
 use Rattle.sql_parse.specs.Lexemes.{mark}
-use Rattle.sql_parse.specs.Grammar.{IsItem, IsSelection, IsWhere, IsSelect}
+use Rattle.sql_parse.specs.Grammar.{IsNameToken, IsItem, IsSelection, IsWhere, IsSelect}
 use Rattle.sql_parse.specs.Reading.{name_at, item_at, selection_at, where_at, select_at}
-use Rattle.sql_parse.proofs.Read.{IsRead, Reads, then_read, either_found, also, then_after, either_after, IsNameToken, name-reads, colref-reads, list-reads}
+use Rattle.sql_parse.proofs.Read.{IsRead, Reads, then_read, either_found, also, then_after, either_after, name-reads, colref-reads, list-reads}
 use Rattle.sql_parse.proofs.ReadConditions.{condition-reads}
 
 item-reads : Reads IsItem item_at

@@ -1,5 +1,5 @@
 -- The statements of pieces, one after another.
-use Rattle.std.proofs.Common.{◌≡◌, ℕ, zero, suc, ◌+◌, ◌<◌, List, [], ◌∷◌, ◌++◌, length, take, drop, get_or, Option, Some, None, Result, Ok, Err, refl, sym, ap, subst, ◌∙◌, append_assoc, arith}
+use Rattle.std.proofs.Common.{◌≡◌, ℕ, zero, suc, ◌+◌, ◌<◌, List, [], ◌∷◌, ◌++◌, length, take, drop, get_or, Option, Some, None, Result, Ok, Err, option_map, refl, sym, ap, subst, ◌∙◌, append_assoc, arith}
 use Rattle.std.specs.List.{All}
 use Rattle.std.proofs.lemmas.List.{drop-drop}
 use Rattle.sql_lex.specs.declared.token.Token.{Token}
@@ -8,7 +8,6 @@ use Rattle.sql_lex.proofs.Lexings.{each_read}
 use Rattle.sql_parse.specs.Lexemes.{Lexeme, lexemes}
 use Rattle.sql_parse.specs.Trees.{StatementTree}
 use Rattle.sql_parse.specs.Script.{split, not_empty, pieces, AreStatementsOf, AreStatements, IsFirstRefused, IsParsing, split_after}
-use Rattle.sql_parse.specs.Reading.{with_statement}
 use Rattle.sql_parse.proofs.Read.{found_is}
 use Rattle.sql_parse.specs.Statements.{IsStatement, statement_of}
 use Rattle.sql_parse.proofs.Statements.{statement_of-reads, statement_of-again, statements-same}
@@ -96,12 +95,12 @@ first_refused script tokens rest end trees other some there is none so_far =
     )
 
 -- what an added statement is
-pub added : (trees new : List StatementTree) (found : Option StatementTree) → with_statement trees found ≡ Some new
+pub added : (trees new : List StatementTree) (found : Option StatementTree) → option_map (λ tree. trees ++ tree ∷ []) found ≡ Some new
     → (tree : StatementTree) × (found ≡ Some tree) × (trees ++ tree ∷ [] ≡ new)
 added trees new None is = absurd cc
 added trees new (Some tree) is = (tree, refl, cc)
 
-pub not_added : (trees : List StatementTree) (found : Option StatementTree) → with_statement trees found ≡ None → found ≡ None
+pub not_added : (trees : List StatementTree) (found : Option StatementTree) → option_map (λ tree. trees ++ tree ∷ []) found ≡ None → found ≡ None
 not_added trees None is = refl
 not_added trees (Some tree) is = absurd cc
 

@@ -2,8 +2,6 @@
 use Rattle.std.specs.Prelude.{ℕ, ◌+◌, ◌≤◌, length, List, Option, Some, None}
 use Rattle.std.specs.List.{All}
 use Rattle.sql_parse.specs.declared.statement.Statement.{Statement}
-use Rattle.sql_parse.specs.Lexemes.{Lexeme}
-use Rattle.sql_parse.specs.Grammar.{Rule}
 use Rattle.sql_parse.specs.Parameters.{parameters_of_condition}
 use Rattle.sql_parse.specs.Trees.{ConditionTree, ConditionTrees, Compare, Between, OneOf, IsNull, Not, And, Or, NoMore, More, StatementTree, Select, Compile, OpenFile, statement_tree}
 
@@ -48,23 +46,10 @@ abbrev pub of_condition : (ConditionTree → ℕ) → Option ConditionTree → �
 of_condition count None = 0
 of_condition count (Some tree) = count tree
 
-abbrev pub predicates_of : StatementTree → ℕ
-predicates_of statement = of_condition predicates_in (condition_of statement)
-
-abbrev pub operands_of : StatementTree → ℕ
-operands_of statement = of_condition operands_in (condition_of statement)
-
-abbrev pub parameter_count : StatementTree → ℕ
-parameter_count statement = length (parameters_of_condition (condition_of statement))
-
--- a rule whose values count no more than their tokens
-abbrev pub IsWithinTokens : {A : Type 0} → (A → ℕ) → Rule A → Type 0
-IsWithinTokens {A} count IsForm = (tokens : List Lexeme) (x : A) → IsForm tokens x → count x ≤ length tokens
-
 -- a statement has at most so many predicates, and at most so many parameters
 pub record HasUpTo (most : ℕ) (statement : StatementTree) : Type 0 where
-  pub predicates : predicates_of statement ≤ most
-  pub parameters : parameter_count statement ≤ most
+  pub predicates : of_condition predicates_in (condition_of statement) ≤ most
+  pub parameters : length (parameters_of_condition (condition_of statement)) ≤ most
 
 -- each of the statements does
 abbrev pub HaveUpTo : (most : ℕ) → List Statement → Type 0

@@ -21,6 +21,14 @@ Rule A = List Lexeme → A → Type 0
 abbrev pub IsName : List ℕ → Type 0
 IsName word = IsFalse (is_reserved word)
 
+-- a name alone
+abbrev pub IsNameToken : Rule (List ℕ)
+IsNameToken tokens name = (tokens ≡ Word name ∷ []) × IsName name
+
+-- a token, and what is written after it
+abbrev pub After : {A : Type 0} → Lexeme → Rule A → Rule A
+After token IsForm tokens x = (rest : List Lexeme) × (tokens ≡ token ∷ rest) × IsForm rest x
+
 -- the keywords, where they are written
 abbrev pub written_if : Bool → List Mark → List Lexeme
 written_if false marks = []
@@ -41,7 +49,7 @@ InParentheses IsInside tokens x =
 
 -- [ name "." ] name
 abbrev pub IsColumnName : (alias : Option (List ℕ)) → Rule (List ℕ)
-IsColumnName None tokens column = (tokens ≡ Word column ∷ []) × IsName column
+IsColumnName None tokens column = IsNameToken tokens column
 IsColumnName (Some alias) tokens column =
     (tokens ≡ Word alias ∷ mark m.Dot ∷ Word column ∷ []) × IsName alias × IsName column
 
@@ -142,7 +150,7 @@ IsSelection tokens (Some columns) = Separated m.Comma IsColRef tokens columns
 -- [ WHERE cond ]
 abbrev pub IsWhere : Rule (Option ConditionTree)
 IsWhere tokens None = tokens ≡ []
-IsWhere tokens (Some tree) = (rest : List Lexeme) × (tokens ≡ mark m.Where ∷ rest) × IsCondition rest tree
+IsWhere tokens (Some tree) = After (mark m.Where) IsCondition tokens tree
 
 -- select = SELECT ( "*" | colref { "," colref } ) FROM item { "," item } [ WHERE cond ]
 abbrev pub IsSelect : Rule QueryTree

@@ -85,13 +85,10 @@ mark marks.Comma = Sign (codes ",")
 mark marks.Minus = Sign (codes "-")
 mark marks.Dot = Sign (codes ".")
 
--- the words that can't be names
-abbrev pub reserved_words : List (List ℕ)
-reserved_words =
+-- whether the word, in upper case, is one that can't be a name
+abbrev pub is_reserved : List ℕ → Bool
+is_reserved word =
+    list_any (bytes_eq word) (
     codes "AND" ∷ codes "AS" ∷ codes "BETWEEN" ∷ codes "CREATE" ∷ codes "FROM" ∷ codes "IN" ∷ codes "INT"
     ∷ codes "INTEGER" ∷ codes "INTO" ∷ codes "IS" ∷ codes "NOT" ∷ codes "NULL" ∷ codes "ON" ∷ codes "OR"
-    ∷ codes "SELECT" ∷ codes "TABLE" ∷ codes "TO" ∷ codes "USING" ∷ codes "VARCHAR" ∷ codes "WHERE" ∷ []
-
--- whether the word, in upper case, is one of them
-abbrev pub is_reserved : List ℕ → Bool
-is_reserved word = list_any (bytes_eq word) reserved_words
+    ∷ codes "SELECT" ∷ codes "TABLE" ∷ codes "TO" ∷ codes "USING" ∷ codes "VARCHAR" ∷ codes "WHERE" ∷ [])

@@ -1,7 +1,6 @@
 -- What each private function of the reader returns: the value at the front of the tokens and the tokens after it, or
 -- none. No public clause cites this file; the proofs tie it to the grammar in both directions.
-use Rattle.std.specs.Prelude.{ℕ, zero, suc, ◌+◌, ◌≡◌, Bool, true, false, List, [], ◌∷◌, ◌++◌, length, map, Vec, Option, Some, None, option_and_then, Result, Ok, Err, ℤ, pos, neg_ℤ, bytes_eq, if◌then◌else◌}
-use Rattle.std.specs.declared.alloc.Global.{Global}
+use Rattle.std.specs.Prelude.{ℕ, zero, suc, ◌≡◌, Bool, true, false, List, [], ◌∷◌, length, Option, Some, None, option_and_then, Result, Ok, Err, ℤ, pos, neg_ℤ, bytes_eq, if◌then◌else◌}
 use Rattle.sql_lex.specs.declared.token.TokenKind.{TokenKind}
 use Rattle.sql_lex.specs.declared.token.TokenKind.TheVariants as kinds
 use Rattle.sql_values.specs.declared.op.Op.{Op}
@@ -20,7 +19,7 @@ use Rattle.sql_parse.specs.declared.statement.Statement.{Statement}
 use Rattle.sql_parse.specs.declared.condition.Connective.{Connective}
 use Rattle.sql_parse.specs.declared.condition.Connective.TheVariants as connectives
 use Rattle.sql_parse.specs.Limits.{nesting_limit}
-use Rattle.sql_parse.specs.Lexemes.{Lexeme, Word, Number, Text, Sign, Comparison, Parameter, is_question_mark, mark, is_reserved}
+use Rattle.sql_parse.specs.Lexemes.{Lexeme, Word, Number, Text, Sign, Comparison, Parameter, mark, is_reserved}
 use Rattle.sql_parse.specs.Trees.{condition_tree, statement_tree, ConditionTree, Compare, Between, OneOf, IsNull, Not, And, Or, operands, QueryTree, StatementTree}
 
 -- What a function returned, seen by view, is what reading gives, unless memory ran out.
@@ -39,9 +38,6 @@ GivesValue = Gives (λ x. x)
 abbrev pub GivesCondition : Result (Cond × List Lexeme) ReadFault → Option (ConditionTree × List Lexeme) → Type 0
 GivesCondition = Gives (λ found. (condition_tree found.0, found.1))
 
-abbrev pub GivesConditions : Result (Vec Cond Global × List Lexeme) ReadFault → Option (List ConditionTree × List Lexeme) → Type 0
-GivesConditions = Gives (λ found. (map condition_tree found.0.items, found.1))
-
 abbrev pub GivesStatement : Result (Statement × List Lexeme) ReadFault → Option (StatementTree × List Lexeme) → Type 0
 GivesStatement = Gives (λ found. (statement_tree found.0, found.1))
 
@@ -57,14 +53,6 @@ o >>= f = option_and_then f o
 abbrev pub choose : {A B : Type 0} → Option A → B → (A → B) → B
 choose None otherwise then_it = otherwise
 choose (Some x) otherwise then_it = then_it x
-
--- a token of a statement, with its number if it is a `?`
-abbrev pub with_number : (number : ℕ) → Lexeme → Lexeme
-with_number number token = if is_question_mark token then Parameter number else token
-
--- the number of the next `?` after it
-abbrev pub next_number : (number : ℕ) → Lexeme → ℕ
-next_number number token = if is_question_mark token then number + 1 else number
 
 -- whether both are the same word or the same sign
 abbrev pub same : Lexeme → Lexeme → Bool
@@ -257,13 +245,10 @@ factor_at group tokens =
       inner ← plain_factor_at group rest
       Some (Not inner.0, inner.1))
 
--- a part of a chain, the parts of one whose first is read, and a chain
+-- a part of a chain, and a chain
 abbrev pub part_at : Connective → (group : Reader ConditionTree) → Reader ConditionTree
 part_at connectives.And group = factor_at group
 part_at connectives.Or group = chain_at connectives.And (factor_at group)
-
-abbrev pub parts_at : Connective → (group : Reader ConditionTree) → (first : ConditionTree) → Reader (List ConditionTree)
-parts_at connective group first = list_with_first first (part_at connective group) (separator_of connective)
 
 abbrev pub level_at : Connective → (group : Reader ConditionTree) → Reader ConditionTree
 level_at connective group = chain_at connective (part_at connective group)
@@ -305,7 +290,3 @@ select_at tokens = do
   from ← list_at item_at m.Comma later
   condition ← where_at from.1
   Some (record { columns = columns.0; from = from.0; condition = condition.0 }, condition.1)
-
--- statements, and one more
-abbrev pub with_statement : List StatementTree → Option StatementTree → Option (List StatementTree)
-with_statement trees found = found >>= λ tree. Some (trees ++ tree ∷ [])

@@ -68,7 +68,3 @@ IsCause script tokens NoMemory = Unit {0}
 -- the text of one statement: its tokens are written for the statement
 abbrev pub SpellsStatement : List ℕ → StatementTree → Type 0
 SpellsStatement text tree = (tokens : List Token) × Tokens text tokens × IsStatement (lexemes text tokens) tree
-
--- a statement that some text spells
-abbrev pub IsSpelled : StatementTree → Type 0
-IsSpelled tree = (text : List ℕ) × SpellsStatement text tree

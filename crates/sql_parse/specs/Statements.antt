@@ -1,39 +1,33 @@
 -- The statements of the language. Each has a production, in a file of its name: which tokens are written for it, how it
--- is read, and how it is printed. Here they are put together.
+-- is read, and how it is printed. Here they are put together, with the statements that are a word and a name, or a word
+-- and a bouquet with its values.
 pub mod Audit
 pub mod BouquetUse
-pub mod Check
 pub mod Compile
 pub mod CreateIndex
 pub mod CreateTable
-pub mod Explain
-pub mod Learn
 pub mod Load
 pub mod Numbers
 pub mod OpenFile
-pub mod Run
 pub mod SaveFile
 pub mod Turns
 pub mod Using
 use Rattle.std.specs.Prelude.{codes, ℕ, List, [], ◌∷◌, length, Option, Some, None, if◌then◌else◌, ◌==◌}
 use Rattle.sql_parse.specs.declared.mark.Mark.{Mark}
 use Rattle.sql_parse.specs.declared.mark.Mark.TheVariants as m
-use Rattle.sql_parse.specs.Lexemes.{Lexeme}
+use Rattle.sql_parse.specs.Lexemes.{Lexeme, Word}
 use Rattle.sql_parse.specs.Trees as tree
 use Rattle.sql_parse.specs.Trees.{StatementTree}
-use Rattle.sql_parse.specs.Grammar.{Rule, IsSelect}
-use Rattle.sql_parse.specs.Reading.{after_word, Reader, ◌>>=◌, choose, after_mark, select_at}
-use Rattle.sql_parse.specs.Canonical.{Part, query_parts, parts_text}
+use Rattle.sql_parse.specs.Grammar.{Rule, IsNameToken, After, IsSelect}
+use Rattle.sql_parse.specs.Reading.{after_word, Reader, ◌>>=◌, choose, after_mark, name_at, select_at}
+use Rattle.sql_parse.specs.Canonical.{Part, Keyword, Name, query_parts, parts_text}
 use Rattle.sql_parse.specs.Statements.Audit.{IsAudit, audit_at, audit_parts}
-use Rattle.sql_parse.specs.Statements.Check.{IsCheck, check_at, check_parts}
+use Rattle.sql_parse.specs.Statements.BouquetUse.{IsBouquetUse, bouquet_use_at, bouquet_use_parts}
 use Rattle.sql_parse.specs.Statements.Compile.{IsCompile, compile_at, compile_parts}
 use Rattle.sql_parse.specs.Statements.CreateIndex.{IsCreateIndex, create_index_at, create_index_parts}
 use Rattle.sql_parse.specs.Statements.CreateTable.{IsCreateTable, create_table_at, create_table_parts}
-use Rattle.sql_parse.specs.Statements.Explain.{IsExplain, explain_at, explain_parts}
-use Rattle.sql_parse.specs.Statements.Learn.{IsLearn, learn_at, learn_parts}
 use Rattle.sql_parse.specs.Statements.Load.{IsLoad, load_at, load_parts}
 use Rattle.sql_parse.specs.Statements.OpenFile.{IsOpenFile, open_file_at, open_file_parts}
-use Rattle.sql_parse.specs.Statements.Run.{IsRunStatement, run_at, run_parts}
 use Rattle.sql_parse.specs.Statements.SaveFile.{IsSaveFile, save_file_at, save_file_parts}
 use Rattle.sql_parse.specs.Statements.Turns.{IsTurns, turns_at, turns_parts}
 
@@ -44,13 +38,13 @@ IsStatement tokens (tree.CreateIndex index) = IsCreateIndex tokens index
 IsStatement tokens (tree.Load load) = IsLoad tokens load
 IsStatement tokens (tree.Select query) = IsSelect tokens query
 IsStatement tokens (tree.Compile name levels threshold query) = IsCompile name levels threshold tokens query
-IsStatement tokens (tree.Run run) = IsRunStatement tokens run
-IsStatement tokens (tree.Explain name) = IsExplain tokens name
+IsStatement tokens (tree.Run run) = After (Word (codes "RUN")) IsBouquetUse tokens run
+IsStatement tokens (tree.Explain name) = After (Word (codes "EXPLAIN")) IsNameToken tokens name
 IsStatement tokens (tree.SaveFile save) = IsSaveFile tokens save
 IsStatement tokens (tree.OpenFile name file query) = IsOpenFile name file tokens query
 IsStatement tokens (tree.Audit audit) = IsAudit tokens audit
-IsStatement tokens (tree.Check name) = IsCheck tokens name
-IsStatement tokens (tree.Learn run) = IsLearn tokens run
+IsStatement tokens (tree.Check name) = After (Word (codes "CHECK")) IsNameToken tokens name
+IsStatement tokens (tree.Learn run) = After (Word (codes "LEARN")) IsBouquetUse tokens run
 IsStatement tokens (tree.Turns turns) = IsTurns tokens turns
 
 unfoldable pub create_at : Reader StatementTree
@@ -61,27 +55,31 @@ create_at tokens =
       create_index_at rest)
     create_table_at
 
+-- the statement that is made of what is found
+abbrev pub as_statement : {A : Type 0} → (A → StatementTree) → Reader A → Reader StatementTree
+as_statement make read tokens = do
+  found ← read tokens
+  Some (make found.0, found.1)
+
 -- the statements that begin with a keyword, each with how it is read after that
 abbrev pub productions : List (List ℕ × Reader StatementTree)
 productions =
     (codes "CREATE", create_at)
     ∷ (codes "LOAD", load_at)
     ∷ (codes "COMPILE", compile_at)
-    ∷ (codes "RUN", run_at)
-    ∷ (codes "EXPLAIN", explain_at)
+    ∷ (codes "RUN", as_statement tree.Run bouquet_use_at)
+    ∷ (codes "EXPLAIN", as_statement tree.Explain name_at)
     ∷ (codes "SAVE", save_file_at)
     ∷ (codes "OPEN", open_file_at)
     ∷ (codes "AUDIT", audit_at)
-    ∷ (codes "CHECK", check_at)
-    ∷ (codes "LEARN", learn_at)
+    ∷ (codes "CHECK", as_statement tree.Check name_at)
+    ∷ (codes "LEARN", as_statement tree.Learn bouquet_use_at)
     ∷ (codes "TURNS", turns_at)
     ∷ []
 
 -- the statement of the first keyword that stands here, or a query
 abbrev pub among : List (List ℕ × Reader StatementTree) → Reader StatementTree
-among [] tokens = do
-  query ← select_at tokens
-  Some (tree.Select query.0, query.1)
+among [] tokens = as_statement tree.Select select_at tokens
 among (production ∷ others) tokens = choose (after_word production.0 tokens) (among others tokens) production.1
 
 unfoldable pub statement_at : Reader StatementTree
@@ -100,13 +98,13 @@ statement_parts (tree.CreateIndex index) = create_index_parts index
 statement_parts (tree.Load load) = load_parts load
 statement_parts (tree.Select query) = query_parts query
 statement_parts (tree.Compile name levels threshold query) = compile_parts name levels threshold query
-statement_parts (tree.Run run) = run_parts run
-statement_parts (tree.Explain name) = explain_parts name
+statement_parts (tree.Run run) = Keyword (codes "RUN") ∷ bouquet_use_parts run
+statement_parts (tree.Explain name) = Keyword (codes "EXPLAIN") ∷ Name name ∷ []
 statement_parts (tree.SaveFile save) = save_file_parts save
 statement_parts (tree.OpenFile name file query) = open_file_parts name file query
 statement_parts (tree.Audit audit) = audit_parts audit
-statement_parts (tree.Check name) = check_parts name
-statement_parts (tree.Learn run) = learn_parts run
+statement_parts (tree.Check name) = Keyword (codes "CHECK") ∷ Name name ∷ []
+statement_parts (tree.Learn run) = Keyword (codes "LEARN") ∷ bouquet_use_parts run
 statement_parts (tree.Turns turns) = turns_parts turns
 
 -- the canonical text of a statement

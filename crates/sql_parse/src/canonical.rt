@@ -2,9 +2,9 @@
 
 ghost use Rattle.std.specs.Prelude.{◌≡◌, ◌∷◌, [], ℕ, List, flat_map, option_map, IfOk};
 ghost use Rattle.sql_lex.specs.Once.{AtMostOne};
-ghost use Rattle.sql_parse.specs.Script.{SpellsStatement, IsSpelled};
+ghost use Rattle.sql_parse.specs.Script.{SpellsStatement};
 ghost use Rattle.sql_parse.specs.Trees.{StatementTree, statement_tree, query_tree, condition_tree};
-ghost use Rattle.sql_parse.specs.Canonical.{Fixed, listed, in_parentheses, kept_if, column_parts, value_parts, operand_parts, item_parts, selection_parts, where_parts, query_parts, canonical_query};
+ghost use Rattle.sql_parse.specs.Canonical.{Fixed, Name as NamePart, listed, in_parentheses, kept_if, column_parts, value_parts, operand_parts, item_parts, selection_parts, where_parts, query_parts, canonical_query};
 ghost use Rattle.sql_parse.specs.Statements.{canonical};
 ghost use Rattle.sql_parse.specs.Printing.{PutsParts};
 ghost use Rattle.sql_parse.specs.declared.mark.Mark.TheVariants as m;
@@ -12,7 +12,7 @@ ghost use Rattle.sql_parse.specs.declared.mark.Mark.TheVariants as m;
 use crate::canonical_condition::condition;
 use crate::mark::Mark;
 use crate::statement::{Statement, print_statement};
-use crate::tree::{ColRef, Cond, Item, Query, Term};
+use crate::tree::{ColRef, Cond, Item, Name, Query, Term};
 use crate::writer::Writer;
 use sql_values::{Sequence, Value};
 use std::alloc::{AllocError, Global};
@@ -40,7 +40,7 @@ pub fn print_query(alloc: Global, query: &Query) -> Result<Vec<u8>, AllocError>
 /// Canonical text is read as its statement, and as no other: of a statement that has a text at all, the canonical text
 /// is one, and two statements that both have one text are the same.
 pub fn canonical_text_is_read()
-    ensures read { (tree : StatementTree) → IsSpelled tree →
+    ensures read { (tree : StatementTree) → (text : List ℕ) × SpellsStatement text tree →
         SpellsStatement (canonical tree) tree }
     ensures once { (text : List ℕ) → AtMostOne (SpellsStatement text) }
 {}
@@ -113,6 +113,14 @@ impl Printed for ColRef {
             writer.mark(Mark::Dot)?;
         }
         writer.name(&self.column)
+    }
+}
+
+impl Printed for Name {
+    ghost parts = { λ name. NamePart name ∷ [] };
+
+    fn print_to(&self, writer: &mut Writer) -> Result<(), AllocError> {
+        writer.name(self)
     }
 }
 

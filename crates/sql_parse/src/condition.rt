@@ -2,7 +2,7 @@
 
 ghost use Rattle.std.specs.Prelude.{◌≡◌, map};
 ghost use Rattle.sql_parse.specs.Trees.{condition_tree};
-ghost use Rattle.sql_parse.specs.Reading.{GivesCondition, GivesConditions, separator_of, parts_at, node_of, level_at, part_at, factor_at, plain_factor_at, group_at};
+ghost use Rattle.sql_parse.specs.Reading.{Gives, GivesCondition, separator_of, list_with_first, node_of, level_at, part_at, factor_at, plain_factor_at, group_at};
 ghost use Rattle.sql_parse.specs.declared.condition.Connective.TheVariants.{Or as OrConnective};
 
 use crate::fault::ReadFault;
@@ -83,8 +83,9 @@ fn parts<'s>(
     connective: Connective,
     nesting: usize,
 ) -> Result<(Vec<Cond>, Piece<'s>), ReadFault>
-    ensures { GivesConditions result
-        (parts_at connective (group_at nesting) (condition_tree first) piece.entry) }
+    ensures { Gives (λ found. (map condition_tree found.0.items, found.1)) result
+        (list_with_first (condition_tree first) (part_at connective (group_at nesting))
+        (separator_of connective) piece.entry) }
 {
     let separator = connective.separator();
     let mut parts = Vec::new(alloc);

@@ -1,11 +1,11 @@
 // The tokens that are still to be read, and the tokens that the grammar ends in.
 
-ghost use Rattle.std.specs.Prelude.{◌≡◌, ◌+◌, ◌<◌, ◌≤◌, ◌^◌, [], ◌∷◌, length, IfOk, IfSome, MatchOption};
+ghost use Rattle.std.specs.Prelude.{◌≡◌, ◌+◌, ◌<◌, ◌≤◌, ◌^◌, [], ◌∷◌, length, IfOk, IfSome, MatchOption, if◌then◌else◌};
 ghost use Rattle.std.specs.List.{All};
 ghost use Rattle.sql_lex.specs.Forms.{HasForm, KeepsTokenLimit};
 ghost use Rattle.sql_lex.specs.Tokens.{IsToken};
-ghost use Rattle.sql_parse.specs.Lexemes.{lexeme_of, lexemes};
-ghost use Rattle.sql_parse.specs.Reading.{GivesValue, with_number, next_number, after_mark, after_word, name_at, number_at, text_token_at, comparison_at, parameter_at, token_kind_at};
+ghost use Rattle.sql_parse.specs.Lexemes.{Parameter, is_question_mark, lexeme_of, lexemes};
+ghost use Rattle.sql_parse.specs.Reading.{GivesValue, after_mark, after_word, name_at, number_at, text_token_at, comparison_at, parameter_at, token_kind_at};
 
 use crate::fault::ReadFault;
 use crate::mark::{Mark, is_keyword, is_question_mark, is_reserved};
@@ -50,7 +50,8 @@ struct Lead<'s> {
 // The number of the next `?` after a token, whose own number is `number` if it is one.
 fn next_number(number: u32, kind: TokenKind, bytes: &[u8]) -> u32
     requires { number + 1 < 2 ^ 32 }
-    ensures number { result ≡ next_number number (lexeme_of kind bytes.now) }
+    ensures number { let mark = is_question_mark (lexeme_of kind bytes.now) in
+        result ≡ if mark then number + 1 else number }
     ensures within { result ≤ number + 1 }
 {
     if is_question_mark(kind, bytes) {
@@ -82,7 +83,8 @@ impl<'s> Piece<'s> {
 
     fn lead(&self) -> Option<Lead<'s>>
         ensures first { MatchOption result (self.now ≡ [])
-            (λ lead. self.now ≡ with_number lead.number (lexeme_of lead.kind lead.bytes.now) ∷ lead.rest) }
+            (λ lead. let token = lexeme_of lead.kind lead.bytes.now in
+            self.now ≡ (if is_question_mark token then Parameter lead.number else token) ∷ lead.rest) }
         ensures form { IfSome result (λ lead. HasForm lead.kind lead.bytes.now) }
         ensures limit { IfSome result (λ lead. KeepsTokenLimit lead.kind lead.bytes.now) }
     {

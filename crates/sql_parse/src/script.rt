@@ -1,6 +1,6 @@
 // The statements of a script.
 
-ghost use Rattle.std.specs.Prelude.{◌≡◌, ℕ, ◌≤◌, ◌<◌, ◌+◌, ◌^◌, List, ◌∷◌, length, take, drop, IfOk, IfErr};
+ghost use Rattle.std.specs.Prelude.{◌≡◌, ℕ, ◌≤◌, ◌<◌, ◌+◌, ◌^◌, List, [], ◌∷◌, ◌++◌, option_map, length, take, drop, IfOk, IfErr};
 ghost use Rattle.std.specs.List.{All};
 ghost use Rattle.sql_lex.specs.Once.{AtLeastOne, AtMostOne};
 ghost use Rattle.sql_lex.specs.Tokens.{IsToken, Tokens};
@@ -10,8 +10,8 @@ ghost use Rattle.sql_parse.specs.Trees.{StatementTree, statement_tree, statement
 ghost use Rattle.sql_parse.specs.Statements.{IsStatement, statement_of};
 ghost use Rattle.sql_parse.specs.Script.{is_semicolon, split, split_after, AreStatements, IsParsing, IsCause};
 ghost use Rattle.sql_parse.specs.WellFormed.{AreWellFormed};
-ghost use Rattle.sql_parse.specs.Counts.{operands_of, IsWithinTokens, HaveUpTo};
-ghost use Rattle.sql_parse.specs.Reading.{Gives, with_statement};
+ghost use Rattle.sql_parse.specs.Counts.{operands_in, of_condition, condition_of, HaveUpTo};
+ghost use Rattle.sql_parse.specs.Reading.{Gives};
 
 use crate::fault::{ReadFault, SyntaxFault};
 use crate::piece::Piece;
@@ -26,7 +26,8 @@ pub fn one_statement()
 
 /// The law of counts: no statement has more operands, and so more predicates, than tokens.
 pub fn operands_are_tokens()
-    ensures { IsWithinTokens operands_of IsStatement }
+    ensures { (tokens : List Lexeme) (tree : StatementTree) → IsStatement tokens tree →
+        of_condition operands_in (condition_of tree) ≤ length tokens }
 {}
 
 /// The law of reading: tokens are statements, or have a first piece that is none, and are read in no second way.
@@ -99,7 +100,7 @@ fn add_statement(
     requires each { All (IsToken text.now) piece.now }
     requires few { length piece.now < 2 ^ 32 }
     ensures { Gives (λ _. statement_trees statements.new.items) result
-        (with_statement (statement_trees statements.old.items)
+        (option_map (λ tree. statement_trees statements.old.items ++ tree ∷ [])
         (statement_of (lexemes text.now piece.now))) }
 {
     let statement = whole_statement(alloc, Piece::new(text, piece))?;

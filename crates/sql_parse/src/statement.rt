@@ -1,31 +1,30 @@
 // The statements of the language. Each has a production, in a file of its name: how it is read and how it is printed.
-// Here they are put together: a statement is known by the word that it begins with.
+// Here they are put together: a statement is known by the word that it begins with. Those that are a word and a name, or
+// a word and a bouquet with its values, need no production of their own.
 
-ghost use Rattle.std.specs.Prelude.{Option, Some, None, drop, length, ◌==◌, if◌then◌else◌};
+ghost use Rattle.std.specs.Prelude.{◌∷◌, Option, Some, None, drop, length, ◌==◌, if◌then◌else◌};
 ghost use Rattle.sql_parse.specs.Trees.{statement_tree};
 ghost use Rattle.sql_parse.specs.Reading.{Gives, GivesValue, GivesStatement};
+ghost use Rattle.sql_parse.specs.Canonical.{Keyword};
 ghost use Rattle.sql_parse.specs.Printing.{PutsParts};
 ghost use Rattle.sql_parse.specs.Statements.{among, create_at, productions, statement_at, statement_of, statement_parts};
 
 mod audit;
 mod bouquet_use;
-mod check;
 mod compile;
 mod create_index;
 mod create_table;
-mod explain;
-mod learn;
 mod load;
 mod numbers;
 mod open_file;
-mod run;
 mod save_file;
 mod turns;
 mod using;
 
-use crate::canonical::print_select;
+use crate::canonical::{Printed, print_select};
 use crate::fault::ReadFault;
 use crate::mark::Mark;
+use crate::parse::Parse;
 use crate::piece::Piece;
 use crate::query::select;
 use crate::tree::{
@@ -34,15 +33,11 @@ use crate::tree::{
 };
 use crate::writer::Writer;
 use audit::{audit, print_audit};
-use check::{check, print_check};
 use compile::{compile, print_compile};
 use create_index::{create_index, print_create_index};
 use create_table::{create_table, print_create_table};
-use explain::{explain, print_explain};
-use learn::{learn, print_learn};
 use load::{load, print_load};
 use open_file::{open_file, print_open_file};
-use run::{print_run, run};
 use save_file::{print_save_file, save_file};
 use std::alloc::{AllocError, Global};
 use turns::{print_turns, turns};
@@ -95,10 +90,12 @@ fn other_statement<'s>(alloc: Global, piece: Piece<'s>) -> Result<(Statement, Pi
         return audit(alloc, after);
     }
     if let Some(after) = piece.after_word(b"CHECK") {
-        return check(alloc, after);
+        let (name, rest) = after.name(alloc)?;
+        return Ok((Statement::Check(name), rest));
     }
     if let Some(after) = piece.after_word(b"LEARN") {
-        return learn(alloc, after);
+        let (used, rest) = RunDef::parse(alloc, after)?;
+        return Ok((Statement::Learn(used), rest));
     }
     if let Some(after) = piece.after_word(b"TURNS") {
         return turns(alloc, after);
@@ -122,10 +119,12 @@ fn first_statement<'s>(alloc: Global, piece: Piece<'s>) -> Result<(Statement, Pi
         return compile(alloc, after);
     }
     if let Some(after) = piece.after_word(b"RUN") {
-        return run(alloc, after);
+        let (used, rest) = RunDef::parse(alloc, after)?;
+        return Ok((Statement::Run(used), rest));
     }
     if let Some(after) = piece.after_word(b"EXPLAIN") {
-        return explain(alloc, after);
+        let (name, rest) = after.name(alloc)?;
+        return Ok((Statement::Explain(name), rest));
     }
     other_statement(alloc, piece)
 }
@@ -150,6 +149,14 @@ pub(crate) fn whole_statement(alloc: Global, piece: Piece) -> Result<Statement, 
     only(statement, rest)
 }
 
+// Appends a keyword, and what is written after it.
+fn print_after<T: Printed>(writer: &mut Writer, keyword: &[u8], value: &T) -> Result<(), AllocError>
+    ensures { PutsParts result writer.old writer.new (Keyword keyword.now ∷ T.parts value.now) }
+{
+    writer.keyword(keyword)?;
+    value.print_to(writer)
+}
+
 // Appends a statement.
 pub(crate) fn print_statement(writer: &mut Writer, statement: &Statement) -> Result<(), AllocError>
     ensures { PutsParts result writer.old writer.new (statement_parts (statement_tree statement.now)) }
@@ -160,13 +167,13 @@ pub(crate) fn print_statement(writer: &mut Writer, statement: &Statement) -> Res
         Statement::Load(load) => print_load(writer, load),
         Statement::Select(query) => print_select(writer, query),
         Statement::Compile(compile) => print_compile(writer, compile),
-        Statement::Run(run) => print_run(writer, run),
-        Statement::Explain(name) => print_explain(writer, name),
+        Statement::Run(run) => print_after(writer, b"RUN", run),
+        Statement::Explain(name) => print_after(writer, b"EXPLAIN", name),
         Statement::SaveFile(save) => print_save_file(writer, save),
         Statement::OpenFile(opened) => print_open_file(writer, opened),
         Statement::Audit(audit) => print_audit(writer, audit),
-        Statement::Check(name) => print_check(writer, name),
-        Statement::Learn(run) => print_learn(writer, run),
+        Statement::Check(name) => print_after(writer, b"CHECK", name),
+        Statement::Learn(run) => print_after(writer, b"LEARN", run),
         Statement::Turns(turns) => print_turns(writer, turns),
     }
 }

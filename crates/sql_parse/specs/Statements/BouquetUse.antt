@@ -1,4 +1,4 @@
--- A bouquet with the values that its query is given: what is run, and what is learned from.
+-- A bouquet with the values that its query is given: what RUN, LEARN and TURNS use.
 use Rattle.std.specs.Prelude.{◌≡◌, List, ◌∷◌, Some}
 use Rattle.sql_parse.specs.Productions.{Lexeme, Word, Rule, IsName, Reader, ◌>>=◌, name_at, Part, Name}
 use Rattle.sql_parse.specs.declared.tree.RunDef.{RunDef}
@@ -7,8 +7,7 @@ use Rattle.sql_parse.specs.Statements.Using.{IsUsing, using_at, using_parts}
 -- name [ USING "(" literal { "," literal } ")" ]
 abbrev pub IsBouquetUse : Rule RunDef
 IsBouquetUse tokens run =
-    (values : List Lexeme) × (tokens ≡ Word run.name ∷ values)
-    × IsName run.name × IsUsing values run.values
+    (values : List Lexeme) × (tokens ≡ Word run.name ∷ values) × IsName run.name × IsUsing values run.values
 
 unfoldable pub bouquet_use_at : Reader RunDef
 bouquet_use_at tokens = do

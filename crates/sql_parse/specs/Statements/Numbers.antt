@@ -1,6 +1,6 @@
 -- Numbers behind a word: the levels of AUDIT, the turns of TURNS.
 use Rattle.std.specs.Prelude.{ℕ, ◌≡◌, List, [], ◌∷◌, Some}
-use Rattle.sql_parse.specs.Productions.{Lexeme, Word, Rule, Separated, after_word, Reader, choose, number_at, list_at, Keyword, Part, Number, listed}
+use Rattle.sql_parse.specs.Productions.{Word, Rule, After, Separated, after_word, Reader, choose, number_at, list_at, Keyword, Part, Number, listed}
 use Rattle.sql_parse.specs.declared.mark.Mark.TheVariants as m
 use Rattle.sql_parse.specs.Lexemes.{Number as NumberToken}
 
@@ -11,9 +11,7 @@ IsNumber tokens n = tokens ≡ NumberToken n ∷ []
 -- [ word number { "," number } ]
 abbrev pub IsNumbers : (word : List ℕ) → Rule (List ℕ)
 IsNumbers word tokens [] = tokens ≡ []
-IsNumbers word tokens (n ∷ ns) =
-    (rest : List Lexeme) × (tokens ≡ Word word ∷ rest)
-    × Separated m.Comma IsNumber rest (n ∷ ns)
+IsNumbers word tokens (n ∷ ns) = After (Word word) (Separated m.Comma IsNumber) tokens (n ∷ ns)
 
 -- the numbers, where the word stands
 unfoldable pub numbers_at : (word : List ℕ) → Reader (List ℕ)

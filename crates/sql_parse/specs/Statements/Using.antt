@@ -1,7 +1,7 @@
 -- The values that a bouquet's query is given.
 use Rattle.std.specs.Prelude.{◌≡◌, List, [], ◌∷◌, Some}
 use Rattle.sql_values.specs.declared.value.Value.{Value}
-use Rattle.sql_parse.specs.Productions.{Lexeme, mark, Rule, Separated, Reader, choose, after_mark, list_at, in_parentheses_at, Part, Fixed, listed, in_parentheses}
+use Rattle.sql_parse.specs.Productions.{mark, Rule, After, Separated, Reader, choose, after_mark, list_at, in_parentheses_at, Part, Fixed, listed, in_parentheses}
 use Rattle.sql_parse.specs.declared.mark.Mark.TheVariants as m
 use Rattle.sql_parse.specs.Grammar.{InParentheses, IsLiteral}
 use Rattle.sql_parse.specs.Reading.{literal_at}
@@ -11,8 +11,7 @@ use Rattle.sql_parse.specs.Canonical.{value_parts}
 abbrev pub IsUsing : Rule (List Value)
 IsUsing tokens [] = tokens ≡ []
 IsUsing tokens (value ∷ values) =
-    (rest : List Lexeme) × (tokens ≡ mark m.Using ∷ rest)
-    × InParentheses (Separated m.Comma IsLiteral) rest (value ∷ values)
+    After (mark m.Using) (InParentheses (Separated m.Comma IsLiteral)) tokens (value ∷ values)
 
 -- the values, where USING stands
 unfoldable pub using_at : Reader (List Value)
