@@ -117,14 +117,35 @@ line_before p xs e begin wide lines (suc m) some so more =
 
 -- a search in a stretch: the lines but the last are counted whose last element passes, then so many elements as a line
 -- has, from the next line on or up to the stretch's end
-pub point_between : {A : Type 0} (p : A → Bool) (xs : List A) (e : A) (begin end wide lines line size from below : ℕ)
-    → IsPartitionedBy p xs → begin ≤ end → end ≤ length xs → AllWithin (λ x. p x ≡ true) xs 0 begin → AllWithin (λ x. p x ≡ false) xs end (length xs)
-    → 0 < wide → lines * wide ≤ end - begin → end - begin ≤ lines * wide + wide
-    → IsCounted (λ i. p (get_or xs (begin + (wide - 1) + i * wide) e)) line lines
-    → size ≡ min wide (end - begin) → from ≡ min (begin + line * wide) (end - size)
-    → IsCounted (λ i. p (get_or xs (from + i * 1) e)) below size
-    → IsPartitionPoint (λ x. p x ≡ true) (λ x. p x ≡ false) xs (from + below)
-point_between p xs e begin end wide lines line size from below rising up there none_before none_behind some low high so s f last =
+pub record IsSearched {A : Type 0} (p : A → Bool) (xs : List A) (e : A) (begin end wide lines line size from below : ℕ) : Type 0 where
+  pub rising : IsPartitionedBy p xs
+  pub up : begin ≤ end
+  pub there : end ≤ length xs
+  pub none_before : AllWithin (λ x. p x ≡ true) xs 0 begin
+  pub none_behind : AllWithin (λ x. p x ≡ false) xs end (length xs)
+  pub some : 0 < wide
+  pub low : lines * wide ≤ end - begin
+  pub high : end - begin ≤ lines * wide + wide
+  pub so : IsCounted (λ i. p (get_or xs (begin + (wide - 1) + i * wide) e)) line lines
+  pub s : size ≡ min wide (end - begin)
+  pub f : from ≡ min (begin + line * wide) (end - size)
+  pub last : IsCounted (λ i. p (get_or xs (from + i * 1) e)) below size
+
+pub point_between : {A : Type 0} {p : A → Bool} {xs : List A} {e : A} {begin end wide lines line size from below : ℕ}
+    → IsSearched p xs e begin end wide lines line size from below → IsPartitionPoint (λ x. p x ≡ true) (λ x. p x ≡ false) xs (from + below)
+point_between {p = p} {xs = xs} {e = e} {begin = begin} {end = end} {wide = wide} {lines = lines} {line = line} {size = size} {from = from} {below = below} searched =
+    let rising = searched.rising in
+    let up = searched.up in
+    let there = searched.there in
+    let none_before = searched.none_before in
+    let none_behind = searched.none_behind in
+    let some = searched.some in
+    let low = searched.low in
+    let high = searched.high in
+    let so = searched.so in
+    let s = searched.s in
+    let f = searched.f in
+    let last = searched.last in
     let most = mul-le-mul_right wide so.most in
     let inside : begin + line * wide ≤ end = omega arith in
     let passed = before_place p xs e begin (begin + line * wide) rising (omega arith) none_before (line_before p xs e begin wide lines line some so) in
@@ -162,7 +183,7 @@ pub level_above_leaves : (entries items : List IndexEntry) (inner held level res
     → AreLastWords (map entry_word items) level × AreLevels (height - 2) level rest
 level_above_leaves entries items inner held level rest height count tree same all more n l r =
     let least = height_some (length entries) in
-    let stated = tree.sorted.as_stated in
+    let stated = tree.as_stated in
     let long = length-map entries entry_word in
     let counted : count ≡ node_count (length (map entry_word entries)) = n ∙ ap (λ xs. node_count (length xs)) same ∙ ap node_count (sym long) in
     let above = levels_above (height - 1) (map entry_word entries) inner level rest count (λ one. more (omega arith)) tree.levels counted

@@ -4,20 +4,17 @@ use Rattle.std.specs.Int.{div_ceil}
 use Rattle.std.specs.List.{AllWithin}
 use Rattle.std.specs.List.Sorted.{IsPartitionPoint}
 use Rattle.btree_index.specs.Height.{node_entries, height_of}
-use Rattle.btree_index.specs.Entries.{IndexEntry, IsSortedIndex}
+use Rattle.btree_index.specs.Entries.{IndexEntry, IsInOrder, HaveWords}
 
 -- how many nodes a level has on which so many entries or words stand
 abbrev pub node_count : ℕ → ℕ
 node_count items = div_ceil items node_entries
 
--- how many nodes there are on a level, the leaves being level 1
-abbrev pub nodes_on : (entries level : ℕ) → ℕ
-nodes_on entries level = max 1 (div_ceil entries (node_entries ^ level))
-
--- how many there are on the levels up to one
+-- how many nodes there are on the levels up to one, the leaves being level 1
 abbrev pub nodes_up_to : (entries level : ℕ) → ℕ
 nodes_up_to entries zero = 0
-nodes_up_to entries (suc level) = nodes_up_to entries level + nodes_on entries (level + 1)
+nodes_up_to entries (suc level) =
+    nodes_up_to entries level + max 1 (div_ceil entries (node_entries ^ (level + 1)))
 
 -- how many nodes an index of so many entries has
 abbrev pub nodes_of : (entries : ℕ) → ℕ
@@ -63,6 +60,8 @@ pub record IsCounted (passes : ℕ → Bool) (below count : ℕ) : Type 0 where
 
 -- what an index keeps: its entries in order, the levels above them as its height says, and each node counted
 pub record IsTree (entries : List IndexEntry) (inner : List ℤ) (height : ℕ) : Type 0 where
-  pub sorted : IsSortedIndex entries height
+  pub in_order : IsInOrder entries
+  pub words : HaveWords entries
+  pub as_stated : height ≡ height_of (length entries)
   pub levels : AreLevels (height - 1) (map entry_word entries) inner
   pub nodes : length inner + 1 ≡ nodes_of (length entries)

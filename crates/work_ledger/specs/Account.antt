@@ -22,9 +22,3 @@ pub record Pays {T E : Type 0} (n : ℕ) (old new : Account) (result : Result T 
   pub refused : OnErr result (new.spent ≡ old.limit)
   pub limit : new.limit ≡ old.limit
   pub never_falls : old.spent ≤ new.spent
-
--- how a ledger keeps an account: what is left below a ceiling, which is at most the limit
-pub record IsLedger (ceiling left limit : ℕ) : Type 0 where
-  pub within : left ≤ ceiling
-  pub granted : ceiling ≤ limit
-  pub bounded : limit ≤ max_account

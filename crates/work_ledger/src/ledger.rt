@@ -21,14 +21,15 @@ pub struct Ledger {
 }
 
 impl Model for Ledger {
-    ghost use Rattle.std.specs.Prelude.{◌-◌};
-    ghost use Rattle.work_ledger.specs.Account.{Account, IsLedger};
+    ghost use Rattle.std.specs.Prelude.{◌-◌, ◌≤◌};
+    ghost use Rattle.work_ledger.specs.Account.{Account, max_account};
 
     ghost Value = { Account };
 
     ghost view = { λ l. record { spent = l.ceiling - l.left; limit = l.limit } };
 
-    ghost invariant = { λ l. IsLedger l.ceiling l.left l.limit };
+    ghost invariant = { λ l.
+        (l.left ≤ l.ceiling) × (l.ceiling ≤ l.limit) × (l.limit ≤ max_account) };
 }
 
 impl Ledger {

@@ -3,7 +3,7 @@ use Rattle.std.proofs.Math.Nat.{div-mul-le_self, lt-div-mul-add, mul-le-mul_righ
 use Rattle.std.specs.List.Sorted.{IsPartitionPoint}
 use Rattle.std.specs.Prelude.{Bool, true, false}
 use Rattle.btree_index.specs.Nodes.{is_below, IsCounted}
-use Rattle.btree_index.proofs.Nodes.{point_between}
+use Rattle.btree_index.proofs.Nodes.{IsSearched, point_between}
 use Rattle.btree_index.proofs.node.first_between.Goals as goal
 
 pub overflow_mul-line : goal.overflow_mul-line
@@ -35,9 +35,19 @@ returns-clause-first g c =
     let kept : to_z w64 (of_z w64 c.args.word) ≡ c.args.word = search rules in
     let test : ℤ → _ → Bool = λ word item. is_below word (g.T.Worded.word_of item) in
     let point : (d : _) → IsPartitionPoint (λ x. test c.args.word x ≡ true) (λ x. test c.args.word x ≡ false) items (from.result + c.count_below.result) = λ d.
-    point_between (test c.args.word) items d begin end wide lines line.result size.result from.result c.count_below.result
-    c.requires.rising c.requires.there c.requires.ends c.requires.before c.requires.behind c.requires.line low high
-    (subst (λ w. IsCounted (λ i. test w (get_or items (begin + (wide - 1) + i * wide) d)) line.result lines) kept (line.ensures.counted d))
-    size.ensures from.ensures
-    (subst (λ w. IsCounted (λ i. test w (get_or items (from.result + i * 1) d)) c.count_below.result size.result) kept (c.count_below.ensures.counted d)) in
+    let searched : IsSearched (test c.args.word) items d begin end wide lines line.result size.result from.result c.count_below.result = record {
+      rising = c.requires.rising;
+      up = c.requires.there;
+      there = c.requires.ends;
+      none_before = c.requires.before;
+      none_behind = c.requires.behind;
+      some = c.requires.line;
+      low = low;
+      high = high;
+      so = subst (λ w. IsCounted (λ i. test w (get_or items (begin + (wide - 1) + i * wide) d)) line.result lines) kept (line.ensures.counted d);
+      s = size.ensures;
+      f = from.ensures;
+      last = subst (λ w. IsCounted (λ i. test w (get_or items (from.result + i * 1) d)) c.count_below.result size.result) kept (c.count_below.ensures.counted d);
+    } in
+    point_between searched in
     (λ k d l m. (point d).0 k d l m, λ k d l m. (point d).1 k d l m)

@@ -8,4 +8,4 @@ use Rattle.btree_index.proofs.index.Index.first_behind.Goals as goal
 pub first_near-requires-clause-rising : goal.first_near-requires-clause-rising
 first_near-requires-clause-rising c =
     let word : ℤ = to_z w64 (of_z w64 c.args.word) in
-    subst (λ xs. IsPartitionedBy (is_entry_below word) xs) (sym c.deref.ensures.value) (entries_rise c.self.inside.entries.items word c.self.invariant.sorted.in_order)
+    subst (λ xs. IsPartitionedBy (is_entry_below word) xs) (sym c.deref.ensures.value) (entries_rise c.self.inside.entries.items word c.self.invariant.in_order)

@@ -9,7 +9,7 @@ use Rattle.btree_index.proofs.index.Index.first_from.Goals as goal
 pub first_in_node-requires-clause-rising : goal.first_in_node-requires-clause-rising
 first_in_node-requires-clause-rising c =
     let word : ℤ = to_z w64 (of_z w64 c.args.word) in
-    subst (λ xs. IsPartitionedBy (is_entry_below word) xs) (sym c.as_slice-entries.ensures.value) (entries_rise c.self.inside.entries.items word c.self.invariant.sorted.in_order)
+    subst (λ xs. IsPartitionedBy (is_entry_below word) xs) (sym c.as_slice-entries.ensures.value) (entries_rise c.self.inside.entries.items word c.self.invariant.in_order)
 
 pub first_of-leaf-requires-clause-levels : goal.first_of-leaf-requires-clause-levels
 first_of-leaf-requires-clause-levels c =
@@ -21,7 +21,7 @@ pub first_of-leaf-requires-clause-rising : goal.first_of-leaf-requires-clause-ri
 first_of-leaf-requires-clause-rising c =
     let word : ℤ = to_z w64 (of_z w64 c.args.word) in
     let entries = c.as_slice-entries.result.now in
-    let rise = subst (λ xs. IsPartitionedBy (is_entry_below word) xs) (sym c.as_slice-entries.ensures.value) (entries_rise c.self.inside.entries.items word c.self.invariant.sorted.in_order) in
+    let rise = subst (λ xs. IsPartitionedBy (is_entry_below word) xs) (sym c.as_slice-entries.ensures.value) (entries_rise c.self.inside.entries.items word c.self.invariant.in_order) in
     rising_above (is_below word) (map entry_word entries) c.split_at.result.0.now
     (level_above_leaves c.self.inside.entries.items entries c.self.inside.inner.items c.deref.result.now
     c.split_at.result.0.now c.split_at.result.1.now c.self.inside.height c.div_ceil.result c.self.invariant c.as_slice-entries.ensures.value
@@ -31,13 +31,13 @@ first_of-leaf-requires-clause-rising c =
 pub first_in_node-requires-2-clause-rising : goal.first_in_node-requires-2-clause-rising
 first_in_node-requires-2-clause-rising c =
     let word : ℤ = to_z w64 (of_z w64 c.args.word) in
-    subst (λ xs. IsPartitionedBy (is_entry_below word) xs) (sym c.as_slice-entries.ensures.value) (entries_rise c.self.inside.entries.items word c.self.invariant.sorted.in_order)
+    subst (λ xs. IsPartitionedBy (is_entry_below word) xs) (sym c.as_slice-entries.ensures.value) (entries_rise c.self.inside.entries.items word c.self.invariant.in_order)
 
 pub first_in_node-requires-2-clause-around : goal.first_in_node-requires-2-clause-around
 first_in_node-requires-2-clause-around c =
     let word : ℤ = to_z w64 (of_z w64 c.args.word) in
     let entries = c.as_slice-entries.result.now in
-    let rise = subst (λ xs. IsPartitionedBy (is_entry_below word) xs) (sym c.as_slice-entries.ensures.value) (entries_rise c.self.inside.entries.items word c.self.invariant.sorted.in_order) in
+    let rise = subst (λ xs. IsPartitionedBy (is_entry_below word) xs) (sym c.as_slice-entries.ensures.value) (entries_rise c.self.inside.entries.items word c.self.invariant.in_order) in
     around_mapped entry_word (is_below word) entries c.first_of-leaf.result (pos 0)
     (around_node (is_below word) (map entry_word entries) c.split_at.result.0.now c.first_of-leaf.result
     (level_above_leaves c.self.inside.entries.items entries c.self.inside.inner.items c.deref.result.now
