@@ -53,12 +53,9 @@ counts_at number value = do
   indexes ← need (fault.Field (path.Count number Indexes)) (within 0 max_columns (unsigned (get_member (codes "indexes") members)))
   pure (record { rows = rows; kept = kept; indexes = indexes })
 
--- the cost of a contour, the texts of its plans
+-- the cost of a contour
 abbrev pub cost_in : Members → Option ℕ
 cost_in members = option_and_then decimal_number (string_of (get_member (codes "cost") members))
-
-abbrev pub plans_in : Members → Option (List Data)
-plans_in members = list_within 1 max_points (get_member (codes "plans") members)
 
 -- a plan is a text
 abbrev pub plan_fits : (contour number : ℕ) → Data → Checked (List ℕ)
@@ -73,7 +70,7 @@ abbrev pub contour_fits : (number : ℕ) → Data → Checked FileContour
 contour_fits number value = do
   members ← need (fault.Field (path.Contour number)) (object_of Contour value)
   cost ← need (fault.Field (path.Cost number)) (cost_in members)
-  plans ← need (fault.Field (path.Plans number)) (plans_in members)
+  plans ← need (fault.Field (path.Plans number)) (list_within 1 max_points (get_member (codes "plans") members))
   texts ← each (plan_fits number) 1 plans
   pure (record { cost = cost; texts = texts })
 
@@ -111,16 +108,9 @@ plan_with_text block text = first_with_text text (plans_of block)
 abbrev pub plan_here : BlockTree → (contour number : ℕ) → (text : List ℕ) → Checked PlanTree
 plan_here block contour number text = need (fault.NotAPlan contour number) (plan_with_text block text)
 
--- the plans of a contour
-abbrev pub plans_of_contour : BlockTree → (contour : ℕ) → (texts : List (List ℕ)) → Checked (List PlanTree)
-plans_of_contour block contour texts = each (plan_here block contour) 1 texts
-
 -- a contour that fits: its cost is one that a bouquet may have, and its texts are those of plans of the block
 abbrev pub contour_at : BlockTree → (number : ℕ) → FileContour → Checked ContourTree
 contour_at block number parts = do
   check (fault.BudgetLimit number) (nat_le parts.cost max_contour_cost)
-  plans ← plans_of_contour block number parts.texts
+  plans ← each (plan_here block number) 1 parts.texts
   pure (record { cost = parts.cost; plans = plans })
-
-abbrev pub contours_at : BlockTree → List FileContour → Checked (List ContourTree)
-contours_at block contours = each (contour_at block) 1 contours

@@ -1,5 +1,5 @@
 -- The bouquet of a file, or the first fault.
-use Rattle.std.specs.Prelude.{◌≡◌, ℕ, List, length, nat_eq, Option, None, Ok, bytes_eq, if◌then◌else◌}
+use Rattle.std.specs.Prelude.{ℕ, List, length, nat_eq, Option, None, bytes_eq, if◌then◌else◌}
 use Rattle.std.specs.Str.{is_utf8}
 use Rattle.serde_json.specs.Data.{Data}
 use Rattle.serde_json.specs.Read.{read}
@@ -7,8 +7,8 @@ use Rattle.query_block.specs.Blocks.{BlockTree, axes_of}
 use Rattle.cost_model.specs.declared.stats.Stats.{Stats}
 use Rattle.bouquet_type.specs.Trees.{BouquetTree, ContourTree}
 use Rattle.bouquet_file.specs.declared.fault.OpenFault.TheVariants as fault
-use Rattle.bouquet_file.specs.Steps.{Checked, pure, ◌>>=◌, ◌>>◌, need, check}
-use Rattle.bouquet_file.specs.Checks.{changed_counts, unless_changed, contours_at}
+use Rattle.bouquet_file.specs.Steps.{Checked, pure, ◌>>=◌, ◌>>◌, need, check, each}
+use Rattle.bouquet_file.specs.Checks.{changed_counts, unless_changed, contour_at}
 use Rattle.bouquet_file.specs.Parts.{FileParts, parts_of}
 
 -- the value for which the bytes of a file stand, where they are JSON
@@ -23,7 +23,7 @@ current_contours parts query block stats = do
   check fault.OtherQuery (bytes_eq parts.query query)
   check (fault.Parameters parts.parameters (length block.parameters)) (nat_eq parts.parameters (length block.parameters))
   unless_changed (changed_counts 0 parts.counts stats.relations)
-  contours_at block parts.contours
+  each (contour_at block) 1 parts.contours
 
 -- the bouquet of a value: there is a value, and its parts fit, first of all; then come its contours
 abbrev pub file_of : Option Data → (query : List ℕ) → BlockTree → Stats → Checked BouquetTree
@@ -40,7 +40,3 @@ file_of value query block stats = do
 -- of the bytes of a file
 abbrev pub opened : (bytes query : List ℕ) → BlockTree → Stats → Checked BouquetTree
 opened bytes query block stats = file_of (json_value bytes) query block stats
-
--- they are opened as this bouquet, by its own block and counts
-abbrev pub OpensAs : (bytes query : List ℕ) → BouquetTree → Type 0
-OpensAs bytes query bouquet = opened bytes query bouquet.costing.block bouquet.costing.stats ≡ Ok bouquet

@@ -30,20 +30,17 @@ relation_value stats = object
     (member (codes "rows") (number_value stats.rows)
     no_members)))
 
--- a file of version 1 with these contours and relations
-abbrev pub first_version : (query : List ℕ) → (levels threshold : ℕ) → (contours relations : Items) → Data
-first_version query levels threshold contours relations = object
+-- a file of a query with so many parameters: without any it is of version 1, else of version 2, which says how many
+abbrev pub file_with : (query : List ℕ) → (parameters levels threshold : ℕ) → (contours relations : Items) → Data
+file_with query parameters levels threshold contours relations =
+    if nat_eq parameters 0 then object
     (member (codes "bouquet") (number_value 1)
     (member (codes "contours") (array contours)
     (member (codes "levels") (number_value levels)
     (member (codes "query") (string query)
     (member (codes "relations") (array relations)
     (member (codes "threshold") (number_value threshold)
-    no_members))))))
-
--- a file of version 2: it says besides how many parameters the query has
-abbrev pub second_version : (query : List ℕ) → (parameters levels threshold : ℕ) → (contours relations : Items) → Data
-second_version query parameters levels threshold contours relations = object
+    no_members)))))) else object
     (member (codes "bouquet") (number_value 2)
     (member (codes "contours") (array contours)
     (member (codes "levels") (number_value levels)
@@ -52,12 +49,6 @@ second_version query parameters levels threshold contours relations = object
     (member (codes "relations") (array relations)
     (member (codes "threshold") (number_value threshold)
     no_members)))))))
-
--- a file of a query with so many parameters
-abbrev pub file_with : (query : List ℕ) → (parameters levels threshold : ℕ) → (contours relations : Items) → Data
-file_with query parameters levels threshold contours relations =
-    if nat_eq parameters 0 then first_version query levels threshold contours relations
-    else second_version query parameters levels threshold contours relations
 
 -- a bouquet with the canonical text of its query
 abbrev pub file_value : BouquetTree → (query : List ℕ) → Data

@@ -7,7 +7,7 @@ ghost use Rattle.plan_tree.specs.Plans.{plan_tree};
 ghost use Rattle.plan_tree.specs.Enumerated.{IsPlan};
 ghost use Rattle.bouquet_type.specs.Trees.{IsContour, contour_tree};
 ghost use Rattle.bouquet_file.specs.Steps.{GivesChecked, GivesEach, each};
-ghost use Rattle.bouquet_file.specs.Checks.{cost_in, plan_fits, contour_fits, plan_with_text, plan_here, plans_of_contour, contour_at, contours_at};
+ghost use Rattle.bouquet_file.specs.Checks.{cost_in, plan_fits, contour_fits, plan_with_text, plan_here, contour_at};
 ghost use Rattle.bouquet_file.specs.Parts.{contour_seen, HasTexts};
 
 use crate::fault::{FieldPath, OpenFault};
@@ -138,7 +138,7 @@ fn plans_of(
 ) -> Result<Vec<Plan>, OpenFault>
     requires { length texts.now ≤ max_points }
     ensures plans { GivesEach plan_tree result
-        (plans_of_contour (block_tree block.now) contour (map (λ text. text.now) texts.now)) }
+        (each (plan_here (block_tree block.now) contour) 1 (map (λ text. text.now) texts.now)) }
     ensures count { IfOk result (λ plans. length plans.items ≡ length texts.now) }
     ensures are_plans { IfOk result
         (λ plans. All (λ p. IsPlan (block_tree block.now) (plan_tree p)) plans.items) }
@@ -179,7 +179,7 @@ pub(crate) fn contours_of(
     requires few { length parts.now ≤ max_contours }
     requires texts { All HasTexts parts.now }
     ensures contours { GivesEach contour_tree result
-        (contours_at (block_tree block.now) (map contour_seen parts.now)) }
+        (each (contour_at (block_tree block.now)) 1 (map contour_seen parts.now)) }
     ensures count { IfOk result (λ contours. length contours.items ≡ length parts.now) }
     ensures are_contours { IfOk result
         (λ contours. All (IsContour (block_tree block.now)) contours.items) }

@@ -1,12 +1,12 @@
 // The bytes that are written of a bouquet.
-ghost use Rattle.std.specs.Prelude.{◌≡◌, ◌≤◌, IfOk, length, map, string_bytes};
+ghost use Rattle.std.specs.Prelude.{◌≡◌, ◌≤◌, Ok, IfOk, length, map, string_bytes};
 ghost use Rattle.std.specs.Str.{IsUtf8};
 ghost use Rattle.serde_json.specs.View.{view, items_view};
 ghost use Rattle.plan_tree.specs.Plans.{plan_tree};
 ghost use Rattle.bouquet_type.specs.Trees.{bouquet_tree, contour_tree};
 ghost use Rattle.bouquet_file.specs.Limits.{max_parameters};
-ghost use Rattle.bouquet_file.specs.Written.{plan_value, contour_value, relation_value, first_version, second_version, file_with, file_value, file_text};
-ghost use Rattle.bouquet_file.specs.Opened.{OpensAs};
+ghost use Rattle.bouquet_file.specs.Opened.{opened};
+ghost use Rattle.bouquet_file.specs.Written.{plan_value, contour_value, relation_value, file_with, file_value, file_text};
 
 use bouquet_type::{Bouquet, Contour};
 use cost_model::RelationStats;
@@ -81,41 +81,42 @@ fn relation_values(alloc: Global, relations: &[RelationStats]) -> Result<Vec<Val
     Ok(values)
 }
 
-// The value of a file of version 1 with these contours and relations.
-fn first_version(
-    alloc: Global,
-    query: &str,
+// What a file of either version says beside the query.
+#[derive(Drop)]
+struct FileMembers {
     levels: usize,
     threshold: u32,
     contours: Vec<Value>,
     relations: Vec<Value>,
-) -> Result<Value, AllocError>
-    ensures { IfOk result (λ value. view value ≡ first_version query.now levels threshold
-        (items_view contours.items) (items_view relations.items)) }
-{
-    json!(in alloc; {
-        "bouquet": 1u64,
-        "contours": contours,
-        "levels": levels,
-        "query": query,
-        "relations": relations,
-        "threshold": threshold,
-    })
 }
 
-// The same of version 2.
-fn second_version(
+// The value of a file of a query with so many parameters.
+fn file_with(
     alloc: Global,
     query: &str,
     parameters: usize,
-    levels: usize,
-    threshold: u32,
-    contours: Vec<Value>,
-    relations: Vec<Value>,
+    members: FileMembers,
 ) -> Result<Value, AllocError>
-    ensures { IfOk result (λ value. view value ≡ second_version query.now parameters levels threshold
-        (items_view contours.items) (items_view relations.items)) }
+    ensures { IfOk result (λ value. view value
+        ≡ file_with query.now parameters members.levels members.threshold
+        (items_view members.contours.items) (items_view members.relations.items)) }
 {
+    let FileMembers {
+        levels,
+        threshold,
+        contours,
+        relations,
+    } = members;
+    if parameters == 0 {
+        return json!(in alloc; {
+            "bouquet": 1u64,
+            "contours": contours,
+            "levels": levels,
+            "query": query,
+            "relations": relations,
+            "threshold": threshold,
+        });
+    }
     json!(in alloc; {
         "bouquet": 2u64,
         "contours": contours,
@@ -127,28 +128,6 @@ fn second_version(
     })
 }
 
-// The value of a file of a query with so many parameters.
-fn file_with(
-    alloc: Global,
-    query: &str,
-    parameters: usize,
-    levels: usize,
-    threshold: u32,
-    contours: Vec<Value>,
-    relations: Vec<Value>,
-) -> Result<Value, AllocError>
-    ensures { IfOk result (λ value. view value ≡ file_with query.now parameters levels threshold
-        (items_view contours.items) (items_view relations.items)) }
-{
-    if parameters == 0 {
-        first_version(alloc, query, levels, threshold, contours, relations)
-    } else {
-        second_version(
-            alloc, query, parameters, levels, threshold, contours, relations,
-        )
-    }
-}
-
 // The value of a file.
 fn file_value(alloc: Global, bouquet: &Bouquet, query: &str) -> Result<Value, AllocError>
     ensures { IfOk result
@@ -158,15 +137,13 @@ fn file_value(alloc: Global, bouquet: &Bouquet, query: &str) -> Result<Value, Al
     let relations = relation_values(alloc, bouquet.stats().relations.as_slice())?;
     let parameters = bouquet.block().parameters().len();
     let levels = bouquet.grid().levels();
-    file_with(
-        alloc,
-        query,
-        parameters,
+    let members = FileMembers {
         levels,
-        bouquet.threshold(),
+        threshold: bouquet.threshold(),
         contours,
         relations,
-    )
+    };
+    file_with(alloc, query, parameters, members)
 }
 
 /// The file of a bouquet with the canonical text of its query: one compact JSON object, its keys in ascending order, without
@@ -176,8 +153,8 @@ pub fn to_bytes(alloc: Global, bouquet: &Bouquet, query: &[u8]) -> Result<Vec<u8
     requires parameters { length bouquet.now.block.parameters ≤ max_parameters }
     ensures text { IfOk result (λ bytes. bytes.items
         ≡ file_text (bouquet_tree bouquet.now) query.now) }
-    ensures opens { IfOk result
-        (λ bytes. OpensAs bytes.items query.now (bouquet_tree bouquet.now)) }
+    ensures opens { let tree = bouquet_tree bouquet.now in IfOk result (λ bytes.
+        opened bytes.items query.now tree.costing.block tree.costing.stats ≡ Ok tree) }
 {
     prove!(!bouquet.contours().is_empty());
     let Ok(query) = str::from_utf8(query) else {
