@@ -17,7 +17,7 @@ use Rattle.heap_pages.specs.Rows.{cut_rows}
 use Rattle.sql_values.specs.Stored.{ValueRow, IsRowOf, AreWords, row_of, texts_in}
 use Rattle.db_catalog.specs.declared.table.Table.{Table}
 use Rattle.db_catalog.specs.Database.{new_table, table_at, more_rows, more_indexed, with_rows}
-use Rattle.db_catalog.specs.Indexes.{kept_index, no_indexes}
+use Rattle.db_catalog.specs.Indexes.{kept_index}
 use Rattle.db_catalog.specs.Kept.{MeanRows, SameRows, TakesWords, AppendsWords, IndexesColumn, with_column, IsBatch, stored_table, kept_words, IsKept, AreKept}
 use Rattle.db_catalog.specs.Refused.{words_in}
 use Rattle.db_catalog.proofs.BatchParts.{rows_of, texts_in-ended, map-row_of-Begins, MeanRows-Begins}
@@ -141,41 +141,54 @@ batch_texts columns more rows words row room texts batch whole =
     ap (with_texts texts) (batch.exact_texts ∙ ap (λ r. with_texts [] (texts_in (rows_of more columns rows words ++ r ∷ []))) whole ∙ ap (with_texts []) (texts_in-ended (rows_of more columns rows words)))
     ∙ with_texts-with_texts texts [] (texts_in (rows_of more columns rows words))
 
--- a database after the words of a batch were appended
-pub batch_appended : (names texts more new : List (List ℕ)) (tables tables' : List Table) (number : ℕ) (columns : List ColumnDef) (rows : ℕ) (words words' row : List ℤ) (room : ℕ) →
-    AreKept names texts tables → number < length tables → IsBatch columns more rows words row room → row_of more columns row ≡ [] →
-    columns ≡ (table_at (database_of texts tables) number).columns → new ≡ with_texts texts more → IsDistinct bytes_eq new →
-    SameRows columns more new (cut_rows (length columns) rows words) (cut_rows (length columns) rows words') → AppendsWords number rows words' tables tables' →
+-- the words of a batch that were appended to a table of a database: what is known of both before, and what was made of them
+pub record IsBatchAppended (names texts more new : List (List ℕ)) (tables tables' : List Table) (number : ℕ) (columns : List ColumnDef) (rows : ℕ) (words words' row : List ℤ) (room : ℕ) : Type 0 where
+  pub kept : AreKept names texts tables
+  pub there : number < length tables
+  pub batch : IsBatch columns more rows words row room
+  pub whole : row_of more columns row ≡ []
+  pub same_columns : columns ≡ (table_at (database_of texts tables) number).columns
+  pub is_new : new ≡ with_texts texts more
+  pub distinct : IsDistinct bytes_eq new
+  pub same : SameRows columns more new (cut_rows (length columns) rows words) (cut_rows (length columns) rows words')
+  pub appends : AppendsWords number rows words' tables tables'
+
+-- a database after that
+pub batch_appended : {names texts more new : List (List ℕ)} {tables tables' : List Table} {number : ℕ} {columns : List ColumnDef} {rows : ℕ} {words words' row : List ℤ} {room : ℕ} →
+    IsBatchAppended names texts more new tables tables' number columns rows words words' row room →
     AreKept names new tables' × (database_of new tables' ≡ with_rows (database_of texts tables) number (rows_of more columns rows words))
-batch_appended names texts more new tables tables' number columns rows words words' row room kept there batch whole same_columns is_new distinct same appends = (
+batch_appended {names = names} {texts = texts} {more = more} {new = new} {tables = tables} {tables' = tables'} {number = number} {columns = columns} {rows = rows} {words = words} {words' = words'} {row = row} {room = room} is = (
   subst (AreKept names new) (sym tables_are) done.kept,
-  λ i. record { tables = (ap (map (stored_table new)) tables_are ∙ done.seen) i; index_names = []; texts = (is_new ∙ batch_texts columns more rows words row room texts batch whole) i },
+  λ i. record { tables = (ap (map (stored_table new)) tables_are ∙ done.seen) i; index_names = []; texts = (is.is_new ∙ batch_texts columns more rows words row room texts is.batch is.whole) i },
 )
   where
-    columns_are : columns ≡ appends.table.columns.items
-    columns_are = same_columns ∙ ap (λ t. t.columns) (table_at-database_of texts tables number appends.table there appends.there)
+    table : Table
+    table = is.appends.table
 
-    width_is : appends.table.heap.columns ≡ length columns
-    width_is = (kept_at names texts tables number appends.table kept there appends.there).width ∙ ap length (sym columns_are)
+    columns_are : columns ≡ table.columns.items
+    columns_are = is.same_columns ∙ ap (λ t. t.columns) (table_at-database_of texts tables number table is.there is.appends.there)
 
-    mean : MeanRows new appends.table.columns.items (cut_rows appends.table.heap.columns rows words')
-    mean = subst (λ cs. MeanRows new cs (cut_rows appends.table.heap.columns rows words')) columns_are (subst (λ w. MeanRows new columns (cut_rows w rows words')) (sym width_is) same.mean)
+    width_is : table.heap.columns ≡ length columns
+    width_is = (kept_at names texts tables number table is.kept is.there is.appends.there).width ∙ ap length (sym columns_are)
 
-    valued : map (row_of new appends.table.columns.items) (cut_rows appends.table.heap.columns rows words') ≡ rows_of more columns rows words
-    valued = (λ i. map (row_of new (sym columns_are i)) (cut_rows (width_is i) rows words')) ∙ same.same
+    mean : MeanRows new table.columns.items (cut_rows table.heap.columns rows words')
+    mean = subst (λ cs. MeanRows new cs (cut_rows table.heap.columns rows words')) columns_are (subst (λ w. MeanRows new columns (cut_rows w rows words')) (sym width_is) is.same.mean)
 
-    takes : TakesWords rows words' appends.table appends.after
-    takes = appends.takes
+    valued : map (row_of new table.columns.items) (cut_rows table.heap.columns rows words') ≡ rows_of more columns rows words
+    valued = (λ i. map (row_of new (sym columns_are i)) (cut_rows (width_is i) rows words')) ∙ is.same.same
+
+    takes : TakesWords rows words' table is.appends.after
+    takes = is.appends.takes
 
     after : Table
-    after = record appends.table { heap = takes.heap; indexes = takes.indexes }
+    after = record table { heap = takes.heap; indexes = takes.indexes }
 
     tables_are : tables' ≡ set tables number after
-    tables_are = appends.tables ∙ ap (set tables number) takes.table
+    tables_are = is.appends.tables ∙ ap (set tables number) takes.table
 
     done : HasAppended names texts new tables number after (rows_of more columns rows words)
-    done = appended names texts new tables number appends.table after (cut_rows appends.table.heap.columns rows words') (rows_of more columns rows words)
-        kept there appends.there (subst (Begins texts) (sym is_new) (Begins-with_texts texts texts more (Begins_itself texts))) distinct refl refl takes.columns takes.appended takes.indexed takes.entries mean valued
+    done = appended names texts new tables number table after (cut_rows table.heap.columns rows words') (rows_of more columns rows words)
+        is.kept is.there is.appends.there (subst (Begins texts) (sym is.is_new) (Begins-with_texts texts texts more (Begins_itself texts))) is.distinct refl refl takes.columns takes.appended takes.indexed takes.entries mean valued
 
 none_indexed : IsDistinct nat_eq []
 unfolding IsDistinct
@@ -225,7 +238,7 @@ column_indexed names texts tables tables' number column kept there exists free m
 pub table_appended : (names texts : List (List ℕ)) (tables : List Table) (table : Table) (name : List ℕ) (columns : List ColumnDef) →
     AreKept names texts tables → has_text names name ≡ false → length tables + 1 ≤ max_tables → 1 ≤ length columns → length columns ≤ max_columns →
     table.name ≡ name → table.columns.items ≡ columns → table.heap.columns ≡ length columns → table.heap.rows ≡ [] →
-    table.indexes ≡ no_indexes → AreKept (with_text names name) texts (tables ++ table ∷ [])
+    table.indexes ≡ record { columns = []; entries = [] } → AreKept (with_text names name) texts (tables ++ table ∷ [])
 table_appended names texts tables table name columns kept new few some few_columns named has wide none unindexed = record {
   names_of_tables =
       ap (λ b. if b then names else names ++ name ∷ []) new
@@ -247,7 +260,7 @@ table_appended names texts tables table name columns kept new few some few_colum
 
 -- and is seen behind them
 pub table_seen : (texts : List (List ℕ)) (tables : List Table) (table : Table) (name : List ℕ) (columns : List ColumnDef) →
-    table.name ≡ name → table.columns.items ≡ columns → table.heap.rows ≡ [] → table.indexes ≡ no_indexes →
+    table.name ≡ name → table.columns.items ≡ columns → table.heap.rows ≡ [] → table.indexes ≡ record { columns = []; entries = [] } →
     map (stored_table texts) (tables ++ table ∷ []) ≡ map (stored_table texts) tables ++ new_table name columns ∷ []
 table_seen texts tables table name columns named has none unindexed =
     map-append (stored_table texts) tables (table ∷ [])

@@ -12,11 +12,11 @@ use Rattle.sql_values.specs.Dictionary.{code_of}
 use Rattle.sql_values.specs.Words.{IsWord}
 use Rattle.sql_values.specs.Stored.{StoredTable, StandsFor, IsRowOf, AreWords, row_of}
 use Rattle.sql_values.proofs.Stored.{StandsFor-row_of}
-use Rattle.heap_pages.specs.Rows.{pages_of}
+use Rattle.heap_pages.specs.Rows.{IsSlot, pages_of}
 use Rattle.db_catalog.specs.declared.table.Table.{Table}
 use Rattle.db_catalog.specs.Database.{DatabaseState, new_table, table_at, row_at, table_number, IsRowAt, StandAsWords}
 use Rattle.db_catalog.specs.Indexes.{entries_from, ordered, index_at, kept_index}
-use Rattle.db_catalog.specs.Meter.{table_pages, HasSlot}
+use Rattle.db_catalog.specs.Meter.{table_pages}
 use Rattle.db_catalog.specs.Kept.{MeanRows, IsWide, HasWords, HasColumn, stored_table, IsKept, IsHeapOf, AreKept}
 use Rattle.db_catalog.proofs.OfIndexes.{entries_seen}
 
@@ -112,7 +112,7 @@ page_there db number page = has_table (λ t. page < pages_of (length t.columns) 
 pub index_there : (db : DatabaseState) (number column : ℕ) → Contains (table_at db number).indexed column → number < length db.tables
 index_there db number column = has_table (λ t. Contains t.indexed column) db.tables number (λ (_, h, _). omega (arith, h))
 
-pub slot_there : (db : DatabaseState) (number page slot : ℕ) → HasSlot db number page slot → number < length db.tables
+pub slot_there : (db : DatabaseState) (number page slot : ℕ) → IsSlot (length (table_at db number).columns) (length (table_at db number).rows) page slot → number < length db.tables
 slot_there db number page slot has = row_there db number _ has.there
 
 -- the code of a name is the number of its table

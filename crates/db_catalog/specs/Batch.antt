@@ -10,10 +10,6 @@ pub record BatchState : Type 0 where
   pub rows : List ValueRow
   pub row : ValueRow
 
--- no rows yet, for a table of these columns
-abbrev pub new_batch : List ColumnDef → BatchState
-new_batch columns = record { columns = columns; rows = []; row = [] }
-
 -- the value fits the next column, and there is one
 abbrev pub FitsNext : BatchState → Value → Type 0
 FitsNext batch value =
@@ -26,7 +22,3 @@ with_value batch value = record batch { row = batch.row ++ value ∷ [] }
 -- the next row is one of the rows
 abbrev pub with_row_ended : BatchState → BatchState
 with_row_ended batch = record batch { rows = batch.rows ++ batch.row ∷ []; row = [] }
-
--- a row more
-abbrev pub with_whole_row : BatchState → ValueRow → BatchState
-with_whole_row batch row = record batch { rows = batch.rows ++ row ∷ [] }

@@ -66,7 +66,3 @@ kept_index rows column = ordered (word_entries column 0 rows)
 pub record IndexesState : Type 0 where
   pub columns : List ℕ
   pub entries : List (List IndexEntry)
-
--- no column is indexed
-abbrev pub no_indexes : IndexesState
-no_indexes = record { columns = []; entries = [] }

@@ -1,8 +1,7 @@
 -- What is seen of a metered database.
-use Rattle.std.specs.Prelude.{◌≡◌, ℕ, ◌+◌, ◌*◌, ◌<◌, ◌≤◌, length, List, ℤ, Result}
+use Rattle.std.specs.Prelude.{◌≡◌, ℕ, ◌≤◌, length, List, ℤ, Result}
 use Rattle.work_ledger.specs.Account.{Account, Pays}
-use Rattle.work_ledger.specs.Charges.{page_charge, row_charge}
-use Rattle.heap_pages.specs.Rows.{pages_of, rows_per_page, rows_on_page, row_number}
+use Rattle.heap_pages.specs.Rows.{pages_of, rows_on_page, row_number}
 use Rattle.db_catalog.specs.Database.{DatabaseState, table_at, IsRowAt}
 
 -- the database, and the account of what its reads cost
@@ -20,16 +19,6 @@ abbrev pub page_rows : DatabaseState → ℕ → ℕ → ℕ
 page_rows database number page =
     let table = table_at database number in
     rows_on_page (length table.columns) (length table.rows) page
-
--- what it costs to open a page and to look at each row on it
-abbrev pub whole_page_charge : DatabaseState → ℕ → ℕ → ℕ
-whole_page_charge database number page = page_charge + row_charge * page_rows database number page
-
--- the page has such a slot, and a row stands in it
-pub record HasSlot (database : DatabaseState) (number page slot : ℕ) : Type 0 where
-  pub on_page : slot < rows_per_page (length (table_at database number).columns)
-  pub there : row_number (length (table_at database number).columns) page slot
-      < length (table_at database number).rows
 
 -- the words stand for the row in this slot of this page
 abbrev pub IsRowIn : DatabaseState → ℕ → ℕ → ℕ → List ℤ → Type 0

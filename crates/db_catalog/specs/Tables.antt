@@ -1,12 +1,7 @@
 -- What a database is at first, and what each of its tables has.
-use Rattle.std.specs.Prelude.{◌≤◌, List, [], length}
+use Rattle.std.specs.Prelude.{◌≤◌, List, length}
 use Rattle.sql_values.specs.declared.column.ColumnDef.{ColumnDef}
 use Rattle.sql_values.specs.Limits.{max_columns}
-use Rattle.db_catalog.specs.Database.{DatabaseState}
-
--- no tables
-abbrev pub new_database : DatabaseState
-new_database = record { tables = []; texts = []; index_names = [] }
 
 -- a table has some columns, and no more than a table may have
 pub record AreColumnsOfTable (columns : List ColumnDef) : Type 0 where

@@ -6,10 +6,10 @@ ghost use Rattle.sql_values.specs.declared.value.Value.TheVariants as value;
 ghost use Rattle.sql_values.specs.Stored.{IsRowOf};
 ghost use Rattle.heap_pages.specs.Changes.{Becomes};
 ghost use Rattle.db_catalog.specs.Database.{FillRows, rows_in};
-ghost use Rattle.db_catalog.specs.Batch.{FitsNext, new_batch, with_value, with_row_ended};
-ghost use Rattle.db_catalog.specs.Batch.{with_whole_row};
+ghost use Rattle.db_catalog.specs.Batch.{FitsNext, with_value, with_row_ended};
 
 use crate::columns::copy_of;
+use crate::room::push_within;
 use sql_values::{ColumnDef, NULL_WORD, Texts, Value};
 use std::alloc::{AllocError, Global};
 use std::hash::RandomState;
@@ -46,22 +46,12 @@ impl Model for Batch {
         IsBatch b.columns.items b.texts b.rows b.words.items b.row.items (vec_capacity b.row) };
 }
 
-// Puts a word behind those of a row, for which there is room.
-fn push_within(row: &mut Vec<i64>, word: i64)
-    requires { length row.old.items < vec_capacity row.old }
-    ensures words { row.new.items ≡ row.old.items ++ word ∷ [] }
-    ensures room { vec_capacity row.old ≤ vec_capacity row.new }
-{
-    let Ok(()) = row.push(word) else {
-        unreachable!()
-    };
-}
-
 impl Batch {
     /// No rows yet, for a table of these columns. Their texts are hashed by `key`.
     pub fn new(alloc: Global, key: RandomState, columns: &[ColumnDef]) -> Result<Batch, AllocError>
         requires { 1 ≤ length columns.now }
-        ensures { IfOk result (λ batch. batch ≡ new_batch columns.now) }
+        ensures { IfOk result
+            (λ batch. batch ≡ record { columns = columns.now; rows = []; row = [] }) }
     {
         let row = Vec::with_capacity(alloc, columns.len())?;
         let columns = copy_of(alloc, columns)?;
@@ -127,8 +117,8 @@ impl Batch {
     ) -> Result<Batch, AllocError>
         requires some { 1 ≤ length columns.now }
         requires fill { FillRows columns.now values.now }
-        ensures { IfOk result (λ batch. batch
-            ≡ record (new_batch columns.now) { rows = rows_in columns.now values.now }) }
+        ensures { let rows = rows_in columns.now values.now in
+            IfOk result (λ batch. batch ≡ record { columns = columns.now; rows = rows; row = [] }) }
     {
         let mut batch = Batch::new(alloc, key, columns)?;
         let width = columns.len();
@@ -142,7 +132,8 @@ impl Batch {
     fn put_row(&mut self, row: &[Value]) -> Result<(), AllocError>
         requires empty { self.old.row ≡ [] }
         requires fits { IsRowOf self.old.columns row.now }
-        ensures { OnOk result (self.new ≡ with_whole_row self.old row.now) }
+        ensures { OnOk result
+            (self.new ≡ record self.old { rows = self.old.rows ++ row.now ∷ [] }) }
     {
         for value in row {
             self.put(value)?;

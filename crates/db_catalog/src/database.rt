@@ -6,7 +6,7 @@ ghost use Rattle.std.specs.List.{IsDistinct};
 ghost use Rattle.std.specs.Str.{bytes_eq};
 ghost use Rattle.sql_values.specs.Limits.{max_tables, max_columns, max_rows};
 ghost use Rattle.db_catalog.specs.Database.{with_table, with_rows, with_index, new_table, rows_in};
-ghost use Rattle.db_catalog.specs.Tables.{AreColumnsOfTable, new_database};
+ghost use Rattle.db_catalog.specs.Tables.{AreColumnsOfTable};
 ghost use Rattle.db_catalog.specs.Database.{table_at, table_number, FillRows};
 ghost use Rattle.db_catalog.specs.Meter.{table_pages, page_rows};
 ghost use Rattle.db_catalog.specs.Refused.{Refuses, creation_fault, append_fault, index_fault};
@@ -22,6 +22,7 @@ use crate::batch::Batch;
 use crate::check::{check_columns, check_limit, check_unindexed, duplicate};
 use crate::fault::DbFault;
 use crate::recode::recode;
+use crate::room::push_within;
 use crate::table::Table;
 use heap_pages::{Heap, HeapFault};
 use sql_values::{
@@ -57,16 +58,6 @@ impl Model for Database {
     } };
 
     ghost invariant = { λ d. AreKept d.names d.texts d.tables.items };
-}
-
-// Puts a table behind the others, where there is room for it.
-fn push_within(tables: &mut Vec<Table>, table: Table)
-    requires { length tables.old.items < vec_capacity tables.old }
-    ensures { tables.new.items ≡ tables.old.items ++ table ∷ [] }
-{
-    let Ok(()) = tables.push(table) else {
-        unreachable!()
-    };
 }
 
 // How many words stand in these tables.
@@ -164,7 +155,7 @@ fn check_texts(texts: &Texts) -> Result<(), DbFault>
 impl Database {
     /// A database without tables. Its texts and names are hashed by `key`.
     pub fn new(alloc: Global, key: RandomState) -> Database
-        ensures { result ≡ new_database }
+        ensures { result ≡ record { tables = []; texts = []; index_names = [] } }
     {
         Database {
             alloc,

@@ -34,21 +34,33 @@ pub(crate) fn entries_in(
     Ok(entries)
 }
 
-// The entries of a column in rows whose words follow one another, of which the first has the number `first`.
+// Rows whose words follow one another, of which the first has the number `first`.
+#[derive(Clone, Copy)]
+pub(crate) struct FlatRows<'w> {
+    pub(crate) words: &'w [i64],
+    pub(crate) rows: usize,
+    pub(crate) width: usize,
+    pub(crate) first: u64,
+}
+
+// The entries of a column in such rows.
 pub(crate) fn entries_among(
     alloc: Global,
-    words: &[i64],
-    rows: usize,
-    width: usize,
+    flat: &FlatRows<'_>,
     column: usize,
-    first: u64,
 ) -> Result<Vec<(i64, u64)>, AllocError>
-    requires filled { length words.now ≡ rows * width }
-    requires there { column < width }
-    requires few { first ≤ 2 ^ 62 }
-    ensures { IfOk result (λ entries. entries.items
-        ≡ word_entries column first (cut_rows width rows words.now)) }
+    requires filled { length flat.now.words.now ≡ flat.now.rows * flat.now.width }
+    requires there { column < flat.now.width }
+    requires few { flat.now.first ≤ 2 ^ 62 }
+    ensures { IfOk result (λ entries. entries.items ≡ word_entries column flat.now.first
+        (cut_rows flat.now.width flat.now.rows flat.now.words.now)) }
 {
+    let FlatRows {
+        words,
+        rows,
+        width,
+        first,
+    } = *flat;
     let mut entries = Vec::with_capacity(alloc, rows)?;
     for i in 0..rows {
         let row = &words[i * width..i * width + width];

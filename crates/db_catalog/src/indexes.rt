@@ -6,8 +6,9 @@ ghost use Rattle.std.specs.List.Sorted.{IsPermutation};
 ghost use Rattle.heap_pages.specs.Changes.{Becomes};
 ghost use Rattle.btree_index.specs.Entries.{IsInOrder};
 ghost use Rattle.db_catalog.specs.Database.{DatabaseState};
-ghost use Rattle.db_catalog.specs.Indexes.{no_indexes, column_entries, index_at};
+ghost use Rattle.db_catalog.specs.Indexes.{column_entries, index_at};
 
+use crate::room::push_within;
 use btree_index::Index;
 use std::alloc::{AllocError, Global};
 use std::marker::Model;
@@ -27,16 +28,6 @@ impl Model for Indexes {
     ghost view = { λ x. record { columns = x.columns.items; entries = x.entries.items } };
 }
 
-// Puts a column behind others, for which there is room.
-fn push_within(columns: &mut Vec<u8>, column: u8)
-    requires { length columns.old.items < vec_capacity columns.old }
-    ensures { columns.new.items ≡ columns.old.items ++ column ∷ [] }
-{
-    let Ok(()) = columns.push(column) else {
-        unreachable!()
-    };
-}
-
 // Where a column stands among others.
 pub(crate) fn place_of(columns: &[u8], column: u8) -> usize
     requires { Contains columns.now column }
@@ -54,7 +45,7 @@ pub(crate) fn place_of(columns: &[u8], column: u8) -> usize
 impl Indexes {
     // No index. It takes no memory.
     pub(crate) fn new(alloc: Global) -> Indexes
-        ensures { result ≡ no_indexes }
+        ensures { result ≡ record { columns = []; entries = [] } }
     {
         Indexes {
             columns: Vec::new(alloc),

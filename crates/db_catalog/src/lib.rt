@@ -18,6 +18,7 @@ mod metered;
 mod near;
 mod plain;
 mod recode;
+mod room;
 mod table;
 
 pub use batch::Batch;

@@ -3,6 +3,7 @@
 ghost use Rattle.std.specs.Prelude.{◌≡◌, ℕ, ◌+◌, ◌*◌, ◌<◌, ◌≤◌, drop, length, take, Contains, IfOk};
 ghost use Rattle.btree_index.specs.Cursors.{IsOnRange};
 ghost use Rattle.btree_index.specs.Entries.{HaveWords, entries_left, next_charge};
+ghost use Rattle.heap_pages.specs.Rows.{IsSlot};
 ghost use Rattle.work_ledger.specs.Account.{IsInBounds, max_account};
 ghost use Rattle.work_ledger.specs.Budget.{granted, new_account};
 ghost use Rattle.work_ledger.specs.Charges.{page_charge, row_charge, fetch_charge, node_charge};
@@ -11,7 +12,7 @@ ghost use Rattle.db_catalog.specs.Database.{IsRowAt, StandAsWords, table_at};
 ghost use Rattle.db_catalog.specs.Tables.{AreColumnsOfTable};
 ghost use Rattle.db_catalog.specs.Indexes.{index_at, index_height};
 ghost use Rattle.db_catalog.specs.Cursors.{GivesNext, IsCursorOf};
-ghost use Rattle.db_catalog.specs.Meter.{Reads, HasSlot, table_pages, page_rows, whole_page_charge, IsRowIn};
+ghost use Rattle.db_catalog.specs.Meter.{Reads, table_pages, page_rows, IsRowIn};
 
 use crate::database::Database;
 use crate::near::{Near, is_at_first, near_entries};
@@ -143,7 +144,7 @@ impl<'d> Metered<'d> {
     pub fn open_page(&mut self, table: u32, no: u64) -> Result<usize, Exhausted>
         requires { no < table_pages self.old.database table }
         ensures rows { IfOk result (λ rows. rows ≡ page_rows self.old.database table no) }
-        ensures reads { Reads (whole_page_charge self.old.database table no)
+        ensures reads { Reads (page_charge + row_charge * page_rows self.old.database table no)
             self.old self.new result }
     {
         let rows = self.database.rows_on_page(table, no);
@@ -166,7 +167,8 @@ impl<'d> Metered<'d> {
 
     /// The words of the row in this slot, from 0, of an opened page, which pays for the row.
     pub fn row(&mut self, table: u32, view: &PageView, slot: usize) -> Result<&'d [i64], Exhausted>
-        requires { HasSlot self.old.database table view.now.number slot }
+        requires { let read = table_at self.old.database table in
+            IsSlot (length read.columns) (length read.rows) view.now.number slot }
         ensures row { IfOk result (λ words.
             IsRowIn self.old.database table view.now.number slot words.now) }
         ensures reads { Reads row_charge self.old self.new result }

@@ -2,11 +2,11 @@
 ghost use Rattle.std.specs.Prelude.{◌≡◌, ◌^◌, ◌<◌, ◌≤◌, ◌++◌, [], length, map, slice_index_or, Contains, IfOk, OnOk, OnErr};
 ghost use Rattle.sql_values.specs.Limits.{max_columns};
 ghost use Rattle.heap_pages.specs.Rows.{cut_rows};
-ghost use Rattle.db_catalog.specs.Indexes.{kept_index, no_indexes};
+ghost use Rattle.db_catalog.specs.Indexes.{kept_index};
 ghost use Rattle.db_catalog.specs.Kept.{AreIndexes, IsWide, HasWords, TakesWords, with_column};
 
 use crate::columns::copy_of;
-use crate::entries::{entries_among, entries_in};
+use crate::entries::{FlatRows, entries_among, entries_in};
 use crate::indexes::{Indexes, place_of};
 use btree_index::Index;
 use heap_pages::{Heap, HeapFault};
@@ -35,7 +35,8 @@ impl Table {
         ensures columns { IfOk result (λ table. table.columns.items ≡ columns.now) }
         ensures width { IfOk result (λ table. table.heap.columns ≡ length columns.now) }
         ensures rows { IfOk result (λ table. table.heap.rows ≡ []) }
-        ensures indexes { IfOk result (λ table. table.indexes ≡ no_indexes) }
+        ensures indexes { IfOk result (λ table.
+            table.indexes ≡ record { columns = []; entries = [] }) }
     {
         let name = Text::new(alloc, name)?;
         let heap = Heap::new(alloc, columns.len());
@@ -116,7 +117,13 @@ impl Table {
         let column = self.indexes.columns()[place] as usize;
         let width = self.columns.len();
         let first = self.heap.rows();
-        let mut more = entries_among(alloc, words, rows as usize, width, column, first)?;
+        let flat = FlatRows {
+            words,
+            rows: rows as usize,
+            width,
+            first,
+        };
+        let mut more = entries_among(alloc, &flat, column)?;
         more.sort_unstable();
         self.indexes.entries()[place].merged(alloc, &more)
     }

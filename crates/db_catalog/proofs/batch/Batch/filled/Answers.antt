@@ -1,8 +1,7 @@
-use Rattle.std.proofs.Common.{◌≡◌, ◌≤◌, ◌+◌, ◌-◌, ◌*◌, ◌/◌, ◌∙◌, [], sym, ap, subst, length, take, drop, get_or, arith}
+use Rattle.std.proofs.Common.{◌≡◌, ◌≤◌, ◌+◌, ◌-◌, ◌*◌, ◌/◌, ◌∙◌, [], sym, ap, subst, length, take, drop, get_or, arith, ◌++◌, ◌∷◌}
 use Rattle.std.proofs.Math.Nat.{div-mul-le_self, mul-le-mul_right}
 use Rattle.sql_values.specs.Stored.{IsRowOf}
 use Rattle.heap_pages.specs.Rows.{cut_rows}
-use Rattle.db_catalog.specs.Batch.{with_whole_row}
 use Rattle.db_catalog.proofs.Cut.{cut_last, get_or-cut_rows, long_cut}
 use Rattle.db_catalog.proofs.batch.Batch.filled.Goals as goal
 
@@ -49,7 +48,7 @@ loop-i-preserved c =
     let start = c.loop-i.i * width in
     let is_width : start + width - start ≡ width = omega arith in
     c.in_ok-put_row.ensures
-    ∙ (λ j. with_whole_row (c.loop-i.invariant j) (take (is_width j) (drop start c.args.values.now)))
+    ∙ (λ j. record (c.loop-i.invariant j) { rows = (c.loop-i.invariant j).rows ++ take (is_width j) (drop start c.args.values.now) ∷ [] })
     ∙ ap (λ rows. record { columns = c.args.columns.now; rows = rows; row = [] }) (sym (cut_last width c.loop-i.i c.args.values.now))
 
 pub returns : goal.returns

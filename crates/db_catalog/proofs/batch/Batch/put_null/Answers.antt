@@ -10,8 +10,8 @@ use Rattle.db_catalog.proofs.batch.Batch.put_null.Goals as goal
 pub push_within-requires : goal.push_within-requires
 push_within-requires c = next_within _ _ _ _ _ _ value.Null c.self.invariant (subst (λ b. FitsNext b value.Null) (sym c.self.view_is) c.requires)
 
-one : (c : goal.After-push_within) → OneMore c.self.inside.columns.items c.self.inside.texts c.self.inside.texts c.self.inside.rows c.self.inside.words.items c.self.inside.row.items c.push_within.new.row.items (vec_capacity c.self.inside.row) value.Null
-one c = put_value _ _ _ _ _ _ value.Null c.self.invariant (subst (λ b. FitsNext b value.Null) (sym c.self.view_is) c.requires) _ _ null_word (Begins_itself _) refl (λ column fits. (IsWord-null c.self.inside.texts column.kind, NULL_is_null c.self.inside.texts column.kind)) c.push_within.ensures.words
+one : (c : goal.After-push_within) → OneMore c.self.inside.columns.items c.self.inside.texts c.self.inside.texts c.self.inside.rows c.self.inside.words.items c.self.inside.row.items c.push_within.new.items.items (vec_capacity c.self.inside.row) value.Null
+one c = put_value _ _ _ _ _ _ value.Null c.self.invariant (subst (λ b. FitsNext b value.Null) (sym c.self.view_is) c.requires) _ _ null_word (Begins_itself _) refl (λ column fits. (IsWord-null c.self.inside.texts column.kind, NULL_is_null c.self.inside.texts column.kind)) c.push_within.ensures.items
 
 pub invariant_of-self : goal.invariant_of-self
 invariant_of-self c = more_room _ _ _ _ _ _ _ (one c).batch c.push_within.ensures.room

@@ -13,7 +13,7 @@ use Rattle.db_catalog.proofs.Refusals.{out_of_memory, unchanged_on, exact_refuse
 use Rattle.db_catalog.proofs.Cut.{long_cut}
 use Rattle.db_catalog.proofs.BatchParts.{rows_of}
 use Rattle.db_catalog.proofs.Tables.{database_of, named, is_kept, has_words}
-use Rattle.db_catalog.proofs.Appended.{batch_texts, batch_appended}
+use Rattle.db_catalog.proofs.Appended.{batch_texts, IsBatchAppended, batch_appended}
 use Rattle.db_catalog.proofs.database.Database.append_batch.Goals as goal
 
 -- a batch has as many rows as its words are cut into
@@ -97,8 +97,18 @@ done c =
     let same : SameRows c.batch.inside.columns.items c.batch.inside.texts c.settle.new.texts (cut_rows (length c.batch.inside.columns.items) c.batch.inside.rows c.batch.inside.words.items) (cut_rows (length c.batch.inside.columns.items) c.batch.inside.rows c.settle.new.words) =
     subst (λ cs. SameRows cs c.batch.inside.texts c.settle.new.texts (cut_rows (length cs) c.batch.inside.rows c.batch.inside.words.items) (cut_rows (length cs) c.batch.inside.rows c.settle.new.words)) c.deref.ensures.value
     (subst (λ ws. SameRows c.deref.result.now c.batch.inside.texts c.settle.new.texts (cut_rows (length c.deref.result.now) c.batch.inside.rows ws) (cut_rows (length c.deref.result.now) c.batch.inside.rows c.settle.new.words)) c.deref_mut.ensures.value c.in_ok-settle.ensures.words) in
-    batch_appended c.self.inside.names c.self.inside.texts c.batch.inside.texts c.settle.new.texts c.self.inside.tables.items c.append_words.new.tables c.args.table c.batch.inside.columns.items c.batch.inside.rows c.batch.inside.words.items c.settle.new.words c.batch.inside.row.items _
-    c.self.invariant there c.batch.invariant whole columns c.in_ok-settle.ensures.texts c.len.ensures.distinct same appends
+    let appended : IsBatchAppended c.self.inside.names c.self.inside.texts c.batch.inside.texts c.settle.new.texts c.self.inside.tables.items c.append_words.new.tables c.args.table c.batch.inside.columns.items c.batch.inside.rows c.batch.inside.words.items c.settle.new.words c.batch.inside.row.items _ = record {
+      kept = c.self.invariant;
+      there = there;
+      batch = c.batch.invariant;
+      whole = whole;
+      same_columns = columns;
+      is_new = c.in_ok-settle.ensures.texts;
+      distinct = c.len.ensures.distinct;
+      same = same;
+      appends = appends;
+    } in
+    batch_appended appended
 
 pub invariant_of-self-else-is_err : goal.invariant_of-self-else-is_err
 invariant_of-self-else-is_err c =

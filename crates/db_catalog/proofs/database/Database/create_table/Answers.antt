@@ -21,15 +21,15 @@ invariant_of-self-2 c =
     let free : has_text c.self.inside.names c.args.name.now ≡ false = subst (λ ns. has_text ns c.args.name.now ≡ false) seen (not_taken names c.args.name.now name.0) in
     let few : length c.self.inside.tables.items + 1 ≤ max_tables =
     omega (arith, within limit.Tables max_tables (length c.args.self.now.tables + 1) tables.0, ap (λ db. length db.tables) c.self.view_is, length-map c.self.inside.tables.items (stored_table c.self.inside.texts)) in
-    let put : c.push_within.new.tables.items ≡ c.self.inside.tables.items ++ c.in_ok-table.table ∷ [] = c.push_within.ensures ∙ ap (λ l. l ++ c.in_ok-table.table ∷ []) c.in_ok-reserve.ensures.items in
-    subst (λ ns. AreKept ns c.self.inside.texts c.push_within.new.tables.items) (sym c.in_ok-add.ensures.texts)
+    let put : c.push_within.new.items.items ≡ c.self.inside.tables.items ++ c.in_ok-table.table ∷ [] = c.push_within.ensures.items ∙ ap (λ l. l ++ c.in_ok-table.table ∷ []) c.in_ok-reserve.ensures.items in
+    subst (λ ns. AreKept ns c.self.inside.texts c.push_within.new.items.items) (sym c.in_ok-add.ensures.texts)
     (subst (AreKept (with_text c.self.inside.names c.args.name.now) c.self.inside.texts) (sym put)
     (table_appended c.self.inside.names c.self.inside.texts c.self.inside.tables.items c.in_ok-table.table c.args.name.now c.args.columns.now c.self.invariant free few c.requires.some
     (within limit.Columns max_columns (length c.args.columns.now) columns.0) c.in_ok-table.ensures.name c.in_ok-table.ensures.columns c.in_ok-table.ensures.width c.in_ok-table.ensures.rows c.in_ok-table.ensures.indexes))
 
 pub returns-clause-created : goal.returns-clause-created
 returns-clause-created c =
-    let put : c.push_within.new.tables.items ≡ c.self.inside.tables.items ++ c.in_ok-table.table ∷ [] = c.push_within.ensures ∙ ap (λ l. l ++ c.in_ok-table.table ∷ []) c.in_ok-reserve.ensures.items in
+    let put : c.push_within.new.items.items ≡ c.self.inside.tables.items ++ c.in_ok-table.table ∷ [] = c.push_within.ensures.items ∙ ap (λ l. l ++ c.in_ok-table.table ∷ []) c.in_ok-reserve.ensures.items in
     let seen = ap (map (stored_table c.self.inside.texts)) put
     ∙ table_seen c.self.inside.texts c.self.inside.tables.items c.in_ok-table.table c.args.name.now c.args.columns.now c.in_ok-table.ensures.name c.in_ok-table.ensures.columns c.in_ok-table.ensures.rows c.in_ok-table.ensures.indexes in
     record {
