@@ -14,14 +14,14 @@ use Rattle.plan_tree.specs.Plans.{PlanTree, Nest, Hash, Merge, IndexLoop, covers
 use Rattle.plan_tree.specs.Order.{plan_order_of}
 use Rattle.plan_tree.specs.Sides.{side_order}
 use Rattle.plan_tree.specs.Roots.{root_of, root_numbers, IsSplit, Stands}
-use Rattle.plan_tree.specs.AllPlans.{roots_of, pairs_by, trees_of, plans_at, plans_below, plans_of, AreAllPlans}
+use Rattle.plan_tree.specs.AllPlans.{roots_of, pairs_by, trees_of, plans_at, plans_below, plans_of}
 use Rattle.plan_tree.proofs.Members.{IsIn, of-map}
 use Rattle.plan_tree.proofs.PlanOrder.{total, by-nodes}
 use Rattle.plan_tree.proofs.Outermost.{numbers-of}
 use Rattle.plan_tree.proofs.Ascending.{Ascends, between, ascending-pairs, ascending-flat, ascending-map}
 use Rattle.plan_tree.proofs.RootLists.{of-roots}
 use Rattle.plan_tree.proofs.AscendingRoots.{IsEarlier, roots-ascend}
-use Rattle.plan_tree.proofs.Enumerated.{plans_for, looked-up, SidesAreOf, right-less, of-over, sides-of-set, last-list, plans-listed}
+use Rattle.plan_tree.proofs.Enumerated.{plans_for, looked-up, SidesAreOf, right-less, of-over, sides-of-set, last-list}
 
 abbrev IsBefore : PlanTree → PlanTree → Type 0
 IsBefore a b = plan_order_of a b ≡ Less
@@ -123,6 +123,3 @@ plans-ascend block =
     let last = 2 ^ length block.relations - 1 in
     ascending-pairs IsBefore (plans_of block)
     (subst (Ascends IsBefore) (sym (last-list block)) (set-ascends block (suc last) last (omega arith)))
-
-pub all-plans : (block : BlockTree) → AreAllPlans block (plans_of block)
-all-plans block = record { all = plans-listed block; ascending = plans-ascend block }

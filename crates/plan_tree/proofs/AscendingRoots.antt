@@ -12,10 +12,10 @@ use Rattle.query_block.specs.Blocks.{BlockTree, relation_at}
 use Rattle.plan_tree.specs.declared.roots.Root.{Root}
 use Rattle.plan_tree.specs.declared.roots.Root.TheVariants as root
 use Rattle.plan_tree.specs.Roots.{root_numbers, stands}
-use Rattle.plan_tree.specs.AllPlans.{by_each, one_each, end_of_columns, scans_of, column_scans, index_scans_of, nests_of, joins_by, index_loop_by, candidates, roots_of}
+use Rattle.plan_tree.specs.AllPlans.{by_each, one_each, end_of_columns, scans_of, column_scans, index_scans_of, nests_of, joins_by, index_loop_by, roots_of}
 use Rattle.plan_tree.proofs.Members.{IsIn, of-either}
 use Rattle.plan_tree.proofs.Ascending.{Ascends, AllBefore, between, ascending-both, ascending-filter, ascending-flat, ascending-range}
-use Rattle.plan_tree.proofs.RootLists.{of-each, of-one, of-one_each, hashes, merges, index_loops, until_index_scans, until_nests, until_hashes, until_merges}
+use Rattle.plan_tree.proofs.RootLists.{tried_nodes, of-each, of-one, of-one_each, hashes, merges, index_loops, until_index_scans, until_nests, until_hashes, until_merges}
 
 abbrev pub IsEarlier : Root → Root → Type 0
 IsEarlier a b = slice_cmp nat_cmp (root_numbers a) (root_numbers b) ≡ Less
@@ -123,8 +123,7 @@ module _ (block : BlockTree) (set : ℕ) where
             ap kind_number (sym found.1) ∙ ap (λ (xs : List ℕ). slice_index_or xs 0 0) (numbers each.0 found.0);
       }
 
-  candidates-ascend : Ascends IsEarlier (candidates block set)
-  unfolding candidates
+  candidates-ascend : Ascends IsEarlier (tried_nodes block set)
   candidates-ascend =
       let none : AreBeforeKind 0 [] = record { ascends = tt; less = λ node is. absurd is } in
       let scans = and-next 0 [] (scans_of block) none scans-ascend in
@@ -136,4 +135,4 @@ module _ (block : BlockTree) (set : ℕ) where
 
   pub roots-ascend : Ascends IsEarlier (roots_of block set)
   unfolding roots_of
-  roots-ascend = ascending-filter IsEarlier (stands block set) (candidates block set) candidates-ascend
+  roots-ascend = ascending-filter IsEarlier (stands block set) (tried_nodes block set) candidates-ascend

@@ -7,7 +7,8 @@ use Rattle.std.proofs.lemmas.Nat.{leading_length}
 use Rattle.std.proofs.lemmas.Grind.{pow_more}
 use Rattle.std.proofs.Math.Nat.{pow-le-pow_right, lt_of_not-le}
 use Rattle.btree_index.specs.Height.{least_from}
-use Rattle.plan_tree.specs.Work.{bits}
+use Rattle.std.proofs.lemmas.Nat.{mul-le}
+use Rattle.plan_tree.specs.Work.{bits, sort_work}
 
 -- the least number that passes, where all before it fail
 pub least-is : (more at k : ℕ) (test : ℕ → Bool) → at ≤ k → k ≤ at + more → ((j : ℕ) → at ≤ j → j < k → test j ≡ false) → test k ≡ true
@@ -63,6 +64,10 @@ bits-le n m le =
     let one = some-digits n in
     let other = some-digits m in
     omega (arith, bits-is n one.0 one.1, bits-is m other.0 other.1, digits-le n m one.0 other.0 le one.1 other.1)
+
+-- so sorting fewer rows costs no more
+pub sort-le : (n m : ℕ) → n ≤ m → sort_work n ≤ sort_work m
+sort-le n m le = mul-le n (bits n) m (bits m) le (bits-le n m le)
 
 -- a number below a power of two has no more digits than the exponent
 pub digits-within : (n digits most : ℕ) → n < 2 ^ most → HasDigits n digits → digits ≤ most

@@ -6,9 +6,9 @@ use Rattle.query_block.specs.Blocks.{BlockTree}
 use Rattle.plan_tree.specs.declared.roots.Root.{Root}
 use Rattle.plan_tree.specs.declared.roots.Root.TheVariants as root
 use Rattle.plan_tree.specs.Roots.{Stands, stands}
-use Rattle.plan_tree.specs.AllPlans.{candidates, roots_of}
+use Rattle.plan_tree.specs.AllPlans.{roots_of}
 use Rattle.plan_tree.specs.Listing.{HasLeftOf}
-use Rattle.plan_tree.proofs.RootLists.{of-stands}
+use Rattle.plan_tree.proofs.RootLists.{tried_nodes, of-stands}
 
 all-filter : {X : Type 0} (P : X → Type 0) (test : X → Bool) (xs : List X) → ((x : X) → test x ≡ true → P x) → All P (filter test xs)
 all-filter P test [] has = All-nil P
@@ -29,4 +29,4 @@ left-of block set (root.IndexLoop edge left relation) (split, crossed, look) = (
 pub left-sides : (block : BlockTree) (set : ℕ) → All (λ node. HasLeftOf node set) (roots_of block set)
 unfolding roots_of
 left-sides block set =
-    all-filter (λ node. HasLeftOf node set) (stands block set) (candidates block set) (λ node is. left-of block set node (of-stands block set node is))
+    all-filter (λ node. HasLeftOf node set) (stands block set) (tried_nodes block set) (λ node is. left-of block set node (of-stands block set node is))

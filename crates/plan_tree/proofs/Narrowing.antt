@@ -13,7 +13,7 @@ use Rattle.std.proofs.lemmas.Map.Text.{is_eq-slice_cmp}
 use Rattle.std.proofs.lemmas.Slice.Eq.{bytes_eq-Decides}
 use Rattle.std.proofs.Math.Bool.{or_comm}
 use Rattle.sql_values.specs.declared.op.Op.{Op}
-use Rattle.sql_values.specs.declared.op.Op.TheVariants.{Eq}
+use Rattle.sql_values.specs.declared.op.Op.TheVariants.{Eq, Ne, Lt, Le, Gt, Ge}
 use Rattle.sql_values.specs.declared.column.ColumnType.{ColumnType}
 use Rattle.sql_values.specs.declared.column.ColumnType.TheVariants.{Integer}
 use Rattle.sql_values.specs.declared.value.Value.{Value}
@@ -25,12 +25,15 @@ use Rattle.sql_values.proofs.ValueOrder.{total}
 use Rattle.sql_values.proofs.Dictionary.{position-below}
 use Rattle.sql_values.proofs.Stored.{text_of-code_of}
 use Rattle.sql_values.specs.Stored.{ValueRow}
+use Rattle.sql_values.specs.Words.{word_of}
 use Rattle.query_block.specs.Conditions.{FilterTree}
-use Rattle.query_block.specs.Blocks.{holds_texts}
+use Rattle.query_block.specs.Blocks.{kind_at, holds_texts}
+use Rattle.query_block.specs.Picked.{IsStored}
+use Rattle.query_block.specs.Truth.{value_at, truth_of}
 use Rattle.query_block.specs.Meaning.{is_true, meets_filter}
 use Rattle.plan_tree.specs.Usable.{is_range, is_fixed_usable}
 use Rattle.plan_tree.specs.declared.range.WordRange.{WordRange}
-use Rattle.plan_tree.specs.Ranges.{is_in, passes, turned, IsLiteralOf, Narrows, NarrowsTo}
+use Rattle.plan_tree.specs.Ranges.{is_in, IsLiteralOf, Narrows}
 
 -- tests of words, one against another
 pub eq_is : (b : Bool) (w word : ℤ) → ((b && int_le word w) && int_le w word) ≡ (b && is_eq (int_cmp w word))
@@ -52,7 +55,15 @@ next_fits (negsuc (suc n)) fits less =
     let next : negsuc n ≡ negsuc (suc n) +ℤ pos 1 = omega (arith, ints) in
     subst (SFits w64) next (record { sfits = omega (arith, fits.sfits) })
 
--- an operator holds of two values as the turned one does the other way round
+-- the operator that holds of two values the other way round
+abbrev turned : Op → Op
+turned Eq = Eq
+turned Ne = Ne
+turned Lt = Gt
+turned Le = Ge
+turned Gt = Lt
+turned Ge = Le
+
 flips : (op : Op) (order : Ordering) → holds op (ordering_reverse order) ≡ holds (turned op) order
 flips op order = grind arith
 
@@ -107,9 +118,14 @@ by-no-code texts kind l old missing text (value.Text t) stored =
     (λ same. let both : Some own ≡ None = sym (code-there texts t stored.kind_is.1) ∙ ap (code_of texts) ((bytes_eq-Decides t l).0 same) ∙ missing in cc) in
     grind (arith, none-in own, other, is_eq-slice_cmp t l)
 
+-- whether a row meets a conjunct, if it has no parameter and an index on the column can use it
+abbrev passes : List ColumnType → (column : ℕ) → FilterTree → ValueRow → Bool
+passes columns column conjunct row = not (is_fixed_usable columns column conjunct) || is_true (truth_of conjunct row)
+
 -- a conjunct that the index can't use narrows nothing
 pub unusable : (texts : List (List ℕ)) (columns : List ColumnType) (column : ℕ) (conjunct : FilterTree) (old : WordRange) → is_fixed_usable columns column conjunct ≡ false
-    → NarrowsTo texts columns column old old conjunct
+    → (row : ValueRow) → IsStored texts (kind_at columns column) (value_at row column)
+    → is_in old (word_of texts (value_at row column)) ≡ (is_in old (word_of texts (value_at row column)) && passes columns column conjunct row)
 unusable texts columns column conjunct old none row stored = grind (arith, none)
 
 -- one conjunct after another

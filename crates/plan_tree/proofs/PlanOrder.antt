@@ -1,5 +1,5 @@
 -- Plan order by its parts: it is total, and the numbers of one plan never begin those of another one.
-use Rattle.std.proofs.Common.{◌≡◌, ℕ, List, [], ◌∷◌, ◌++◌, refl, sym, ap, ap₂, ◌∙◌, append_assoc}
+use Rattle.std.proofs.Common.{◌≡◌, ◌↔◌, ℕ, List, [], ◌∷◌, ◌++◌, refl, sym, ap, ap₂, ◌∙◌, append_assoc}
 use Rattle.std.specs.Ordering.{nat_cmp, ordering_then}
 use Rattle.std.specs.Cmp.{IsTotalOrder, tied_itself}
 use Rattle.std.specs.Cmp.Lexicographic.{slice_cmp, on_texts}
@@ -7,7 +7,7 @@ use Rattle.std.proofs.lemmas.Cmp.{ranked}
 use Rattle.std.specs.declared.cmp.Ordering.{Ordering}
 use Rattle.std.specs.declared.cmp.Ordering.TheVariants.{Less, Equal, Greater}
 use Rattle.plan_tree.specs.Plans.{PlanTree, Scan, IndexScan, Nest, Hash, Merge, IndexLoop, covers_of}
-use Rattle.plan_tree.specs.Order.{node_numbers, plan_numbers, plan_order_of, SamePlanWhereEqual, PlansDecideFirst}
+use Rattle.plan_tree.specs.Order.{node_numbers, plan_numbers, plan_order_of}
 use Rattle.plan_tree.specs.Sides.{side_order}
 
 pub total : IsTotalOrder plan_order_of
@@ -46,7 +46,8 @@ one : (a b : ℕ) (xs ys : List ℕ) → slice_cmp nat_cmp ((a ∷ []) ++ xs) ((
 one a b xs ys = ap (λ o. ordering_then o (slice_cmp nat_cmp xs ys)) (sym (then-none (nat_cmp a b)))
 
 -- what follows the numbers of two plans counts only where the plans are equal
-pub behind : PlansDecideFirst
+pub behind : (a b : PlanTree) (xs ys : List ℕ)
+    → slice_cmp nat_cmp (plan_numbers a ++ xs) (plan_numbers b ++ ys) ≡ ordering_then (plan_order_of a b) (slice_cmp nat_cmp xs ys)
 behind (Scan r) (Scan r') xs ys = ap (λ o. ordering_then o (slice_cmp nat_cmp xs ys)) (sym (then-none (nat_cmp r r')))
 behind (IndexScan r c) (IndexScan r' c') xs ys =
     ap (λ o. ordering_then (nat_cmp r r') (ordering_then o (slice_cmp nat_cmp xs ys))) (sym (then-none (nat_cmp c c')))
@@ -139,5 +140,5 @@ same-plan (IndexLoop n l r) (IndexLoop n' l' r') e =
     λ i. IndexLoop (edge i) (left i) (right i)
 same-plan a b e = cc
 
-pub same : SamePlanWhereEqual
+pub same : (a b : PlanTree) → (plan_order_of a b ≡ Equal) ↔ (a ≡ b)
 same a b = (same-plan a b, λ e. ap (plan_order_of a) (sym e) ∙ tied_itself total a)

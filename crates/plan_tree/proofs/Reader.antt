@@ -8,7 +8,7 @@ use Rattle.itoa.proofs.Decimal.{decimal_two}
 use Rattle.plan_tree.specs.Plans.{PlanTree, Scan, IndexScan, Nest, Hash, Merge, IndexLoop, leaves_of}
 use Rattle.plan_tree.specs.Text.{sides_text, plan_text_of}
 use Rattle.plan_tree.specs.Reading.{HasQueryNumbers, HasText}
-use Rattle.plan_tree.specs.Reader.{TextReader, ◌>>=◌, after, digit_at, with_second, column_number_at, scan_at, index_scan_at, closed_at, sides_at, nest_at, join_at, plan_node_of, plan_node_at, plan_tree_at, is_whole}
+use Rattle.plan_tree.specs.Reader.{TextReader, ◌>>=◌, after, digit_at, with_second, column_number_at, scan_at, index_scan_at, closed_at, sides_at, nest_at, join_at, plan_node_of, plan_tree_at}
 
 digit-first : (most digit : ℕ) (rest : List ℕ) → digit ≤ most → digit_at most ((48 + digit) ∷ rest) ≡ Some (digit, rest)
 unfolding digit_at
@@ -98,7 +98,7 @@ numbers-before a b rest = simp append_assoc
 
 -- the text of each plan of so many leaves is read
 pub plan-again : (levels : ℕ) (p : PlanTree) → length (leaves_of p) ≤ levels → HasQueryNumbers p → IsReadAgain (plan_tree_at levels) (plan_text_of p) p
-unfolding plan_tree_at plan_node_at plan_node_of scan_at index_scan_at nest_at after
+unfolding plan_tree_at plan_node_of scan_at index_scan_at nest_at after
 plan-again zero p few numbers rest follows = absurd (omega (arith, few, leaves-some p))
 plan-again (suc levels) (Scan relation) few numbers rest follows = rw (relation-again relation numbers rest follows) refl
 plan-again (suc levels) (IndexScan relation column) few numbers rest follows =
@@ -271,7 +271,7 @@ node_of-reads side reads letter bytes =
     (join-reads 88 IndexLoop decimal (λ n. n ≤ 5) side (digit_at 5) (λ edge x y. refl) (λ edge x y few first second. (few, first, second)) reads (digit-reads 5 (omega arith)) bytes) tt)))))
 
 plan-reads : (levels : ℕ) → Reads plan_text_of HasQueryNumbers (plan_tree_at levels)
-unfolding plan_tree_at plan_node_at
+unfolding plan_tree_at
 plan-reads zero bytes = tt
 plan-reads (suc levels) [] = tt
 plan-reads (suc levels) (letter ∷ bytes) = node_of-reads (plan_tree_at levels) (plan-reads levels) letter bytes
@@ -280,7 +280,7 @@ found_is : {A : Type 0} (P : A → Type 0) (o : Option A) (x : A) → IfFound P 
 found_is P o x found is = subst (IfFound P) is found
 
 -- what is read, with nothing after it, has the text
-pub has_text : (p : PlanTree) (bytes rest : List ℕ) → plan_tree_at 6 bytes ≡ Some (p, rest) → is_whole p rest ≡ true → HasText p bytes
+pub has_text : (p : PlanTree) (bytes rest : List ℕ) → plan_tree_at 6 bytes ≡ Some (p, rest) → (nat_eq (length rest) 0 && nat_le (length (leaves_of p)) 6) ≡ true → HasText p bytes
 has_text p bytes [] read whole =
     let found = found_is (IsRead plan_text_of HasQueryNumbers bytes) (plan_tree_at 6 bytes) (p, []) (plan-reads 6 bytes) read in
     record { numbers = found.1; few = grind (arith, nat_tests, whole); text = found.0 ∙ append-nil (plan_text_of p) }

@@ -8,10 +8,10 @@ use Rattle.query_block.specs.declared.edge.Edge.{Edge}
 use Rattle.query_block.specs.Blocks.{BlockTree, relation_at}
 use Rattle.plan_tree.specs.declared.roots.Root.{Root}
 use Rattle.plan_tree.specs.declared.roots.Root.TheVariants as root
-use Rattle.plan_tree.specs.Enumerated.{edge_at, is_indexed, IsScannable}
+use Rattle.plan_tree.specs.Enumerated.{edge_at, is_indexed, IsScannable, column_on, has_usable}
 use Rattle.plan_tree.specs.Sets.{set_of, is_between}
-use Rattle.plan_tree.specs.Roots.{IsSplit, IsCrossed, IsLookedUp, Stands, is_split, is_crossed, is_scannable, is_looked_up, is_joined, stands}
-use Rattle.plan_tree.specs.AllPlans.{by_each, one_each, end_of_columns, far_end, scans_of, column_scans, index_scans_of, nests_of, joins_by, index_loop_by, candidates, standing, roots_of}
+use Rattle.plan_tree.specs.Roots.{IsSplit, IsCrossed, IsLookedUp, Stands, is_split, is_joined, stands}
+use Rattle.plan_tree.specs.AllPlans.{by_each, one_each, end_of_columns, far_end, scans_of, column_scans, index_scans_of, nests_of, joins_by, index_loop_by, standing, roots_of}
 use Rattle.plan_tree.proofs.Bits.{relation-alone}
 use Rattle.plan_tree.proofs.RangeLists.{pieces-more}
 use Rattle.plan_tree.proofs.Members.{IsIn, in-left, in-right, of-flat, in-flat, in-range, of-range, in-filter, of-filter}
@@ -29,6 +29,20 @@ to-split left set split =
     and_from (nat_le 1 left && nat_lt left set) _
     (and_from (nat_le 1 left) _ (le-leb 1 left split.some) (lt-ltb left set split.less)) (eq-eqb (bit_and left (set - left)) 0 split.apart)
 
+-- the tests of what stands, by their parts
+abbrev is_crossed : List Edge → (edge left right : ℕ) → Bool
+is_crossed edges edge left right = nat_lt edge (length edges) && is_between (set_of left) (set_of right) (edge_at edges edge)
+
+abbrev is_scannable : BlockTree → (relation column : ℕ) → Bool
+is_scannable block relation column =
+    let tree = relation_at block.relations relation in
+    nat_lt relation (length block.relations) && is_indexed tree column && has_usable tree column
+
+abbrev is_looked_up : BlockTree → (edge right relation : ℕ) → Bool
+is_looked_up block edge right relation =
+    nat_lt relation (length block.relations) && nat_eq right (2 ^ relation)
+    && is_indexed (relation_at block.relations relation) (column_on (edge_at block.edges edge) relation)
+
 of-crossed : (edges : List Edge) (edge left right : ℕ) → is_crossed edges edge left right ≡ true → IsCrossed edges edge left right
 of-crossed edges edge left right is =
     let parts = and_parts (nat_lt edge (length edges)) _ is in
@@ -37,6 +51,14 @@ of-crossed edges edge left right is =
 to-crossed : (edges : List Edge) (edge left right : ℕ) → IsCrossed edges edge left right → is_crossed edges edge left right ≡ true
 to-crossed edges edge left right crossed =
     and_from (nat_lt edge (length edges)) _ (lt-ltb edge (length edges) crossed.exists) crossed.crosses
+
+-- the nodes that are tried for a set
+abbrev pub tried_nodes : BlockTree → (set : ℕ) → List Root
+tried_nodes block set =
+    scans_of block ++ index_scans_of block ++ nests_of set
+    ++ joins_by block (λ edge left. root.Hash edge left) set
+    ++ joins_by block (λ edge left. root.Merge edge left) set
+    ++ joins_by block (index_loop_by block) set
 
 module _ (block : BlockTree) where
   abbrev relations : ℕ
@@ -189,22 +211,19 @@ module _ (block : BlockTree) (set : ℕ) where
   in-joins join edge left split exists =
       in-each (λ other. one_each (join other) set) (length block.edges) edge (join edge left) exists (in-one_each (join edge) set left split.less)
 
-  from-hashes : (node : Root) → IsIn node until_hashes → IsIn node (candidates block set)
-  unfolding candidates
+  from-hashes : (node : Root) → IsIn node until_hashes → IsIn node (tried_nodes block set)
   from-hashes node is = in-left node until_merges index_loops (in-left node until_hashes merges is)
 
-  from-index_scans : (node : Root) → IsIn node until_index_scans → IsIn node (candidates block set)
+  from-index_scans : (node : Root) → IsIn node until_index_scans → IsIn node (tried_nodes block set)
   from-index_scans node is = from-hashes node (in-left node until_nests hashes (in-left node until_index_scans (nests_of set) is))
 
-  from-merges : (node : Root) → IsIn node merges → IsIn node (candidates block set)
-  unfolding candidates
+  from-merges : (node : Root) → IsIn node merges → IsIn node (tried_nodes block set)
   from-merges node is = in-left node until_merges index_loops (in-right node until_hashes merges is)
 
-  from-index_loops : (node : Root) → IsIn node index_loops → IsIn node (candidates block set)
-  unfolding candidates
+  from-index_loops : (node : Root) → IsIn node index_loops → IsIn node (tried_nodes block set)
   from-index_loops node is = in-right node until_merges index_loops is
 
-  tried : (node : Root) → Stands block node set → IsIn node (candidates block set)
+  tried : (node : Root) → Stands block node set → IsIn node (tried_nodes block set)
   tried (root.Scan relation) (below, alone) =
       let node = root.Scan relation in
       from-index_scans node
@@ -235,11 +254,11 @@ module _ (block : BlockTree) (set : ℕ) where
 
   pub of-roots : (node : Root) → IsIn node (roots_of block set) → Stands block node set
   unfolding roots_of
-  of-roots node is = of-stands block set node (of-filter (stands block set) node (candidates block set) is).1
+  of-roots node is = of-stands block set node (of-filter (stands block set) node (tried_nodes block set) is).1
 
   pub in-roots : (node : Root) → Stands block node set → IsIn node (roots_of block set)
   unfolding roots_of
-  in-roots node is = in-filter (stands block set) node (candidates block set) (tried node is) (to-stands block set node is)
+  in-roots node is = in-filter (stands block set) node (tried_nodes block set) (tried node is) (to-stands block set node is)
 
   -- one node, where a test says that it may stand over the set
   pub put-one : (node : Root) (is : Bool) → IsTrue is ↔ Stands block node set → standing block set (node ∷ []) ≡ (if is then node ∷ [] else [])
@@ -271,7 +290,7 @@ module _ (block : BlockTree) (set : ℕ) where
 
   pub roots-by-kind : roots_of block set ≡ ((((standing block set (scans_of block) ++ standing block set (index_scans_of block))
       ++ standing block set (nests_of set)) ++ standing block set hashes) ++ standing block set merges) ++ standing block set index_loops
-  unfolding roots_of candidates
+  unfolding roots_of
   roots-by-kind =
       let test = stands block set in
       let before : (more kinds : List Root) (others : List Root) → filter test kinds ≡ others → filter test (kinds ++ more) ≡ others ++ filter test more =

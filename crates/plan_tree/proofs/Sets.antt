@@ -5,7 +5,7 @@ use Rattle.std.specs.List.{list_any}
 use Rattle.std.proofs.lemmas.List.Folds.{list_any-append}
 use Rattle.std.proofs.lemmas.Nat.{pow_pos}
 use Rattle.std.proofs.lemmas.Nat.Bits.{bit_at_or, bit_at-pow_same, bit_at-pow_other, and_pow}
-use Rattle.plan_tree.specs.Plans.{PlanTree, Scan, IndexScan, Nest, Hash, Merge, IndexLoop, leaves_of, has_leaf, covers_of, BitsAreLeaves}
+use Rattle.plan_tree.specs.Plans.{PlanTree, Scan, IndexScan, Nest, Hash, Merge, IndexLoop, leaves_of, has_leaf, covers_of}
 
 -- the bit for this relation, of a set that has these leaves
 abbrev HasBits : List ℕ → ℕ → ℕ → Type 0
@@ -49,5 +49,5 @@ is-set set relation false bit =
     let none : bit_and set (2 ^ relation) ≡ 0 = omega (arith, product) in
     (λ some. absurd (some none), λ yes. grind arith)
 
-pub bits-are-leaves : BitsAreLeaves
+pub bits-are-leaves : (p : PlanTree) (relation : ℕ) → IsBitSet (covers_of p) relation ↔ IsTrue (has_leaf p relation)
 bits-are-leaves p relation = is-set (covers_of p) relation (has_leaf p relation) (bits p relation)

@@ -1,7 +1,6 @@
 -- All plans of a block, each once, in plan order.
-use Rattle.std.specs.Prelude.{◌≡◌, ◌↔◌, ℕ, zero, suc, ◌+◌, ◌-◌, ◌^◌, ◌++◌, Contains, List, [], ◌∷◌, filter, map, max, length, slice_index_or, if◌then◌else◌}
-use Rattle.std.specs.List.{flat_map, range_with_len, AllPairs}
-use Rattle.std.specs.declared.cmp.Ordering.TheVariants.{Less}
+use Rattle.std.specs.Prelude.{ℕ, zero, suc, ◌+◌, ◌-◌, ◌^◌, ◌++◌, List, [], ◌∷◌, filter, map, max, length, slice_index_or, if◌then◌else◌}
+use Rattle.std.specs.List.{flat_map, range_with_len}
 use Rattle.query_block.specs.declared.edge.Edge.{Edge}
 use Rattle.query_block.specs.Blocks.{BlockTree, relation_at}
 use Rattle.query_block.specs.Meaning.{RelationSet}
@@ -9,9 +8,8 @@ use Rattle.plan_tree.specs.declared.roots.Root.{Root}
 use Rattle.plan_tree.specs.declared.roots.Root.TheVariants as root
 use Rattle.plan_tree.specs.Plans.{PlanTree, Scan, IndexScan, Nest, Hash, Merge, IndexLoop}
 use Rattle.plan_tree.specs.Sets.{set_of}
-use Rattle.plan_tree.specs.Enumerated.{edge_at, IsPlan}
+use Rattle.plan_tree.specs.Enumerated.{edge_at}
 use Rattle.plan_tree.specs.Roots.{stands}
-use Rattle.plan_tree.specs.Order.{plan_order_of}
 
 -- one more than the greatest of some columns; 0 where there is none
 abbrev pub end_of_columns : List ℕ → ℕ
@@ -51,21 +49,18 @@ joins_by block join set = by_each (λ edge. one_each (join edge) set) (length bl
 abbrev pub index_loop_by : BlockTree → (edge left : ℕ) → Root
 index_loop_by block edge left = root.IndexLoop edge left (far_end (edge_at block.edges edge) (set_of left))
 
--- all of them for a set, in plan order: by their kinds, then by the edge, then by the left side
-unfoldable pub candidates : BlockTree → (set : ℕ) → List Root
-candidates block set =
-    scans_of block ++ index_scans_of block ++ nests_of set
-    ++ joins_by block (λ edge left. root.Hash edge left) set
-    ++ joins_by block (λ edge left. root.Merge edge left) set
-    ++ joins_by block (index_loop_by block) set
-
 -- those of some nodes that may stand over a set
 abbrev pub standing : BlockTree → (set : ℕ) → List Root → List Root
 standing block set nodes = filter (stands block set) nodes
 
--- the outermost nodes of the plans of a set, in plan order
+-- the outermost nodes of the plans of a set, in plan order: by their kinds, then by the edge, then by the left side
 unfoldable pub roots_of : BlockTree → (set : ℕ) → List Root
-roots_of block set = standing block set (candidates block set)
+roots_of block set =
+    standing block set
+    (scans_of block ++ index_scans_of block ++ nests_of set
+    ++ joins_by block (λ edge left. root.Hash edge left) set
+    ++ joins_by block (λ edge left. root.Merge edge left) set
+    ++ joins_by block (index_loop_by block) set)
 
 -- each left plan with each right plan
 abbrev pub pairs_by : (PlanTree → PlanTree → PlanTree) → (lefts rights : List PlanTree) → List PlanTree
@@ -98,8 +93,3 @@ abbrev pub plans_of : BlockTree → List PlanTree
 plans_of block =
     let count = length block.relations in
     plans_at (plans_below block (2 ^ count)) (2 ^ count - 1)
-
--- these are all plans of the block, each once, in plan order
-pub record AreAllPlans (block : BlockTree) (plans : List PlanTree) : Type 0 where
-  pub all : (p : PlanTree) → Contains plans p ↔ IsPlan block p
-  pub ascending : AllPairs (λ a b. plan_order_of a b ≡ Less) plans

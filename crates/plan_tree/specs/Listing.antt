@@ -1,5 +1,5 @@
 -- How the plans of sets are counted and put together from those of smaller sets.
-use Rattle.std.specs.Prelude.{◌≡◌, ℕ, ◌-◌, ◌^◌, ◌<◌, ◌≤◌, ◌++◌, List, Vec, length, map, min}
+use Rattle.std.specs.Prelude.{◌≡◌, ℕ, ◌<◌, ◌≤◌, ◌++◌, List, Vec, length, map}
 use Rattle.std.specs.Global.{Global}
 use Rattle.query_block.specs.Blocks.{BlockTree}
 use Rattle.plan_tree.specs.declared.roots.Root.{Root}
@@ -8,21 +8,19 @@ use Rattle.plan_tree.specs.declared.roots.EdgeJoin.{EdgeJoin}
 use Rattle.plan_tree.specs.declared.roots.EdgeJoin.TheVariants as kinds
 use Rattle.plan_tree.specs.declared.plan.Plan.{Plan}
 use Rattle.plan_tree.specs.Plans.{PlanTree, plan_tree, Nest, Hash, Merge}
-use Rattle.plan_tree.specs.AllPlans.{index_loop_by, joins_by, one_each, plans_at, standing}
+use Rattle.plan_tree.specs.Work.{capped}
+use Rattle.plan_tree.specs.AllPlans.{index_loop_by, plans_at, standing}
 
 -- how many plans these are; 2 ^ 128 - 1 stands for more too
 abbrev pub plan_count : List PlanTree → ℕ
-plan_count plans = min (length plans) (2 ^ 128 - 1)
+plan_count plans = capped (length plans)
 
 -- so many are the plans that are put together from the lists of smaller sets, where these have so many
 abbrev pub CountsFor : (counts : List ℕ) → (count : ℕ) → (plans : (ℕ → List PlanTree) → List PlanTree) → Type 0
 CountsFor counts count plans =
     (lists : List (List PlanTree)) → counts ≡ map plan_count lists → count ≡ plan_count (plans (plans_at lists))
 
--- the trees of plans, and those of lists of plans
-abbrev pub trees : List Plan → List PlanTree
-trees plans = map plan_tree plans
-
+-- the trees of lists of plans
 abbrev pub lists_of : List (Vec Plan Global) → List (List PlanTree)
 lists_of lists = map (λ list. map plan_tree list.items) lists
 
@@ -48,13 +46,6 @@ abbrev pub join_by : BlockTree → EdgeJoin → (edge left : ℕ) → Root
 join_by block kinds.Hash edge left = root.Hash edge left
 join_by block kinds.Merge edge left = root.Merge edge left
 join_by block kinds.IndexLoop edge left = index_loop_by block edge left
-
--- the joins of a kind with each left side, by an edge and by all edges
-abbrev pub joins_at : BlockTree → EdgeJoin → (set edge : ℕ) → List Root
-joins_at block kind set edge = one_each (join_by block kind edge) set
-
-abbrev pub joins_of : BlockTree → EdgeJoin → (set : ℕ) → List Root
-joins_of block kind set = joins_by block (join_by block kind) set
 
 -- behind the nodes of an old list a new one has those of some nodes of a block that may stand over a set
 abbrev pub Puts : BlockTree → (set : ℕ) → (old new : Vec Root Global) → (nodes : BlockTree → List Root) → Type 0

@@ -1,19 +1,14 @@
 -- Plan order: which of two plans comes first.
-use Rattle.std.specs.Prelude.{◌≡◌, ◌↔◌, ℕ, List, [], ◌∷◌, ◌++◌}
+use Rattle.std.specs.Prelude.{ℕ, List, [], ◌∷◌, ◌++◌}
 use Rattle.std.specs.declared.cmp.Ordering.{Ordering}
-use Rattle.std.specs.declared.cmp.Ordering.TheVariants.{Equal}
-use Rattle.std.specs.Ordering.{nat_cmp, ordering_then}
+use Rattle.std.specs.Ordering.{nat_cmp}
 use Rattle.std.specs.Cmp.Lexicographic.{slice_cmp}
-use Rattle.plan_tree.specs.Plans.{PlanTree, Scan, IndexScan, Nest, Hash, Merge, IndexLoop, covers_of}
+use Rattle.plan_tree.specs.Plans.{PlanTree, Scan, IndexScan, Nest, Hash, Merge, IndexLoop}
+use Rattle.plan_tree.specs.Roots.{root_of, root_numbers}
 
 -- what is compared of the outermost node: its kind, its edge, a leaf's relation and column, the set of its left side
 abbrev pub node_numbers : PlanTree → List ℕ
-node_numbers (Scan relation) = 0 ∷ 0 ∷ relation ∷ 0 ∷ 0 ∷ []
-node_numbers (IndexScan relation column) = 1 ∷ 0 ∷ relation ∷ column ∷ 0 ∷ []
-node_numbers (Nest left right) = 2 ∷ 0 ∷ 0 ∷ 0 ∷ covers_of left ∷ []
-node_numbers (Hash edge left right) = 3 ∷ edge ∷ 0 ∷ 0 ∷ covers_of left ∷ []
-node_numbers (Merge edge left right) = 4 ∷ edge ∷ 0 ∷ 0 ∷ covers_of left ∷ []
-node_numbers (IndexLoop edge left relation) = 5 ∷ edge ∷ 0 ∷ 0 ∷ covers_of left ∷ []
+node_numbers p = root_numbers (root_of p)
 
 -- all that is compared: the outermost node, then the left plan, then the right plan or the right relation
 abbrev pub plan_numbers : PlanTree → List ℕ
@@ -27,12 +22,3 @@ plan_numbers (IndexLoop edge left relation) = node_numbers (IndexLoop edge left 
 -- the first number that differs decides
 abbrev pub plan_order_of : PlanTree → PlanTree → Ordering
 plan_order_of a b = slice_cmp nat_cmp (plan_numbers a) (plan_numbers b)
-
--- two plans are equal by this order exactly where they are the same
-abbrev pub SamePlanWhereEqual : Type 0
-SamePlanWhereEqual = (a b : PlanTree) → (plan_order_of a b ≡ Equal) ↔ (a ≡ b)
-
--- what follows the numbers of two plans counts only where the plans are equal: so the left plans decide before the right ones
-abbrev pub PlansDecideFirst : Type 0
-PlansDecideFirst = (a b : PlanTree) (xs ys : List ℕ)
-    → slice_cmp nat_cmp (plan_numbers a ++ xs) (plan_numbers b ++ ys) ≡ ordering_then (plan_order_of a b) (slice_cmp nat_cmp xs ys)

@@ -1,5 +1,5 @@
 -- Plans as trees, without where they lie in memory, and the relations that they join.
-use Rattle.std.specs.Prelude.{ℕ, ◌↔◌, ◌<◌, ◌^◌, Bool, List, [], ◌∷◌, ◌++◌, IsBitSet, IsTrue, bit_or, nat_eq}
+use Rattle.std.specs.Prelude.{ℕ, ◌<◌, ◌^◌, Bool, List, [], ◌∷◌, ◌++◌, bit_or, nat_eq}
 use Rattle.std.specs.List.{list_any}
 use Rattle.plan_tree.specs.declared.plan.Plan.{Plan}
 use Rattle.plan_tree.specs.declared.plan.Plan.TheOpen.{Plan-F}
@@ -49,10 +49,6 @@ covers_of (Nest left right) = bit_or (covers_of left) (covers_of right)
 covers_of (Hash edge left right) = bit_or (covers_of left) (covers_of right)
 covers_of (Merge edge left right) = bit_or (covers_of left) (covers_of right)
 covers_of (IndexLoop edge left relation) = bit_or (covers_of left) (2 ^ relation)
-
--- bit r of the number is 1 exactly where r is a leaf
-abbrev pub BitsAreLeaves : Type 0
-BitsAreLeaves = (p : PlanTree) (relation : ℕ) → IsBitSet (covers_of p) relation ↔ IsTrue (has_leaf p relation)
 
 -- each of its relations has a bit of the eight
 abbrev pub FitsSet : PlanTree → Type 0

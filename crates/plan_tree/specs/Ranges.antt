@@ -1,9 +1,7 @@
 -- Ranges of words, and in which rows a column has words of a range.
-use Rattle.std.specs.Prelude.{◌≡◌, ◌≢◌, ℕ, ℤ, ◌&&◌, ◌||◌, not, All, Bool, List, filter, int_le, FitsSigned}
+use Rattle.std.specs.Prelude.{◌≡◌, ◌≢◌, ℕ, ℤ, ◌&&◌, ◌||◌, not, Bool, List, int_le, FitsSigned}
 use Rattle.std.specs.Int.{w64}
 use Rattle.sql_values.specs.declared.column.ColumnType.{ColumnType}
-use Rattle.sql_values.specs.declared.op.Op.{Op}
-use Rattle.sql_values.specs.declared.op.Op.TheVariants.{Eq, Ne, Lt, Le, Gt, Ge}
 use Rattle.sql_values.specs.declared.value.Value.{Value}
 use Rattle.sql_values.specs.declared.value.Value.TheVariants as value
 use Rattle.sql_values.specs.Words.{word_of}
@@ -21,15 +19,6 @@ use Rattle.plan_tree.specs.declared.range.WordRange.{WordRange}
 abbrev pub is_in : WordRange → ℤ → Bool
 is_in range word = int_le range.from word && int_le word range.to
 
--- the operator that holds of two values the other way round
-abbrev pub turned : Op → Op
-turned Eq = Eq
-turned Ne = Ne
-turned Lt = Gt
-turned Le = Ge
-turned Gt = Lt
-turned Ge = Le
-
 -- the literal is of the kind of a column
 abbrev pub IsLiteralOf : ColumnType → Value → Type 0
 IsLiteralOf kind literal = (literal ≢ value.Null) × (holds_texts kind ≡ is_text literal)
@@ -39,20 +28,14 @@ abbrev pub Narrows : List (List ℕ) → ColumnType → (old new : WordRange) �
 Narrows texts kind old new test =
     (v : Value) → IsStored texts kind v → is_in new (word_of texts v) ≡ (is_in old (word_of texts v) && test v)
 
--- whether a row meets a conjunct, if it has no parameter and an index on the column can use it
-abbrev pub passes : List ColumnType → (column : ℕ) → FilterTree → ValueRow → Bool
-passes columns column conjunct row = not (is_fixed_usable columns column conjunct) || is_true (truth_of conjunct row)
-
--- the same of the rows that pass a conjunct
-abbrev pub NarrowsTo : List (List ℕ) → List ColumnType → (column : ℕ) → (old new : WordRange) → FilterTree → Type 0
-NarrowsTo texts columns column old new conjunct =
-    (row : ValueRow) → IsStored texts (kind_at columns column) (value_at row column)
-    → is_in new (word_of texts (value_at row column)) ≡ (is_in old (word_of texts (value_at row column)) && passes columns column conjunct row)
-
--- so it is in columns that fit the conjunct, of whatever kinds the parameters are
+-- the same of the rows that meet a conjunct, if it has no parameter and an index on the column can use it; so it is in
+-- columns that fit it, of whatever kinds the parameters are
 abbrev pub NarrowsBy : List (List ℕ) → (column : ℕ) → (old new : WordRange) → FilterTree → Type 0
 NarrowsBy texts column old new conjunct =
-    (kinds : List Kind) (columns : List ColumnType) → FitsColumns kinds columns conjunct → NarrowsTo texts columns column old new conjunct
+    (kinds : List Kind) (columns : List ColumnType) → FitsColumns kinds columns conjunct
+    → (row : ValueRow) → IsStored texts (kind_at columns column) (value_at row column)
+    → is_in new (word_of texts (value_at row column))
+    ≡ (is_in old (word_of texts (value_at row column)) && (not (is_fixed_usable columns column conjunct) || is_true (truth_of conjunct row)))
 
 -- of the words of 64 bits a new range has those of the old one that pass a test
 abbrev pub NarrowsWords : (old new : WordRange) → (ℤ → Bool) → Type 0
@@ -61,9 +44,3 @@ NarrowsWords old new test = (word : ℤ) → FitsSigned w64 word → is_in new w
 -- a range has exactly the words of a column in rows that meet these conjuncts
 abbrev pub Finds : List (List ℕ) → List ColumnType → (column : ℕ) → WordRange → List FilterTree → Type 0
 Finds texts columns column range conjuncts = Picks texts columns column range.from range.to (meets_filter conjuncts)
-
--- so it is, in columns that fit some conjuncts, of those without a parameter that an index on the column can use
-abbrev pub FindsUsable : List (List ℕ) → (column : ℕ) → WordRange → List FilterTree → Type 0
-FindsUsable texts column range conjuncts =
-    (kinds : List Kind) (columns : List ColumnType) → All (FitsColumns kinds columns) conjuncts
-    → Finds texts columns column range (filter (is_fixed_usable columns column) conjuncts)

@@ -1,20 +1,17 @@
 -- What each private function of the reader returns: the value at the front of a text and what follows it, or none. No
 -- public clause cites this file; the proofs tie it to the texts of plans in both directions.
-use Rattle.std.specs.Prelude.{ℕ, zero, suc, ◌≡◌, ◌+◌, ◌-◌, ◌*◌, ◌&&◌, Bool, List, [], ◌∷◌, Option, Some, None, option_and_then, Result, Ok, Err, length, nat_le, nat_eq, if◌then◌else◌}
+use Rattle.std.specs.Prelude.{ℕ, zero, suc, ◌≡◌, ◌+◌, ◌-◌, ◌*◌, ◌&&◌, List, [], ◌∷◌, Option, Some, None, option_and_then, Result, Ok, Err, nat_le, nat_eq, if◌then◌else◌}
 use Rattle.std.specs.Borrow.{Bor}
 use Rattle.plan_tree.specs.declared.plan.Plan.{Plan}
 use Rattle.plan_tree.specs.declared.read.PlanFault.{PlanFault}
 use Rattle.plan_tree.specs.declared.read.PlanFault.TheVariants as faults
-use Rattle.plan_tree.specs.Plans.{leaves_of, plan_tree, PlanTree, Scan, IndexScan, Nest, Hash, Merge, IndexLoop}
+use Rattle.plan_tree.specs.Plans.{plan_tree, PlanTree, Scan, IndexScan, Nest, Hash, Merge, IndexLoop}
 
 -- what a function returned, seen by view, is what reading gives, unless memory ran out
-abbrev pub FailsRead : {Y : Type 0} → PlanFault → Option Y → Type 0
-FailsRead faults.NotPlanText read = read ≡ None
-FailsRead faults.NoMemory read = Unit {0}
-
 abbrev pub GivesRead : {X Y : Type 0} → (X → Y) → Result X PlanFault → Option Y → Type 0
 GivesRead view (Ok x) read = read ≡ Some (view x)
-GivesRead view (Err fault) read = FailsRead fault read
+GivesRead view (Err faults.NotPlanText) read = read ≡ None
+GivesRead view (Err faults.NoMemory) read = Unit {0}
 
 -- the same of a plan and what follows it
 abbrev pub GivesPlan : Result (Plan × Bor (List ℕ)) PlanFault → Option (PlanTree × List ℕ) → Type 0
@@ -99,15 +96,8 @@ plan_node_of side letter text =
     else if nat_eq letter 88 then join_at IndexLoop side (digit_at 5) text
     else None
 
-unfoldable pub plan_node_at : TextReader PlanTree → TextReader PlanTree
-plan_node_at side [] = None
-plan_node_at side (letter ∷ rest) = plan_node_of side letter rest
-
 -- a plan of at most so many nodes one below the other
 unfoldable pub plan_tree_at : (levels : ℕ) → TextReader PlanTree
 plan_tree_at zero text = None
-plan_tree_at (suc levels) text = plan_node_at (plan_tree_at levels) text
-
--- whether nothing follows what was read, and it has at most six leaves
-abbrev pub is_whole : PlanTree → (rest : List ℕ) → Bool
-is_whole p rest = nat_eq (length rest) 0 && nat_le (length (leaves_of p)) 6
+plan_tree_at (suc levels) [] = None
+plan_tree_at (suc levels) (letter ∷ rest) = plan_node_of (plan_tree_at levels) letter rest

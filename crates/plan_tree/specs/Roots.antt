@@ -57,27 +57,19 @@ Stands block (root.IndexLoop edge left relation) set =
 abbrev pub is_split : (left set : ℕ) → Bool
 is_split left set = nat_le 1 left && nat_lt left set && nat_eq (bit_and left (set - left)) 0
 
-abbrev pub is_crossed : List Edge → (edge left right : ℕ) → Bool
-is_crossed edges edge left right = nat_lt edge (length edges) && is_between (set_of left) (set_of right) (edge_at edges edge)
-
-abbrev pub is_scannable : BlockTree → (relation column : ℕ) → Bool
-is_scannable block relation column =
-    let tree = relation_at block.relations relation in
-    nat_lt relation (length block.relations) && is_indexed tree column && has_usable tree column
-
-abbrev pub is_looked_up : BlockTree → (edge right relation : ℕ) → Bool
-is_looked_up block edge right relation =
-    nat_lt relation (length block.relations) && nat_eq right (2 ^ relation)
-    && is_indexed (relation_at block.relations relation) (column_on (edge_at block.edges edge) relation)
-
 abbrev pub is_joined : BlockTree → (set edge left : ℕ) → Bool
-is_joined block set edge left = is_split left set && is_crossed block.edges edge left (set - left)
+is_joined block set edge left =
+    is_split left set && (nat_lt edge (length block.edges) && is_between (set_of left) (set_of (set - left)) (edge_at block.edges edge))
 
 abbrev pub stands : BlockTree → (set : ℕ) → Root → Bool
 stands block set (root.Scan relation) = nat_lt relation (length block.relations) && nat_eq set (2 ^ relation)
-stands block set (root.IndexScan relation column) = is_scannable block relation column && nat_eq set (2 ^ relation)
+stands block set (root.IndexScan relation column) =
+    let tree = relation_at block.relations relation in
+    (nat_lt relation (length block.relations) && is_indexed tree column && has_usable tree column) && nat_eq set (2 ^ relation)
 stands block set (root.Nest left) = is_split left set
 stands block set (root.Hash edge left) = is_joined block set edge left
 stands block set (root.Merge edge left) = is_joined block set edge left
 stands block set (root.IndexLoop edge left relation) =
-    is_joined block set edge left && is_looked_up block edge (set - left) relation
+    is_joined block set edge left
+    && (nat_lt relation (length block.relations) && nat_eq (set - left) (2 ^ relation)
+    && is_indexed (relation_at block.relations relation) (column_on (edge_at block.edges edge) relation))

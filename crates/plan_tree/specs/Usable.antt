@@ -1,5 +1,5 @@
 -- By which conjuncts of a filter an index on a column finds rows.
-use Rattle.std.specs.Prelude.{ℕ, ◌&&◌, ◌||◌, not, Bool, true, false, List, IsTrue, nat_eq}
+use Rattle.std.specs.Prelude.{ℕ, ◌&&◌, ◌||◌, not, Bool, true, false, List, nat_eq}
 use Rattle.sql_values.specs.declared.op.Op.{Op}
 use Rattle.sql_values.specs.declared.op.Op.TheVariants.{Eq, Ne, Lt, Le, Gt, Ge}
 use Rattle.sql_values.specs.declared.column.ColumnType.{ColumnType}
@@ -48,9 +48,6 @@ is_usable columns column (IsNull of) = false
 is_usable columns column (Not inner) = false
 is_usable columns column (And parts) = false
 is_usable columns column (Or parts) = false
-
-abbrev pub IsUsable : List ColumnType → (column : ℕ) → (conjunct : FilterTree) → Type 0
-IsUsable columns column conjunct = IsTrue (is_usable columns column conjunct)
 
 -- the same of the conjuncts that have no parameter
 abbrev pub is_fixed_usable : List ColumnType → (column : ℕ) → (conjunct : FilterTree) → Bool

@@ -1,6 +1,6 @@
 -- The work of a plan on stored tables, as one sum. Each node adds its own work to that of its sides; a charge that is 1 for
 -- each row or pair is left out.
-use Rattle.std.specs.Prelude.{ℕ, ◌+◌, ◌*◌, ◌^◌, ◌&&◌, not, List, length, map, count_by, sum_by, filter, nat_lt, if◌then◌else◌}
+use Rattle.std.specs.Prelude.{ℕ, ◌+◌, ◌-◌, ◌*◌, ◌^◌, ◌&&◌, not, min, List, length, map, count_by, sum_by, filter, nat_lt, if◌then◌else◌}
 use Rattle.sql_values.specs.declared.op.Op.TheVariants.{Eq}
 use Rattle.sql_values.specs.declared.value.Value.{Value}
 use Rattle.sql_values.specs.Stored.{StoredTable, ValueRow}
@@ -20,6 +20,10 @@ use Rattle.plan_tree.specs.Enumerated.{edge_at, column_on}
 -- how many binary digits a number has: none for 0
 abbrev pub bits : ℕ → ℕ
 bits n = least_from n 0 (λ digits. nat_lt n (2 ^ digits))
+
+-- a number of 128 bits, the greatest of which stands for every greater one
+abbrev pub capped : ℕ → ℕ
+capped n = min n (2 ^ 128 - 1)
 
 -- the rows of a relation's table
 abbrev pub table_rows : List StoredTable → RelationTree → List ValueRow
@@ -67,12 +71,12 @@ loop_candidates tables block edge left relation =
     equal_pairs (keys_of tables block edge left)
     (map (λ row. value_at row (column_on (edge_at block.edges edge) relation)) (table_rows tables (relation_at block.relations relation)))
 
-abbrev pub scan_work : List StoredTable → RelationTree → (out : ℕ) → ℕ
-scan_work tables relation out = open_charge + page_charge * pages_in tables relation + length (table_rows tables relation) + out
+-- the lines of the table of work, one for each kind of node
+abbrev pub scan_line : (pages rows out : ℕ) → ℕ
+scan_line pages rows out = open_charge + page_charge * pages + rows + out
 
-abbrev pub index_scan_work : List StoredTable → RelationTree → (column out : ℕ) → ℕ
-index_scan_work tables relation column out =
-    open_charge + node_charge * height_in tables relation column + (entry_charge + fetch_charge) * matches_in tables relation column + out
+abbrev pub index_scan_line : (height matches out : ℕ) → ℕ
+index_scan_line height matches out = open_charge + node_charge * height + (entry_charge + fetch_charge) * matches + out
 
 abbrev pub nest_work : (l r out : ℕ) → ℕ
 nest_work l r out = r + l * r + out
@@ -80,11 +84,23 @@ nest_work l r out = r + l * r + out
 abbrev pub hash_work : (l r cand out : ℕ) → ℕ
 hash_work l r cand out = hash_in_charge * r + l + cand + out
 
+-- what sorting so many rows costs
+abbrev pub sort_work : (rows : ℕ) → ℕ
+sort_work rows = rows * bits rows
+
 abbrev pub merge_work : (l r cand out : ℕ) → ℕ
-merge_work l r cand out = l * bits l + r * bits r + l + r + cand + out
+merge_work l r cand out = sort_work l + sort_work r + l + r + cand + out
 
 abbrev pub index_loop_work : (height l cand out : ℕ) → ℕ
 index_loop_work height l cand out = node_charge * height * l + (entry_charge + fetch_charge + pair_charge) * cand + out
+
+-- those of the leaves, by a relation's table
+abbrev pub scan_work : List StoredTable → RelationTree → (out : ℕ) → ℕ
+scan_work tables relation out = scan_line (pages_in tables relation) (length (table_rows tables relation)) out
+
+abbrev pub index_scan_work : List StoredTable → RelationTree → (column out : ℕ) → ℕ
+index_scan_work tables relation column out =
+    index_scan_line (height_in tables relation column) (matches_in tables relation column) out
 
 -- the work of a plan
 abbrev pub work_of : List StoredTable → BlockTree → PlanTree → ℕ

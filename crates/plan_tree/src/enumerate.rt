@@ -1,11 +1,14 @@
 // All plans of a block. How many there are is counted before any plan is made: each set of relations, upwards, from the counts
 // of smaller sets, and then its plans from the plans of these.
-ghost use Rattle.std.specs.Prelude.{◌≡◌, ◌<◌, ◌≤◌, ◌++◌, ◌-◌, ◌*◌, ◌^◌, All, IfErr, IfOk, List, OnOk, length, map, min, slice_index};
-ghost use Rattle.std.specs.List.{flat_map};
+ghost use Rattle.std.specs.Prelude.{◌≡◌, ◌↔◌, ◌<◌, ◌≤◌, ◌++◌, ◌-◌, ◌*◌, ◌^◌, All, Contains, IfErr, IfOk, List, OnOk, length, map, min, slice_index};
+ghost use Rattle.std.specs.List.{flat_map, AllPairs};
+ghost use Rattle.std.specs.declared.cmp.Ordering.TheVariants.{Less};
 ghost use Rattle.query_block.specs.Blocks.{block_tree, BlockTree};
 ghost use Rattle.plan_tree.specs.Plans.{plan_tree, PlanTree, IndexLoop as IndexLoopTree};
-ghost use Rattle.plan_tree.specs.AllPlans.{pairs_by, plans_at, plans_of, plans_over, trees_of, AreAllPlans};
-ghost use Rattle.plan_tree.specs.Listing.{joined_by, lists_of, plan_count, trees, Adds, CountsFor, HasLeftOf, IsLeftOf};
+ghost use Rattle.plan_tree.specs.Enumerated.{IsPlan};
+ghost use Rattle.plan_tree.specs.Order.{plan_order_of};
+ghost use Rattle.plan_tree.specs.AllPlans.{pairs_by, plans_at, plans_of, plans_over, trees_of};
+ghost use Rattle.plan_tree.specs.Listing.{joined_by, lists_of, plan_count, Adds, CountsFor, HasLeftOf, IsLeftOf};
 
 use crate::copies::copy;
 use crate::plan::Plan;
@@ -117,7 +120,7 @@ fn put_with(
     into: &mut Vec<Plan>,
 ) -> Result<(), AllocError>
     ensures { OnOk result (Adds into.old into.new
-        (map (joined_by root (plan_tree left.now)) (trees rights.now))) }
+        (map (joined_by root (plan_tree left.now)) (map plan_tree rights.now))) }
 {
     for right in rights {
         into.push(join_of(alloc, root, left, right)?)?;
@@ -134,7 +137,7 @@ fn put_pairs(
     into: &mut Vec<Plan>,
 ) -> Result<(), AllocError>
     ensures { OnOk result (Adds into.old into.new
-        (pairs_by (joined_by root) (trees lefts.now) (trees rights.now))) }
+        (pairs_by (joined_by root) (map plan_tree lefts.now) (map plan_tree rights.now))) }
 {
     for left in lefts {
         put_with(alloc, root, left, rights, into)?;
@@ -160,7 +163,7 @@ fn put_look_ups(
     into: &mut Vec<Plan>,
 ) -> Result<(), AllocError>
     ensures { OnOk result (Adds into.old into.new
-        (map (λ left. IndexLoopTree edge left relation) (trees lefts.now))) }
+        (map (λ left. IndexLoopTree edge left relation) (map plan_tree lefts.now))) }
 {
     for left in lefts {
         into.push(look_up_of(alloc, edge, left, relation)?)?;
@@ -205,16 +208,15 @@ fn put_trees(
         (trees_of (plans_at (lists_of lists.now)) set root)) }
 {
     match root {
-        Root::Scan(relation) => into.push(Plan::Scan(relation))?,
-        Root::IndexScan(relation, column) => into.push(Plan::IndexScan(relation, column))?,
-        Root::Nest(left) => put_joins(alloc, lists, set, root, left, into)?,
-        Root::Hash(_, left) => put_joins(alloc, lists, set, root, left, into)?,
-        Root::Merge(_, left) => put_joins(alloc, lists, set, root, left, into)?,
+        Root::Scan(relation) => Ok(into.push(Plan::Scan(relation))?),
+        Root::IndexScan(relation, column) => Ok(into.push(Plan::IndexScan(relation, column))?),
+        Root::Nest(left) => put_joins(alloc, lists, set, root, left, into),
+        Root::Hash(_, left) => put_joins(alloc, lists, set, root, left, into),
+        Root::Merge(_, left) => put_joins(alloc, lists, set, root, left, into),
         Root::IndexLoop(edge, left, relation) => {
-            put_look_ups(alloc, edge, &lists[left as usize], relation, into)?
+            put_look_ups(alloc, edge, &lists[left as usize], relation, into)
         }
     }
-    Ok(())
 }
 
 // The plans of a set, by those of smaller sets.
@@ -266,5 +268,7 @@ pub fn all_plans(alloc: Global, block: &Block, limit: u64) -> Result<Vec<Plan>, 
 
 /// The law of all plans: the list `plans_of` has each plan of a block once, and nothing else, in plan order.
 pub fn all_plans_are_listed()
-    ensures { (block : BlockTree) → AreAllPlans block (plans_of block) }
+    ensures all { (block : BlockTree) (p : PlanTree) → Contains (plans_of block) p ↔ IsPlan block p }
+    ensures ascending { (block : BlockTree) →
+        AllPairs (λ a b. plan_order_of a b ≡ Less) (plans_of block) }
 {}

@@ -1,8 +1,8 @@
 // The relations that a plan joins. Each function calls itself for the sides of a join, so the stack that it takes is
 // bounded by how deep the plan is.
-ghost use Rattle.std.specs.Prelude.{◌≡◌, ◌<◌, ◌^◌, min, length};
+ghost use Rattle.std.specs.Prelude.{ℕ, ◌≡◌, ◌↔◌, ◌<◌, ◌^◌, IsBitSet, IsTrue, min, length};
 ghost use Rattle.std.specs.List.{list_any};
-ghost use Rattle.plan_tree.specs.Plans.{plan_tree, leaves_of, has_leaf, covers_of, FitsSet, BitsAreLeaves};
+ghost use Rattle.plan_tree.specs.Plans.{plan_tree, leaves_of, has_leaf, covers_of, FitsSet, PlanTree};
 
 use crate::plan::Plan;
 use crate::subset::Subset;
@@ -66,5 +66,6 @@ pub fn covers(p: &Plan) -> Subset
 
 /// The law of sets as numbers: bit r is 1 exactly where the plan joins relation r.
 pub fn bits_are_leaves()
-    ensures { BitsAreLeaves }
+    ensures { (p : PlanTree) (relation : ℕ) →
+        IsBitSet (covers_of p) relation ↔ IsTrue (has_leaf p relation) }
 {}

@@ -1,6 +1,6 @@
 // The words of a column that an index on it has to look for: those that meet each conjunct of a filter that the index can
 // use. A conjunct with a parameter leaves nothing out. Of texts only one word is looked for.
-ghost use Rattle.std.specs.Prelude.{◌≡◌, ◌&&◌, ◌||◌, ℤ, true, not, map, int_le, int_lt};
+ghost use Rattle.std.specs.Prelude.{◌≡◌, ◌&&◌, ◌||◌, ℤ, true, not, All, List, filter, map, int_le, int_lt};
 ghost use Rattle.std.specs.Ordering.{int_cmp};
 ghost use Rattle.sql_values.specs.declared.column.ColumnType.{ColumnType};
 ghost use Rattle.sql_values.specs.declared.column.ColumnType.TheVariants.{Integer};
@@ -8,11 +8,12 @@ ghost use Rattle.sql_values.specs.declared.value.Value.{Value};
 ghost use Rattle.sql_values.specs.declared.value.Value.TheVariants as value;
 ghost use Rattle.sql_values.specs.declared.op.Op.TheVariants.{Eq, Le, Ge};
 ghost use Rattle.sql_values.specs.Truth.{comparison, holds};
-ghost use Rattle.query_block.specs.Blocks.{holds_texts};
+ghost use Rattle.query_block.specs.Blocks.{holds_texts, FitsColumns};
+ghost use Rattle.query_block.specs.declared.kind.Kind.{Kind};
 ghost use Rattle.query_block.specs.Conditions.{filter_tree, Compare, Between};
 ghost use Rattle.query_block.specs.Meaning.{is_true};
-ghost use Rattle.plan_tree.specs.Usable.{is_range};
-ghost use Rattle.plan_tree.specs.Ranges.{is_in, FindsUsable, IsLiteralOf, Narrows, NarrowsBy, NarrowsWords};
+ghost use Rattle.plan_tree.specs.Usable.{is_fixed_usable, is_range};
+ghost use Rattle.plan_tree.specs.Ranges.{is_in, Finds, IsLiteralOf, Narrows, NarrowsBy, NarrowsWords};
 
 use query_block::{Condition, Operand};
 use sql_values::{ColumnType, Op, Texts, Value};
@@ -155,12 +156,12 @@ fn by_compare(
     range: WordRange,
     column: u8,
     op: Op,
-    left: &Operand,
-    right: &Operand,
+    sides: (&Operand, &Operand),
     texts: &Texts,
 ) -> WordRange
-    ensures { NarrowsBy texts.now column range result (Compare op left.now right.now) }
+    ensures { NarrowsBy texts.now column range result (Compare op sides.entry.0.now sides.entry.1.now) }
 {
+    let (left, right) = sides;
     match left {
         Operand::Column(of) => match right {
             Operand::Column(_) => range,
@@ -191,12 +192,13 @@ fn by_between(
     range: WordRange,
     column: u8,
     of: &Operand,
-    low: &Operand,
-    high: &Operand,
+    bounds: (&Operand, &Operand),
     texts: &Texts,
 ) -> WordRange
-    ensures { NarrowsBy texts.now column range result (Between of.now low.now high.now) }
+    ensures { NarrowsBy texts.now column range result
+        (Between of.now bounds.entry.0.now bounds.entry.1.now) }
 {
+    let (low, high) = bounds;
     match of {
         Operand::Literal(_) => range,
         Operand::Parameter(_) => range,
@@ -222,8 +224,8 @@ fn narrowed(range: WordRange, column: u8, conjunct: &Condition, texts: &Texts) -
     ensures { NarrowsBy texts.now column range result (filter_tree conjunct.now) }
 {
     match conjunct {
-        Condition::Compare(op, left, right) => by_compare(range, column, *op, left, right, texts),
-        Condition::Between(of, low, high) => by_between(range, column, of, low, high, texts),
+        Condition::Compare(op, left, right) => by_compare(range, column, *op, (left, right), texts),
+        Condition::Between(of, low, high) => by_between(range, column, of, (low, high), texts),
         Condition::OneOf(_, _) => range,
         Condition::IsNull(_) => range,
         Condition::Not(_) => range,
@@ -235,7 +237,10 @@ fn narrowed(range: WordRange, column: u8, conjunct: &Condition, texts: &Texts) -
 /// The words of a column in the rows that meet each conjunct of a filter that an index on the column can use and that has no
 /// parameter.
 pub fn range_of(column: u8, conjuncts: &[Condition], texts: &Texts) -> WordRange
-    ensures { FindsUsable texts.now column result (map filter_tree conjuncts.now) }
+    ensures { (kinds : List Kind) (columns : List ColumnType) →
+        All (FitsColumns kinds columns) (map filter_tree conjuncts.now) →
+        Finds texts.now columns column result
+        (filter (is_fixed_usable columns column) (map filter_tree conjuncts.now)) }
 {
     let mut range = EVERY_WORD;
     for conjunct in conjuncts {

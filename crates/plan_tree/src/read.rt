@@ -1,8 +1,8 @@
 // The plan of a text: the way back from `plan_text`. A text is read from the front; each function takes what is still to
 // be read, and returns what it has read with what follows. Nothing of the text is copied.
-ghost use Rattle.std.specs.Prelude.{◌≡◌, ◌≤◌, IfOk, IfSome, IsErrOf, option_map};
-ghost use Rattle.plan_tree.specs.Plans.{plan_tree, PlanTree, Hash, Merge, IndexLoop};
-ghost use Rattle.plan_tree.specs.Reader.{GivesPlan, GivesRead, after, digit_at, column_number_at, scan_at, index_scan_at, closed_at, sides_at, nest_at, join_at, plan_node_of, plan_node_at, plan_tree_at, is_whole};
+ghost use Rattle.std.specs.Prelude.{◌≡◌, ◌≤◌, ◌&&◌, IfOk, IfSome, IsErrOf, length, nat_eq, nat_le, option_map};
+ghost use Rattle.plan_tree.specs.Plans.{leaves_of, plan_tree, PlanTree, Hash, Merge, IndexLoop};
+ghost use Rattle.plan_tree.specs.Reader.{GivesPlan, GivesRead, after, digit_at, column_number_at, scan_at, index_scan_at, closed_at, sides_at, nest_at, join_at, plan_node_of, plan_tree_at};
 ghost use Rattle.plan_tree.specs.Reading.{HasText};
 
 use crate::leaves::leaf_count;
@@ -227,7 +227,7 @@ fn node_of<'s>(
 
 // A plan of at most so many nodes one below the other.
 #[cycle(plan)]
-#[tactic(auto, unfolding(crate::specs::Reader::plan_tree_at, crate::specs::Reader::plan_node_at))]
+#[tactic(auto, unfolding(crate::specs::Reader::plan_tree_at))]
 fn plan_at<'s>(alloc: Global, levels: u8, bytes: &'s [u8]) -> Result<(Plan, &'s [u8]), PlanFault>
     ensures { GivesPlan result
         (plan_tree_at levels bytes.now) }
@@ -243,7 +243,7 @@ fn plan_at<'s>(alloc: Global, levels: u8, bytes: &'s [u8]) -> Result<(Plan, &'s 
 
 // Whether nothing follows what was read, and it has at most six leaves.
 fn is_whole(p: &Plan, rest: &[u8]) -> bool
-    ensures { result ≡ is_whole (plan_tree p.now) rest.now }
+    ensures { result ≡ (nat_eq (length rest.now) 0 && nat_le (length (leaves_of (plan_tree p.now))) 6) }
 {
     rest.is_empty() && leaf_count(p) <= MOST_LEAVES
 }

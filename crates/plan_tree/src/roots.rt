@@ -1,12 +1,12 @@
 // The outermost nodes of plans, and those of all plans of a set of relations.
 ghost use Rattle.std.specs.Prelude.{◌≡◌, ◌↔◌, ◌<◌, ◌≤◌, ◌∷◌, [], IfOk, IsTrue, OnOk, length};
 ghost use Rattle.query_block.specs.Blocks.{block_tree};
-ghost use Rattle.plan_tree.specs.Roots.{IsLookedUp, Stands};
+ghost use Rattle.plan_tree.specs.Roots.{root_numbers, IsLookedUp, Stands};
 ghost use Rattle.plan_tree.specs.declared.roots.Root.TheVariants as root;
-ghost use Rattle.plan_tree.specs.AllPlans.{column_scans, end_of_columns, far_end, index_scans_of, nests_of, roots_of, scans_of};
+ghost use Rattle.plan_tree.specs.AllPlans.{column_scans, end_of_columns, far_end, index_scans_of, joins_by, nests_of, one_each, roots_of, scans_of};
 ghost use Rattle.plan_tree.specs.Enumerated.{edge_at};
 ghost use Rattle.plan_tree.specs.Sets.{set_of};
-ghost use Rattle.plan_tree.specs.Listing.{join_by, joins_at, joins_of, Puts};
+ghost use Rattle.plan_tree.specs.Listing.{join_by, Puts};
 
 use crate::rules::{is_indexed, is_scannable};
 use crate::subset::{Subset, column_of_edge, is_crossed};
@@ -29,6 +29,22 @@ pub enum Root {
     Merge(u8, u8),
     /// An index loop: the edge, the left side, the relation on the right.
     IndexLoop(u8, u8, u8),
+}
+
+impl Root {
+    /// What plan order compares of it: the kind, the edge, a leaf's relation and column, the left side.
+    pub fn numbers(self) -> [u8; 5]
+        ensures { result ≡ root_numbers self }
+    {
+        match self {
+            Root::Scan(relation) => [0, 0, relation, 0, 0],
+            Root::IndexScan(relation, column) => [1, 0, relation, column, 0],
+            Root::Nest(left) => [2, 0, 0, 0, left],
+            Root::Hash(edge, left) => [3, edge, 0, 0, left],
+            Root::Merge(edge, left) => [4, edge, 0, 0, left],
+            Root::IndexLoop(edge, left, _) => [5, edge, 0, 0, left],
+        }
+    }
 }
 
 /// The kinds of joins by an edge.
@@ -192,7 +208,7 @@ fn put_joins(
 ) -> Result<(), AllocError>
     requires { edge < length block.now.edges }
     ensures { OnOk result
-        (Puts (block_tree block.now) set into.old into.new (λ b. joins_at b kind set edge)) }
+        (Puts (block_tree block.now) set into.old into.new (λ b. one_each (join_by b kind edge) set)) }
 {
     for left in 0..set.number() {
         put(block, set, join_by(block, kind, edge, left), into)?;
@@ -208,7 +224,7 @@ fn put_edge_joins(
     into: &mut Vec<Root>,
 ) -> Result<(), AllocError>
     ensures { OnOk result
-        (Puts (block_tree block.now) set into.old into.new (λ b. joins_of b kind set)) }
+        (Puts (block_tree block.now) set into.old into.new (λ b. joins_by b (join_by b kind) set)) }
 {
     for edge in 0..block.edges().len() {
         put_joins(block, set, kind, edge as u8, into)?;

@@ -30,4 +30,4 @@ returns-in-Parameter-right c = λ kinds columns are.
 pub returns-in-Parameter : goal.returns-in-Parameter
 returns-in-Parameter c = λ kinds columns are.
     rw (c.in-Parameter.is)
-    (unusable c.args.texts.now columns c.args.column (Compare c.args.op (Parameter c.in-Parameter.field-0) c.args.right.now) c.args.range (and_right _ _ refl))
+    (unusable c.args.texts.now columns c.args.column (Compare c.args.op (Parameter c.in-Parameter.field-0) c.args.sides.1.now) c.args.range (and_right _ _ refl))
