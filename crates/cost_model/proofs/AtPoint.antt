@@ -17,7 +17,7 @@ use Rattle.cost_model.specs.declared.stats.RelationStats.{RelationStats}
 use Rattle.cost_model.specs.declared.stats.IndexStats.{IndexStats}
 use Rattle.cost_model.specs.Fits.{FitsIndex, FitsRelation, FitsBlock, row_product}
 use Rattle.cost_model.specs.Costing.{CostingTree, IsCosting}
-use Rattle.cost_model.specs.AtPoint.{scaled_on, axis_of_index, index_stats_at, relation_stats_at, stats_from, stats_at}
+use Rattle.cost_model.specs.AtPoint.{scaled_on, axis_of_index, index_stats_at, stats_from, stats_at}
 use Rattle.cost_model.specs.Cards.{kept_product}
 use Rattle.cost_model.specs.Costs.{relation_stats, index_on, index_stats}
 use Rattle.cost_model.proofs.Rounding.{scaled-few, scaled-le}
@@ -206,7 +206,7 @@ module _ (costing : CostingTree) (point : List ℕ) where
   same-columns number [] = refl
   same-columns number (index ∷ more) = ap (λ rest. index.column ∷ rest) (same-columns number more)
 
-  fits-relation : (relation : RelationTree) (number : ℕ) (stats : RelationStats) → FitsRelation relation stats → FitsRelation relation (relation_stats_at costing point number stats)
+  fits-relation : (relation : RelationTree) (number : ℕ) (stats : RelationStats) → FitsRelation relation stats → FitsRelation relation (record { rows = stats.rows; pages = stats.pages; kept = scaled_on costing.grid point (axis_of costing.block number) stats.kept; columns = map (index_stats_at costing point number) stats.columns })
   fits-relation relation number stats fits = record {
     rows = fits.rows;
     pages = fits.pages;

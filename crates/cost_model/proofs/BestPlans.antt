@@ -18,7 +18,7 @@ use Rattle.plan_tree.proofs.PlanOrder as plan-order
 use Rattle.cost_model.specs.Costing.{CostingTree}
 use Rattle.cost_model.specs.Costs.{cost_of}
 use Rattle.cost_model.specs.Best.{IsCheapest, IsBest}
-use Rattle.cost_model.specs.Optimal.{first_plan, order_by_cost, best_plan}
+use Rattle.cost_model.specs.Optimal.{first_plan, best_plan}
 use Rattle.cost_model.specs.Greedy.{covers_at, order_by_cover}
 
 -- an order of plans by which one plan comes first of any: total, and only the same plan is equal
@@ -110,6 +110,11 @@ equal-then : (a b : Ordering) → ordering_then a b ≡ Equal → b ≡ Equal
 equal-then Less b e = cc
 equal-then Equal b e = e
 equal-then Greater b e = cc
+
+-- the order of plans by what they cost at a point, and of equally cheap ones by plan order
+abbrev order_by_cost : CostingTree → (point : List ℕ) → PlanTree → PlanTree → Ordering
+order_by_cost costing point p other =
+    ordering_then (nat_cmp (cost_of costing p point) (cost_of costing other point)) (plan_order_of p other)
 
 pub by-cost : (costing : CostingTree) (point : List ℕ) → IsPlanOrder (order_by_cost costing point)
 by-cost costing point = record {

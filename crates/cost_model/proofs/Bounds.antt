@@ -1,28 +1,26 @@
 -- Bounds on cards and costs: no pairs pass the limit of combinations, and a cost grows with the number of leaves alone.
-use Rattle.std.proofs.Common.{◌≡◌, ℕ, zero, suc, ◌+◌, ◌*◌, ◌^◌, ◌<◌, ◌≤◌, cond, max, List, [], ◌∷◌, All, length, get_or, Fits, unwrap_or, None, Some, Option, nat_eq, refl, ap, drop, sym, subst, ◌∙◌, inl, inr, arith}
-use Rattle.std.specs.Prelude.{Bool, true, false, ◌&&◌, IfSome}
+use Rattle.std.proofs.Common.{◌≡◌, ℕ, zero, suc, ◌+◌, ◌*◌, ◌^◌, ◌<◌, ◌≤◌, cond, max, List, [], ◌∷◌, All, length, get_or, Fits, unwrap_or, None, Some, Option, nat_eq, refl, ap, sym, subst, ◌∙◌, inl, inr, arith}
+use Rattle.std.specs.Prelude.{Bool, true, false, ◌&&◌, IfSome, IsFalse}
 use Rattle.std.specs.Int.{w128}
 use Rattle.std.specs.List.{AllZip}
 use Rattle.std.proofs.Math.Nat.{mul-le-mul_left, mul-le-mul_right, mul_comm, mul_assoc, le-max_left, le-max_right}
 use Rattle.std.proofs.lemmas.Nat.{mul-le}
 use Rattle.std.proofs.lemmas.Bool.{cases_Bool}
-use Rattle.std.proofs.lemmas.List.{at_drop_more, drop_all}
-use Rattle.std.proofs.lemmas.List.Elements.{All-nil, All-cons, All-head, All-tail, All-get_or}
+use Rattle.std.proofs.lemmas.List.Elements.{All-nil, All-cons, All-head, All-tail}
 use Rattle.sql_values.specs.Limits.{max_rows, max_product}
 use Rattle.query_block.specs.Blocks.{RelationTree, BlockTree}
 use Rattle.query_block.specs.Meaning.{RelationSet}
 use Rattle.plan_tree.specs.Plans.{PlanTree, Scan, IndexScan, Nest, Hash, Merge, IndexLoop, leaves_of, has_leaf}
-use Rattle.plan_tree.specs.Enumerated.{IsSubPlan, column_on, edge_at}
-use Rattle.plan_tree.specs.Work.{nest_work, hash_work, merge_work, index_loop_work}
+use Rattle.plan_tree.specs.Enumerated.{AreApart, IsSubPlan, column_on, edge_at}
+use Rattle.plan_tree.specs.Work.{capped, scan_line, index_scan_line, nest_work, hash_work, merge_work, index_loop_work}
 use Rattle.cost_model.specs.declared.stats.Stats.{Stats}
 use Rattle.cost_model.specs.declared.stats.RelationStats.{RelationStats}
 use Rattle.cost_model.specs.declared.stats.IndexStats.{IndexStats}
 use Rattle.cost_model.specs.Fits.{FitsIndex, FitsRelation, FitsBlock, row_product}
-use Rattle.cost_model.specs.Bounded.{ShareNone}
 use Rattle.cost_model.specs.Costing.{CostingTree, IsCosting}
 use Rattle.cost_model.specs.AtPoint.{stats_at}
 use Rattle.cost_model.specs.Cards.{kept_product, card_of}
-use Rattle.cost_model.specs.Costs.{relation_stats, index_on, index_stats, out_card, candidate_card, cost_of}
+use Rattle.cost_model.specs.Costs.{relation_stats, index_on, index_stats, candidate_card, cost_of}
 use Rattle.cost_model.specs.Few.{IsFewIndex, AreFew}
 use Rattle.plan_tree.proofs.Digits.{bits-few}
 use Rattle.plan_tree.proofs.LeafSets.{apart-sets, alone, size_of, size-few, leaf-size, both-sizes}
@@ -48,6 +46,10 @@ pub kept-few : (set : RelationSet) (number : ℕ) (stats : List RelationStats) �
 kept-few set number [] few = omega arith
 kept-few set number (one ∷ more) few =
     mul-le _ _ _ _ (factor-few (set number) one.kept one.rows (All-head HasFewKept one more few)) (kept-few set (number + 1) more (All-tail HasFewKept one more few))
+
+-- two sets have no relation in common
+abbrev ShareNone : RelationSet → RelationSet → Type 0
+ShareNone set other = (relation : ℕ) → IsFalse (set relation && other relation)
 
 -- at most one of two sets without a common relation has it
 factors-few : (a b : Bool) (kept rows : ℕ) → (a && b) ≡ false → kept ≤ rows → cond a kept 1 * cond b kept 1 ≤ max 1 rows
@@ -127,76 +129,24 @@ loop-pairs-below costing set relation point is out below =
     let cards : card_of costing set point * rows ≤ kept_product set 0 stats * rows = mul-le-mul_right rows (card-few costing set point) in
     omega (arith, cards, product, (fits-at costing point is).product)
 
--- ---- the steps of the product
-
 pub one-times : (n : ℕ) → 1 * n ≡ n
 one-times n = omega arith
 
-pub times-one : (n : ℕ) → n * 1 ≡ n
-times-one n = omega arith
-
-pub product-some : (stats : List RelationStats) → 1 ≤ row_product stats
-product-some [] = omega arith
-product-some (one ∷ more) = mul-le 1 1 (max 1 one.rows) (row_product more) (le-max_left 1 one.rows) (product-some more)
-
-next-kept : (set : RelationSet) (number : ℕ) (stats : List RelationStats) (none : RelationStats) → number < length stats
-    → kept_product set number (drop number stats) ≡ cond (set number) (get_or stats number none).kept 1 * kept_product set (number + 1) (drop (number + 1) stats)
-next-kept set number stats none below = at_drop_more (kept_product set number) stats number none below
-
--- the product of what the first relations keep, with room for the others
-pub record IsSoFar (set : RelationSet) (stats : List RelationStats) (number product : ℕ) : Type 0 where
-  pub whole : kept_product set 0 stats ≡ product * kept_product set number (drop number stats)
-  pub fits : product * row_product (drop number stats) ≤ max_product
-
-pub so-far-none : (set : RelationSet) (stats : List RelationStats) → row_product stats ≤ max_product → IsSoFar set stats 0 1
-so-far-none set stats few = record { whole = sym (one-times (kept_product set 0 stats)); fits = omega (arith, few, one-times (row_product stats)) }
-
-pub so-far-more : (set : RelationSet) (stats : List RelationStats) (none : RelationStats) (number product more : ℕ) → number < length stats → All HasFewKept stats → IsSoFar set stats number product
-    → more ≡ product * cond (set number) (get_or stats number none).kept 1 → IsSoFar set stats (number + 1) more
-so-far-more set stats none number product more below few so_far is =
-    let item = get_or stats number none in
-    let factor = cond (set number) item.kept 1 in
-    let kept = kept_product set (number + 1) (drop (number + 1) stats) in
-    let rest = row_product (drop (number + 1) stats) in
-    let at_most : factor ≤ max 1 item.rows = factor-few (set number) item.kept item.rows (All-get_or HasFewKept stats number none below few) in
-    let opened : row_product (drop number stats) ≡ max 1 item.rows * rest = at_drop_more row_product stats number none below in
-    let whole : product * (max 1 item.rows * rest) ≤ max_product = subst (λ n. product * n ≤ max_product) opened so_far.fits in
-    record {
-      whole =
-          so_far.whole ∙ ap (λ n. product * n) (next-kept set number stats none below) ∙ sym (mul_assoc product factor kept)
-          ∙ ap (λ n. n * kept) (sym is);
-      fits = omega (arith, ap (λ n. n * rest) is, mul_assoc product factor rest, mul-le-mul_left product (mul-le-mul_right rest at_most), whole);
-    }
-
-pub so-far-few : (set : RelationSet) (stats : List RelationStats) (number product : ℕ) → IsSoFar set stats number product → product ≤ max_product
-so-far-few set stats number product so_far =
-    omega (arith, mul-le-mul_left product (product-some (drop number stats)), so_far.fits, times-one product)
-
-pub so-far-all : (set : RelationSet) (stats : List RelationStats) (number product : ℕ) → length stats ≤ number → IsSoFar set stats number product → product ≡ kept_product set 0 stats
-so-far-all set stats number product all so_far =
-    sym (so_far.whole ∙ ap (λ rest. product * kept_product set number rest) (drop_all number stats all) ∙ times-one product)
-
 -- ---- the nodes of a plan, each of which costs at most 2^108 by itself
 
-pub scan-few : (stats : RelationStats) (pages rows out : ℕ) → AreFew stats → pages ≡ stats.pages → rows ≡ stats.rows → out ≤ max_product → 1 + 8 * pages + rows + out ≤ 2 ^ 108
+pub scan-few : (stats : RelationStats) (pages rows out : ℕ) → AreFew stats → pages ≡ stats.pages → rows ≡ stats.rows → out ≤ max_product → scan_line pages rows out ≤ 2 ^ 108
 scan-few stats pages rows out few pages-is rows-is out-few = omega (arith, few.rows, few.pages, pages-is, rows-is, out-few)
 
-pub index-scan-few : (height matches out : ℕ) → height ≤ 4 → matches ≤ max_rows → out ≤ max_product → 1 + 2 * height + 10 * matches + out ≤ 2 ^ 108
+pub index-scan-few : (height matches out : ℕ) → height ≤ 4 → matches ≤ max_rows → out ≤ max_product → index_scan_line height matches out ≤ 2 ^ 108
 index-scan-few height matches out low few out-few = omega (arith, low, few, out-few)
 
-pub three-few : (a b c : ℕ) → a ≤ max_product → b ≤ max_product → c ≤ max_product → a + b + c ≤ 2 ^ 108
-three-few a b c few few' few'' = omega (arith, few, few', few'')
-
-pub six-few : (a b c d e f : ℕ) → a ≤ 101 * max_product → b ≤ 101 * max_product → c ≤ max_product → d ≤ max_product → e ≤ max_product → f ≤ max_product → a + b + c + d + e + f ≤ 2 ^ 108
-six-few a b c d e f sort other few few' few'' last = omega (arith, sort, other, few, few', few'', last)
-
-nest-few : (l r out : ℕ) → r ≤ max_product → l * r ≤ max_product → out ≤ max_product → nest_work l r out ≤ 2 ^ 108
+pub nest-few : (l r out : ℕ) → r ≤ max_product → l * r ≤ max_product → out ≤ max_product → nest_work l r out ≤ 2 ^ 108
 nest-few l r out right pairs few = omega (arith, right, pairs, few)
 
 pub hash-few : (l r cand out : ℕ) → l ≤ max_product → r ≤ max_product → cand ≤ max_product → out ≤ max_product → hash_work l r cand out ≤ 2 ^ 108
 hash-few l r cand out left right pairs few = omega (arith, left, right, pairs, few)
 
-merge-few : (l r cand out : ℕ) → l ≤ max_product → r ≤ max_product → cand ≤ max_product → out ≤ max_product → merge_work l r cand out ≤ 2 ^ 108
+pub merge-few : (l r cand out : ℕ) → l ≤ max_product → r ≤ max_product → cand ≤ max_product → out ≤ max_product → merge_work l r cand out ≤ 2 ^ 108
 merge-few l r cand out left right pairs few =
     omega (arith, left, right, pairs, few, mul-le-mul_left l (bits-few l left), mul-le-mul_left r (bits-few r right))
 
@@ -204,17 +154,9 @@ pub loop-few : (height l cand out : ℕ) → height ≤ 4 → l ≤ max_product 
 loop-few height l cand out low left pairs few =
     omega (arith, left, pairs, few, mul-le (2 * height) l 8 max_product (omega (arith, low)) left)
 
--- 128 bits have room for such a cost, and for its parts
-pub in-room : (cost : ℕ) → cost ≤ 2 ^ 108 → Fits w128 cost
-in-room cost few = record { fits = omega (arith, few) }
-
-pub descents-in-room : (height l : ℕ) → height ≤ 4 → l ≤ max_product → Fits w128 (2 * height * l)
-descents-in-room height l low left =
-    record { fits = omega (arith, loop-few height l 0 0 low left (omega arith) (omega arith)) }
-
-pub loop-in-room : (height l cand : ℕ) → height ≤ 4 → l ≤ max_product → cand ≤ max_product → Fits w128 (2 * height * l + 11 * cand)
-loop-in-room height l cand low left pairs =
-    record { fits = omega (arith, loop-few height l cand 0 low left pairs (omega arith)) }
+-- 128 bits have room for such a cost
+pub not-capped : (cost work : ℕ) → cost ≡ capped work → work ≤ 2 ^ 108 → cost ≡ work
+not-capped cost work is few = omega (arith, is, few)
 
 pub pairs-in-room : (pairs : ℕ) → pairs ≤ max_product → Fits w128 pairs
 pairs-in-room pairs few = record { fits = omega (arith, few) }
@@ -275,6 +217,30 @@ abbrev IsBounded : CostingTree → List ℕ → PlanTree → Type 0
 IsBounded costing point p =
     cost_of costing p point + 2 ^ 108 ≤ 2 * 2 ^ 108 * size_of (has_leaf p) 0 (length costing.block.relations)
 
+-- a join of two sides that are apart, whose own work is bounded by its sides, its pairs, its candidates and its rows
+join-bounded : (costing : CostingTree) (point : List ℕ) → IsCosting costing → (edge : ℕ) (left right : PlanTree) → AreApart left right → (work : (l r cand out : ℕ) → ℕ)
+    → ((l r cand out : ℕ) → l ≤ max_product → r ≤ max_product → l * r ≤ max_product → cand ≤ max_product → out ≤ max_product → work l r cand out ≤ 2 ^ 108)
+    → IsBounded costing point left → IsBounded costing point right
+    → cost_of costing left point + cost_of costing right point
+    + work (card_of costing (has_leaf left) point) (card_of costing (has_leaf right) point)
+    (candidate_card costing edge point (card_of costing (has_leaf left) point * card_of costing (has_leaf right) point)) (card_of costing (has_leaf (Nest left right)) point)
+    + 2 ^ 108 ≤ 2 * 2 ^ 108 * size_of (has_leaf (Nest left right)) 0 (length costing.block.relations)
+join-bounded costing point is edge left right apart work few one other =
+    let l = card_of costing (has_leaf left) point in
+    let r = card_of costing (has_leaf right) point in
+    let cand = candidate_card costing edge point (l * r) in
+    let out = card_of costing (has_leaf (Nest left right)) point in
+    let pairs = pairs-below costing (has_leaf left) (has_leaf right) point is (apart-sets left right apart) in
+    let own = few l r cand out (card-below costing (has_leaf left) point is) (card-below costing (has_leaf right) point is) pairs
+    (omega (arith, candidates-few costing.grid point edge (l * r), pairs)) (card-below costing (has_leaf (Nest left right)) point is) in
+    omega (
+      arith,
+      own,
+      one,
+      other,
+      both-sizes (length costing.block.relations) (leaves_of left) (leaves_of right) (apart-sets left right apart),
+    )
+
 bounded : (costing : CostingTree) (point : List ℕ) → IsCosting costing → (p : PlanTree) → IsSubPlan costing.block p → IsBounded costing point p
 bounded costing point is (Scan relation) plan =
     let few = relation-few-at costing point relation is in
@@ -285,50 +251,20 @@ bounded costing point is (IndexScan relation column) plan =
     let card = card-below costing (has_leaf (IndexScan relation column)) point is in
     omega (arith, few.height, few.matches, card, leaf-size (length costing.block.relations) relation plan.exists)
 bounded costing point is (Nest left right) plan =
-    let own = nest-few (out_card costing left point) (out_card costing right point) (out_card costing (Nest left right) point)
-    (card-below costing (has_leaf right) point is) (pairs-below costing (has_leaf left) (has_leaf right) point is (apart-sets left right plan.2))
-    (card-below costing (has_leaf (Nest left right)) point is) in
-    omega (
-      arith,
-      own,
-      bounded costing point is left plan.0,
-      bounded costing point is right plan.1,
-      both-sizes (length costing.block.relations) (leaves_of left) (leaves_of right) (apart-sets left right plan.2),
-    )
+    join-bounded costing point is 0 left right plan.2 (λ l r cand out. nest_work l r out) (λ l r cand out some few pairs most last. nest-few l r out few pairs last)
+    (bounded costing point is left plan.0) (bounded costing point is right plan.1)
 bounded costing point is (Hash edge left right) plan =
-    let l = out_card costing left point in
-    let r = out_card costing right point in
-    let pairs = pairs-below costing (has_leaf left) (has_leaf right) point is (apart-sets left right plan.2) in
-    let own = hash-few l r (candidate_card costing edge point (l * r)) (out_card costing (Hash edge left right) point)
-    (card-below costing (has_leaf left) point is) (card-below costing (has_leaf right) point is)
-    (omega (arith, candidates-few costing.grid point edge (l * r), pairs)) (card-below costing (has_leaf (Hash edge left right)) point is) in
-    omega (
-      arith,
-      own,
-      bounded costing point is left plan.0,
-      bounded costing point is right plan.1,
-      both-sizes (length costing.block.relations) (leaves_of left) (leaves_of right) (apart-sets left right plan.2),
-    )
+    join-bounded costing point is edge left right plan.2 hash_work (λ l r cand out some few pairs most last. hash-few l r cand out some few most last)
+    (bounded costing point is left plan.0) (bounded costing point is right plan.1)
 bounded costing point is (Merge edge left right) plan =
-    let l = out_card costing left point in
-    let r = out_card costing right point in
-    let pairs = pairs-below costing (has_leaf left) (has_leaf right) point is (apart-sets left right plan.2) in
-    let own = merge-few l r (candidate_card costing edge point (l * r)) (out_card costing (Merge edge left right) point)
-    (card-below costing (has_leaf left) point is) (card-below costing (has_leaf right) point is)
-    (omega (arith, candidates-few costing.grid point edge (l * r), pairs)) (card-below costing (has_leaf (Merge edge left right)) point is) in
-    omega (
-      arith,
-      own,
-      bounded costing point is left plan.0,
-      bounded costing point is right plan.1,
-      both-sizes (length costing.block.relations) (leaves_of left) (leaves_of right) (apart-sets left right plan.2),
-    )
+    join-bounded costing point is edge left right plan.2 merge_work (λ l r cand out some few pairs most last. merge-few l r cand out some few most last)
+    (bounded costing point is left plan.0) (bounded costing point is right plan.1)
 bounded costing point is (IndexLoop edge left relation) plan =
-    let l = out_card costing left point in
+    let l = card_of costing (has_leaf left) point in
     let rows = (relation_stats (stats_at costing point) relation).rows in
     let index = index_stats (stats_at costing point) relation (column_on (edge_at costing.block.edges edge) relation) in
     let pairs = loop-pairs-below costing (has_leaf left) relation point is plan.1.apart plan.1.exists in
-    let own = loop-few index.height l (candidate_card costing edge point (l * rows)) (out_card costing (IndexLoop edge left relation) point)
+    let own = loop-few index.height l (candidate_card costing edge point (l * rows)) (card_of costing (has_leaf (IndexLoop edge left relation)) point)
     (index-few-at costing point relation (column_on (edge_at costing.block.edges edge) relation) is).height (card-below costing (has_leaf left) point is)
     (omega (arith, candidates-few costing.grid point edge (l * rows), pairs)) (card-below costing (has_leaf (IndexLoop edge left relation)) point is) in
     omega (

@@ -8,6 +8,7 @@ pub mod Bounds
 pub mod Monotone
 pub mod Pairs
 pub mod SetCards
+pub mod OfBlock
 pub mod Sums
 pub mod Least
 pub mod BestPlans

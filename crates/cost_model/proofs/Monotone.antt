@@ -4,24 +4,21 @@ use Rattle.std.proofs.lemmas.Nat.{mul-le}
 use Rattle.ess_grid.specs.Order.{PointBelow}
 use Rattle.plan_tree.specs.Plans.{PlanTree, Scan, IndexScan, Nest, Hash, Merge, IndexLoop, has_leaf}
 use Rattle.plan_tree.specs.Enumerated.{column_on, edge_at}
-use Rattle.plan_tree.specs.Work.{bits}
 use Rattle.cost_model.specs.Costing.{CostingTree}
 use Rattle.cost_model.specs.AtPoint.{stats_at}
-use Rattle.cost_model.specs.Costs.{relation_stats, index_stats, out_card, cost_of}
+use Rattle.cost_model.specs.Cards.{card_of}
+use Rattle.cost_model.specs.Costs.{relation_stats, index_stats, cost_of}
 use Rattle.plan_tree.specs.AllPlans.{plans_of}
 use Rattle.cost_model.specs.Optimal.{least_of, optimal_cost}
-use Rattle.plan_tree.proofs.Digits.{bits-le}
+use Rattle.plan_tree.proofs.Digits.{sort-le}
 use Rattle.cost_model.proofs.AtPoint.{rows-at, pages-at, height-at, matches-le}
 use Rattle.cost_model.proofs.Cards.{card-le, candidates-le}
 
-sort-le : (n m : ℕ) → n ≤ m → n * bits n ≤ m * bits m
-sort-le n m le = mul-le n (bits n) m (bits m) le (bits-le n m le)
-
-pub out-le : (costing : CostingTree) (p : PlanTree) (point other : List ℕ) → PointBelow point other → out_card costing p point ≤ out_card costing p other
+pub out-le : (costing : CostingTree) (p : PlanTree) (point other : List ℕ) → PointBelow point other → card_of costing (has_leaf p) point ≤ card_of costing (has_leaf p) other
 out-le costing p point other below = card-le costing (has_leaf p) point other below
 
 pairs-le : (costing : CostingTree) (left right : PlanTree) (point other : List ℕ) → PointBelow point other
-    → out_card costing left point * out_card costing right point ≤ out_card costing left other * out_card costing right other
+    → card_of costing (has_leaf left) point * card_of costing (has_leaf right) point ≤ card_of costing (has_leaf left) other * card_of costing (has_leaf right) other
 pairs-le costing left right point other below = mul-le _ _ _ _ (out-le costing left point other below) (out-le costing right point other below)
 
 pub cost-le : (costing : CostingTree) (p : PlanTree) (point other : List ℕ) → PointBelow point other → cost_of costing p point ≤ cost_of costing p other

@@ -1,18 +1,15 @@
--- Bounds on the pairs of rows of two sides, and on what sorting costs.
+-- Bounds on the pairs of rows of two sides.
 use Rattle.std.proofs.Common.{◌≡◌, ◌≢◌, ◌⊎◌, inl, inr, ℕ, ◌*◌, ◌^◌, ◌<◌, ◌≤◌, ◌&&◌, not, Bool, true, false, IsFalse, List, length, bit_and, nat_eq, refl, sym, ap, ap₂, ◌∙◌, arith}
 use Rattle.std.specs.Prelude.{min}
 use Rattle.std.specs.Int.{bit_at}
-use Rattle.std.proofs.Math.Nat.{mul-le-mul_left}
 use Rattle.std.proofs.Math.ListN.{length-map}
 use Rattle.std.proofs.lemmas.Nat.Bits.{bit_at_and, bit_at-zero, and_pow}
 use Rattle.sql_values.specs.Limits.{max_product}
 use Rattle.query_block.specs.Blocks.{relation_tree}
-use Rattle.plan_tree.specs.Work.{bits}
 use Rattle.cost_model.specs.Costing.{CostingShape, costing_tree, IsCosting}
 use Rattle.plan_tree.specs.Sets.{set_of}
 use Rattle.cost_model.specs.AtPoint.{stats_at}
 use Rattle.cost_model.specs.Costs.{relation_stats}
-use Rattle.plan_tree.proofs.Digits.{bits-few}
 use Rattle.cost_model.proofs.Bounds.{pairs-below, loop-pairs-below}
 use Rattle.cost_model.specs.Prices.{set_card}
 
@@ -60,6 +57,3 @@ loop-pairs-few costing point left relation a rows is apart below one other =
     let few = loop-pairs-below (costing_tree costing) (set_of left) relation point is (out-of _ apart)
     (omega (arith, below, length-map costing.block.relations relation_tree)) in
     omega (arith, same, few)
-
-pub sort-few : (n sort : ℕ) → n ≤ max_product → sort ≡ n * bits n → sort ≤ 101 * max_product
-sort-few n sort few is = omega (arith, is, few, mul-le-mul_left n (bits-few n few))

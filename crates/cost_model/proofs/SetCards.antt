@@ -31,7 +31,7 @@ set-small costing set is below =
     let few : 2 ^ length costing.block.relations ≤ 2 ^ 6 = power-to (length costing.block.relations) 6 is.block.few in
     omega (arith, below, few)
 
-by-bit : (set relation bit : ℕ) → bit_at set relation ≡ bit → set_of set relation ≡ not (nat_eq (bit * 2 ^ relation) 0)
+pub by-bit : (set relation bit : ℕ) → bit_at set relation ≡ bit → set_of set relation ≡ not (nat_eq (bit * 2 ^ relation) 0)
 by-bit set relation bit is = ap (λ n. not (nat_eq n 0)) (and_pow set relation ∙ ap (λ b. b * 2 ^ relation) is)
 
 some-true : (n : ℕ) → 1 ≤ n → not (nat_eq n 0) ≡ true

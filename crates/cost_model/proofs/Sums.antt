@@ -6,17 +6,18 @@ use Rattle.plan_tree.specs.Work.{nest_work, hash_work, merge_work, index_loop_wo
 use Rattle.cost_model.specs.Costing.{CostingTree, IsCosting}
 use Rattle.plan_tree.specs.Sets.{set_of}
 use Rattle.cost_model.specs.AtPoint.{stats_at}
-use Rattle.cost_model.specs.Costs.{relation_stats, index_stats, out_card, scan_cost, index_scan_cost, candidate_card, cost_of}
+use Rattle.cost_model.specs.Cards.{card_of}
+use Rattle.cost_model.specs.Costs.{relation_stats, index_stats, scan_cost, index_scan_cost, candidate_card, cost_of}
 use Rattle.cost_model.proofs.Cards.{card-of-set}
 use Rattle.cost_model.proofs.Bounds.{cost-below}
 use Rattle.cost_model.specs.Prices.{set_card, own_cost, sum_of}
 use Rattle.plan_tree.proofs.Bits.{leaf-is-bit, apart-sets, sum-of-sides}
 
-out-card : (costing : CostingTree) (point : List ℕ) (p : PlanTree) → out_card costing p point ≡ set_card costing point (covers_of p)
+out-card : (costing : CostingTree) (point : List ℕ) (p : PlanTree) → card_of costing (has_leaf p) point ≡ set_card costing point (covers_of p)
 out-card costing point p = card-of-set costing (has_leaf p) (set_of (covers_of p)) point (leaf-is-bit p)
 
 right-card : (costing : CostingTree) (point : List ℕ) (l r : PlanTree) → AreApart l r
-    → out_card costing r point ≡ set_card costing point (bit_or (covers_of l) (covers_of r) - covers_of l)
+    → card_of costing (has_leaf r) point ≡ set_card costing point (bit_or (covers_of l) (covers_of r) - covers_of l)
 right-card costing point l r apart =
     out-card costing point r ∙ ap (set_card costing point) (sym (sum-of-sides (covers_of l) (covers_of r) (apart-sets l r apart)))
 

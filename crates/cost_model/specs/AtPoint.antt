@@ -40,20 +40,17 @@ index_stats_at costing point relation index = record {
   matches = option_map (scaled_on costing.grid point (axis_of_index costing.block relation index.column)) index.matches;
 }
 
--- those of this relation: rows and pages are what they are
-abbrev pub relation_stats_at : CostingTree → (point : List ℕ) → (relation : ℕ) → RelationStats → RelationStats
-relation_stats_at costing point relation stats = record {
-  rows = stats.rows;
-  pages = stats.pages;
-  kept = scaled_on costing.grid point (axis_of costing.block relation) stats.kept;
-  columns = map (index_stats_at costing point relation) stats.columns;
-}
-
--- those of some relations, of which the first has this number
+-- those of some relations, of which the first has this number: rows and pages are what they are
 abbrev pub stats_from : CostingTree → (point : List ℕ) → (number : ℕ) → List RelationStats → List RelationStats
 stats_from costing point number [] = []
 stats_from costing point number (stats ∷ more) =
-    relation_stats_at costing point number stats ∷ stats_from costing point (number + 1) more
+    record {
+      rows = stats.rows;
+      pages = stats.pages;
+      kept = scaled_on costing.grid point (axis_of costing.block number) stats.kept;
+      columns = map (index_stats_at costing point number) stats.columns;
+    }
+    ∷ stats_from costing point (number + 1) more
 
 -- those of all relations of the block
 abbrev pub stats_at : CostingTree → (point : List ℕ) → Stats

@@ -13,7 +13,6 @@ pub mod Greedy
 pub mod Rounding
 pub mod Growth
 pub mod Alike
-pub mod Bounded
 pub mod Few
 pub mod Pricing
 pub mod Prices

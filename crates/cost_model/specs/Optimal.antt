@@ -26,11 +26,10 @@ first_plan order (p ∷ other ∷ more) =
     let rest = first_plan order (other ∷ more) in
     if is_gt (order p rest) then rest else p
 
--- the order of plans by what they cost at a point, and of equally cheap ones by plan order
-abbrev pub order_by_cost : CostingTree → (point : List ℕ) → PlanTree → PlanTree → Ordering
-order_by_cost costing point p other =
-    ordering_then (nat_cmp (cost_of costing p point) (cost_of costing other point)) (plan_order_of p other)
-
--- the first in plan order of the cheapest plans of the block at a point
+-- the first in plan order of the cheapest plans of the block at a point: in the order by cost, and of equally cheap ones by
+-- plan order
 abbrev pub best_plan : CostingTree → (point : List ℕ) → PlanTree
-best_plan costing point = first_plan (order_by_cost costing point) (plans_of costing.block)
+best_plan costing point =
+    first_plan
+    (λ p other. ordering_then (nat_cmp (cost_of costing p point) (cost_of costing other point)) (plan_order_of p other))
+    (plans_of costing.block)

@@ -2,7 +2,7 @@
 use Rattle.std.specs.Prelude.{◌≡◌, ℕ, ◌+◌, ◌-◌, ◌*◌, ◌^◌, ◌<◌, ◌≤◌, List, length, slice_index}
 use Rattle.plan_tree.specs.Plans.{PlanTree, Scan, IndexScan, Nest, Hash, Merge, IndexLoop, covers_of}
 use Rattle.plan_tree.specs.Enumerated.{edge_at, column_on}
-use Rattle.plan_tree.specs.Work.{bits, nest_work, hash_work, merge_work, index_loop_work}
+use Rattle.plan_tree.specs.Work.{nest_work, hash_work, merge_work, index_loop_work}
 use Rattle.query_block.specs.Blocks.{BlockTree, block_tree}
 use Rattle.ess_grid.specs.Points.{IsPoint}
 use Rattle.cost_model.specs.Costing.{CostingTree, IsCosting, costing_tree}
@@ -80,31 +80,17 @@ pub record IsSplitOf (block : BlockTree) (left set : ℕ) : Type 0 where
   pub split : IsSplit left set
   pub of_block : IsSetOf block set
 
--- how many pairs of rows the two sides of a set have
-abbrev pub side_pairs : Pricing → (left set : ℕ) → ℕ
-side_pairs at left set =
-    set_card (costing_tree at.costing) at.point left * set_card (costing_tree at.costing) at.point (set - left)
-
 -- of so many pairs of rows of the two sides of a set the columns of an edge are taken to be equal
 pub record IsCandidateCount (at : Pricing) (edge left set candidates : ℕ) : Type 0 where
-  pub pairs : candidates ≡ candidate_card (costing_tree at.costing) edge at.point (side_pairs at left set)
+  pub pairs : candidates ≡ candidate_card (costing_tree at.costing) edge at.point (card_at at left * card_at at (set - left))
   pub few : candidates ≤ max_product
 
 -- the cards of all sets
 abbrev pub AreCards : Pricing → (cards : List ℕ) → Type 0
 AreCards at cards = (set : ℕ) → IsSetOf (block_at at) set → slice_index cards set ≡ set_card (costing_tree at.costing) at.point set
 
--- none of them passes the limit of combinations
-abbrev pub AreFewCards : BlockTree → (cards : List ℕ) → Type 0
-AreFewCards block cards = (set : ℕ) → IsSetOf block set → slice_index cards set ≤ max_product
-
--- beside each the work of sorting so many rows
-abbrev pub AreSorts : BlockTree → (cards sorts : List ℕ) → Type 0
-AreSorts block cards sorts = (set : ℕ) → IsSetOf block set → slice_index sorts set ≡ slice_index cards set * bits (slice_index cards set)
-
--- at a point of a costing's grid the cards are kept, and beside them these works
-pub record ArePrices (at : Pricing) (cards sorts : List ℕ) : Type 0 where
+-- at a point of a costing's grid the cards are kept
+pub record ArePrices (at : Pricing) (cards : List ℕ) : Type 0 where
   pub is_costing : IsCosting (costing_tree at.costing)
   pub of_grid : IsPoint at.costing.grid at.point
   pub are_cards : AreCards at cards
-  pub are_sorts : AreSorts (block_at at) cards sorts

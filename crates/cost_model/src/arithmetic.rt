@@ -1,8 +1,7 @@
 // Numbers of rows, scaled by a selectivity and sorted.
-ghost use Rattle.std.specs.Prelude.{◌≡◌, ◌*◌, ◌≤◌, if◌then◌else◌};
+ghost use Rattle.std.specs.Prelude.{◌≡◌, ◌≤◌, if◌then◌else◌};
 ghost use Rattle.sql_values.specs.Limits.{max_product};
 ghost use Rattle.ess_grid.specs.Levels.{full_selectivity};
-ghost use Rattle.plan_tree.specs.Work.{bits};
 ghost use Rattle.cost_model.specs.AtPoint.{scaled};
 
 // The whole of a selectivity.
@@ -30,14 +29,4 @@ pub(crate) fn scaled_inside(inside: bool, card: u128, selectivity: u32) -> u128
     } else {
         card
     }
-}
-
-/// A number times the number of its binary digits.
-pub(crate) fn times_bits(n: u128) -> u128
-    requires { n ≤ max_product }
-    ensures product { result ≡ n * bits n }
-    ensures bound { result ≤ n * 101 }
-{
-    let bits = 128 - n.leading_zeros();
-    n * u128::from(bits)
 }

@@ -1,22 +1,18 @@
-// What the cards and costs of plans depend on. A card is worked out anew from the counts; whoever asks for many has `Prices`.
+// What the cards and costs of plans depend on.
 ghost use Rattle.std.specs.Prelude.{◌≡◌, ◌<◌, ◌≤◌, IfSome, length};
-ghost use Rattle.sql_values.specs.Limits.{max_product};
 ghost use Rattle.ess_grid.specs.Levels.{full_selectivity};
 ghost use Rattle.ess_grid.specs.Points.{IsPoint};
 ghost use Rattle.query_block.specs.Blocks.{axes_of, axis_of, block_tree};
-ghost use Rattle.plan_tree.specs.Sets.{set_of};
 ghost use Rattle.cost_model.specs.Fits.{FitsBlock};
 ghost use Rattle.cost_model.specs.Costing.{costing_tree, IsCosting};
-ghost use Rattle.cost_model.specs.AtPoint.{axis_of_index, stats_at};
-ghost use Rattle.cost_model.specs.Cards.{kept_product, card_of, selectivity_at};
+ghost use Rattle.cost_model.specs.AtPoint.{axis_of_index};
+ghost use Rattle.cost_model.specs.Cards.{selectivity_at};
 ghost use Rattle.cost_model.specs.Costs.{relation_stats};
 ghost use Rattle.cost_model.specs.Few.{AreFew};
 
-use crate::arithmetic::scaled_inside;
 use crate::axes::{open_columns, relation_axes};
 use crate::stats::{RelationStats, Stats};
 use ess_grid::{Grid, Point};
-use plan_tree::Subset;
 use query_block::{Block, axis_of_edge};
 use sql_values::{MAX_COLUMNS, MAX_RELATIONS};
 use std::marker::Model;
@@ -131,37 +127,6 @@ impl<'c> Costing<'c> {
 }
 
 impl<'c> Costing<'c> {
-    /// How many rows a set of relations is taken to give at a point of the grid: the product of what their filters keep
-    /// there, scaled by the selectivity of each edge between them, each time rounded up. It takes no memory.
-    pub fn card(&self, set: Subset, q: &Point) -> u128
-        requires point { IsPoint self.now.grid q.now }
-        ensures card { result ≡ card_of (costing_tree self.now) (set_of set) q.now }
-        ensures few { result ≤ max_product }
-    {
-        let mut card = self.kept_product(set, q);
-        for (number, edge) in self.block.edges().iter().enumerate() {
-            let inside = set.has_both(edge);
-            card = scaled_inside(inside, card, self.selectivity(number as u8, q));
-        }
-        card
-    }
-
-    // The product of the rows that the filters of a set's relations are taken to keep.
-    fn kept_product(&self, set: Subset, q: &Point) -> u128
-        requires { IsPoint self.now.grid q.now }
-        ensures product { let stats = stats_at (costing_tree self.now) q.now in
-            result ≡ kept_product (set_of set) 0 stats.relations }
-        ensures few { result ≤ max_product }
-    {
-        let mut product = 1u128;
-        for relation in 0..self.block().relations().len() {
-            if set.has(relation as u8) {
-                product *= u128::from(self.kept(relation as u8, q));
-            }
-        }
-        product
-    }
-
     /// The selectivity of an edge at a point of the grid.
     pub(crate) fn selectivity(&self, edge: u8, q: &Point) -> u32
         requires edge { edge < length self.now.block.edges }

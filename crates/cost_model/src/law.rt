@@ -1,6 +1,7 @@
 // The laws of cards and costs. Each has no body: its clauses speak of the definitions alone.
-ghost use Rattle.std.specs.Prelude.{ℕ, ◌≡◌, ◌^◌, ◌≤◌, Contains, List, length};
+ghost use Rattle.std.specs.Prelude.{ℕ, ◌≡◌, ◌^◌, ◌*◌, ◌<◌, ◌≤◌, ◌&&◌, Contains, IsFalse, List, length};
 ghost use Rattle.std.specs.Int.{div_ceil};
+ghost use Rattle.sql_values.specs.Limits.{max_product, cost_bound};
 ghost use Rattle.ess_grid.specs.Points.{IsGrid, IsPoint};
 ghost use Rattle.ess_grid.specs.Order.{PointBelow};
 ghost use Rattle.query_block.specs.Meaning.{RelationSet};
@@ -13,7 +14,6 @@ ghost use Rattle.cost_model.specs.Cards.{kept_product, card_of};
 ghost use Rattle.cost_model.specs.Rounding.{halvings_inside};
 ghost use Rattle.cost_model.specs.Costs.{cost_of};
 ghost use Rattle.cost_model.specs.Growth.{IsMonotone};
-ghost use Rattle.cost_model.specs.Bounded.{AreBounded};
 ghost use Rattle.cost_model.specs.Prices.{own_cost, sum_of};
 ghost use Rattle.cost_model.specs.Best.{IsCheapest, IsBest};
 ghost use Rattle.cost_model.specs.Optimal.{optimal_cost, best_plan};
@@ -47,7 +47,13 @@ pub fn cards_see_the_set_alone()
 /// The law of bounds: neither a card, nor the pairs of rows of two sets without a common relation, pass the limit of
 /// combinations, and every cost is below 2^113.
 pub fn costs_are_bounded()
-    ensures { (costing : CostingTree) → IsCosting costing → AreBounded costing }
+    ensures card { (costing : CostingTree) (set : RelationSet) (point : List ℕ) →
+        IsCosting costing → card_of costing set point ≤ max_product }
+    ensures pairs { (costing : CostingTree) (set other : RelationSet) (point : List ℕ) →
+        IsCosting costing → ((relation : ℕ) → IsFalse (set relation && other relation)) →
+        card_of costing set point * card_of costing other point ≤ max_product }
+    ensures cost { (costing : CostingTree) (p : PlanTree) (point : List ℕ) →
+        IsCosting costing → IsSubPlan costing.block p → cost_of costing p point < cost_bound }
 {}
 
 /// The law of prices: the cost of a plan is the sum of what its nodes cost by themselves.

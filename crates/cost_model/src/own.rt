@@ -1,26 +1,23 @@
-// What each node costs by itself over a set of relations. A charge that is 1 for each row or pair is left out.
+// What each node costs by itself over a set of relations: its line of the table of work, with cards for the rows.
 ghost use Rattle.std.specs.Prelude.{◌≡◌, ◌+◌, ◌-◌, ◌*◌, ◌^◌, ◌<◌, ◌≤◌, bit_and, length, slice_index_or};
 ghost use Rattle.sql_values.specs.Limits.{max_product};
-ghost use Rattle.plan_tree.specs.Work.{bits};
 ghost use Rattle.plan_tree.specs.Enumerated.{column_on, edge_at};
 ghost use Rattle.cost_model.specs.Costing.{costing_tree, IsCosting};
 ghost use Rattle.cost_model.specs.Costs.{index_stats};
 ghost use Rattle.plan_tree.specs.declared.roots.Root.TheVariants.{Scan, IndexScan, Nest, Hash, Merge, IndexLoop};
 ghost use Rattle.plan_tree.specs.Roots.{Stands};
-ghost use Rattle.cost_model.specs.Prices.{IsSetOf, IsSplitOf, IsPrice, IsCandidateCount, side_pairs, block_at};
+ghost use Rattle.cost_model.specs.Prices.{IsSetOf, IsSplitOf, IsPrice, IsCandidateCount, block_at, card_at};
 
 use crate::prices::Prices;
-use plan_tree::{Root, Subset, column_of_edge};
-use work_ledger::charge;
+use plan_tree::{Root, Subset, column_of_edge, work};
 
 impl Prices<'_> {
     // So many pairs of rows have the two sides of a set.
     fn pairs(&self, left: Subset, set: Subset) -> u128
         requires { IsSplitOf (block_at self.now) left set }
-        ensures pairs { result ≡ side_pairs self.now left set }
+        ensures pairs { result ≡ card_at self.now left * card_at self.now (set - left) }
         ensures few { result ≤ max_product }
     {
-        let _block = self.block();
         self.card(left) * self.card(set.without(left))
     }
 
@@ -31,8 +28,7 @@ impl Prices<'_> {
         ensures { IsPrice self.now (Scan relation) set result }
     {
         let stats = self.costing.relation(relation);
-        let pages = charge::PAGE * u128::from(stats.pages);
-        charge::OPEN + pages + u128::from(stats.rows) + self.card(set)
+        work::scan(stats.pages, stats.rows, self.card(set))
     }
 
     /// A scan by the index on a column.
@@ -46,9 +42,7 @@ impl Prices<'_> {
         let matches = self
             .costing
             .scaled_on(axis, index.matches.unwrap_or(0), self.point());
-        let descent = charge::NODE * u128::from(index.height);
-        let fetches = (charge::ENTRY + charge::FETCH) * u128::from(matches);
-        charge::OPEN + descent + fetches + self.card(set)
+        work::index_scan(index.height, u128::from(matches), self.card(set))
     }
 
     /// A nested loop.
@@ -56,7 +50,8 @@ impl Prices<'_> {
         requires { IsSplitOf (block_at self.now) left set }
         ensures { IsPrice self.now (Nest left) set result }
     {
-        self.card(set.without(left)) + self.pairs(left, set) + self.card(set)
+        let right = self.card(set.without(left));
+        work::nest(self.card(left), right, self.card(set))
     }
 
     /// How many pairs of rows of the two sides are taken to be equal in the columns of an edge.
@@ -74,10 +69,8 @@ impl Prices<'_> {
         requires candidates { IsCandidateCount self.now edge left set candidates }
         ensures { IsPrice self.now (Hash edge left) set result }
     {
-        charge::HASH_IN * self.card(set.without(left))
-            + self.card(left)
-            + candidates
-            + self.card(set)
+        let right = self.card(set.without(left));
+        work::hash(self.card(left), right, candidates, self.card(set))
     }
 
     /// A merge join that has so many candidates.
@@ -86,9 +79,8 @@ impl Prices<'_> {
         requires candidates { IsCandidateCount self.now edge left set candidates }
         ensures { IsPrice self.now (Merge edge left) set result }
     {
-        let right = set.without(left);
-        let sorts = self.sort(left) + self.sort(right);
-        sorts + self.card(left) + self.card(right) + candidates + self.card(set)
+        let right = self.card(set.without(left));
+        work::merge(self.card(left), right, candidates, self.card(set))
     }
 
     /// An index loop, by the index of the relation on the right on its column of the edge.
@@ -103,8 +95,8 @@ impl Prices<'_> {
         let column = column_of_edge(self.block(), edge, relation);
         let card = self.card(left);
         let candidates = self.candidates_among(edge, card * rows);
-        let descents = charge::NODE * u128::from(self.index(relation, column).height) * card;
-        descents + (charge::ENTRY + charge::FETCH + charge::PAIR) * candidates + self.card(set)
+        let height = self.index(relation, column).height;
+        work::index_loop(height, card, candidates, self.card(set))
     }
 
     /// What a node of any kind costs by itself over a set of relations: without what the plans of

@@ -4,7 +4,7 @@ ghost use Rattle.std.specs.Prelude.{◌≡◌, ◌^◌, ◌<◌, ◌≤◌};
 ghost use Rattle.sql_values.specs.Limits.{cost_bound};
 ghost use Rattle.ess_grid.specs.Points.{IsPoint};
 ghost use Rattle.query_block.specs.Blocks.{block_tree};
-ghost use Rattle.plan_tree.specs.Plans.{plan_tree, covers_of, FitsSet};
+ghost use Rattle.plan_tree.specs.Plans.{plan_tree, covers_of};
 ghost use Rattle.plan_tree.specs.Enumerated.{IsSubPlan};
 ghost use Rattle.plan_tree.specs.Roots.{root_of};
 ghost use Rattle.cost_model.specs.Costing.{costing_tree, IsCosting};
@@ -14,24 +14,7 @@ ghost use Rattle.cost_model.specs.Prices.{own_at, block_at, sum_of};
 use crate::costing::Costing;
 use crate::prices::{PriceRoom, Prices};
 use ess_grid::Point;
-use plan_tree::{Plan, Root, covers};
-
-// The outermost node of a plan.
-fn root_of(p: &Plan) -> Root
-    requires { FitsSet (plan_tree p.now) }
-    ensures { result ≡ root_of (plan_tree p.now) }
-{
-    match p {
-        Plan::Scan(relation) => Root::Scan(*relation),
-        Plan::IndexScan(relation, column) => Root::IndexScan(*relation, *column),
-        Plan::Nest(left, _) => Root::Nest(covers(left).number()),
-        Plan::Hash(edge, left, _) => Root::Hash(*edge, covers(left).number()),
-        Plan::Merge(edge, left, _) => Root::Merge(*edge, covers(left).number()),
-        Plan::IndexLoop(edge, left, relation) => {
-            Root::IndexLoop(*edge, covers(left).number(), *relation)
-        }
-    }
-}
+use plan_tree::{Plan, covers};
 
 // What the outermost node of a plan costs by itself.
 fn root_cost(prices: &Prices<'_>, p: &Plan) -> u128
@@ -42,7 +25,7 @@ fn root_cost(prices: &Prices<'_>, p: &Plan) -> u128
     ensures bound { result ≤ 2 ^ 108 }
 {
     let _block = prices.block();
-    prices.own(root_of(p), covers(p))
+    prices.own(p.root(), covers(p))
 }
 
 // What all nodes of a plan cost.

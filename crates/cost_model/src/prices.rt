@@ -1,16 +1,16 @@
-// What each node of a plan costs by itself at a point. The cards of all sets of the block's relations are worked out once, and
-// beside each what sorting so many rows costs, so that a node's price takes a few look-ups and no division.
-ghost use Rattle.std.specs.Prelude.{◌≡◌, ◌*◌, ◌<◌, ◌≤◌, length};
+// What each node of a plan costs by itself at a point. The cards of all sets of the block's relations are worked out once, so that
+// a node's price takes a few look-ups and no division.
+ghost use Rattle.std.specs.Prelude.{◌≡◌, ◌<◌, ◌≤◌, length};
 ghost use Rattle.sql_values.specs.Limits.{max_product};
 ghost use Rattle.ess_grid.specs.Points.{IsPoint};
-ghost use Rattle.plan_tree.specs.Work.{bits};
-ghost use Rattle.query_block.specs.Blocks.{block_tree};
+ghost use Rattle.plan_tree.specs.Sets.{set_of};
 ghost use Rattle.cost_model.specs.Costing.{costing_tree, IsCosting};
+ghost use Rattle.cost_model.specs.Cards.{card_of};
 ghost use Rattle.cost_model.specs.Costs.{index_on, index_stats, candidate_card};
 ghost use Rattle.cost_model.specs.Few.{IsFewIndex};
-ghost use Rattle.cost_model.specs.Prices.{IsSetOf, AreFewCards, AreSorts, block_at, card_at};
+ghost use Rattle.cost_model.specs.Prices.{IsSetOf, block_at, card_at};
 
-use crate::arithmetic::{scaled, times_bits};
+use crate::arithmetic::scaled;
 use crate::costing::Costing;
 use crate::set::set_count;
 use crate::set_cards::fill_cards;
@@ -23,18 +23,14 @@ use std::marker::Model;
 /// Room for the prices of nodes at a point. It is made once, and lent for one point after another.
 #[derive(Drop)]
 pub struct PriceRoom {
-    // By the numbers of sets: their cards, and what sorting so many rows costs.
+    // The cards of sets, by their numbers.
     cards: [u128; 64],
-    sorts: [u128; 64],
 }
 
 impl PriceRoom {
     /// Room for the prices at one point at a time.
     pub fn new() -> PriceRoom {
-        PriceRoom {
-            cards: [0; 64],
-            sorts: [0; 64],
-        }
+        PriceRoom { cards: [0; 64] }
     }
 }
 
@@ -60,17 +56,7 @@ impl<'a> Model for Prices<'a> {
     ghost view = { λ p. record { costing = p.costing.now; point = p.q.now } };
 
     ghost invariant = { λ p. ArePrices (record { costing = p.costing.now; point = p.q.now })
-        p.room.now.cards p.room.now.sorts };
-}
-
-// Works out what sorting as many rows costs as each set gives.
-fn fill_sorts(costing: &Costing<'_>, cards: &[u128; 64], sorts: &mut [u128; 64])
-    requires { AreFewCards (block_tree costing.now.block) cards.now }
-    ensures { AreSorts (block_tree costing.now.block) cards.now sorts.new }
-{
-    for set in 0..set_count(costing.block()) as usize {
-        sorts[set] = times_bits(cards[set]);
-    }
+        p.room.now.cards };
 }
 
 // The counts of the index on a column, among these. A column without one has one level and no matches.
@@ -97,7 +83,6 @@ impl<'a> Prices<'a> {
         ensures point { result.point ≡ q.now }
     {
         fill_cards(costing, q, &mut room.cards);
-        fill_sorts(costing, &room.cards, &mut room.sorts);
         Prices { costing, q, room }
     }
 
@@ -129,17 +114,9 @@ impl<'a> Prices<'a> {
         requires { IsSetOf (block_at self.now) set }
         ensures card { result ≡ card_at self.now set }
         ensures few { result ≤ max_product }
+        ensures costing { IsCosting (costing_tree self.now.costing) }
     {
         self.room.cards[set.number() as usize]
-    }
-
-    /// What sorting so many rows costs.
-    pub(crate) fn sort(&self, set: Subset) -> u128
-        requires { IsSetOf (block_at self.now) set }
-        ensures product { result ≡ card_at self.now set * bits (card_at self.now set) }
-        ensures few { result ≤ 101 * max_product }
-    {
-        self.room.sorts[set.number() as usize]
     }
 
     /// How many of so many pairs of rows are taken to be equal in the columns of an edge.
@@ -160,5 +137,19 @@ impl<'a> Prices<'a> {
         ensures few { IsFewIndex result }
     {
         index_on(self.costing.relation(relation).columns.as_slice(), column)
+    }
+}
+
+impl Costing<'_> {
+    /// How many rows a set of relations is taken to give at a point of the grid: the product of what their filters keep
+    /// there, scaled by the selectivity of each edge between them, each time rounded up. Of the set only the block's relations
+    /// count. It takes no memory.
+    pub fn card(&self, set: Subset, q: &Point) -> u128
+        requires point { IsPoint self.now.grid q.now }
+        ensures card { result ≡ card_of (costing_tree self.now) (set_of set) q.now }
+        ensures few { result ≤ max_product }
+    {
+        let of_block = Subset::new(set.number() & (set_count(self.block()) - 1));
+        Prices::new(self, q, &mut PriceRoom::new()).card(of_block)
     }
 }

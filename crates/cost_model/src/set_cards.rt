@@ -7,7 +7,7 @@ ghost use Rattle.ess_grid.specs.Points.{IsPoint};
 ghost use Rattle.query_block.specs.Blocks.{block_tree};
 ghost use Rattle.cost_model.specs.Costing.{costing_tree, IsCosting};
 ghost use Rattle.cost_model.specs.AtPoint.{scaled};
-ghost use Rattle.cost_model.specs.Prices.{AreCards, AreFewCards};
+ghost use Rattle.cost_model.specs.Prices.{AreCards};
 ghost use Rattle.cost_model.specs.SetCards.{AreProducts, AreScaled};
 
 use crate::arithmetic::scaled_inside;
@@ -66,7 +66,6 @@ pub(crate) fn fill_cards(costing: &Costing<'_>, q: &Point, cards: &mut [u128; 64
     requires { IsPoint costing.now.grid q.now }
     ensures costing { IsCosting (costing_tree costing.now) }
     ensures cards { AreCards (record { costing = costing.now; point = q.now }) cards.new }
-    ensures few { AreFewCards (block_tree costing.now.block) cards.new }
 {
     fill_products(costing, q, cards);
     for edge in 0..costing.block().edges().len() {

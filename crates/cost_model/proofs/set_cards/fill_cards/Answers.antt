@@ -11,6 +11,3 @@ returns-clause-cards c =
     let edges = c.edges-edge-end.ensures.edges ∙ ap (λ (block : BlockShape). block.edges) c.block.ensures.block in
     all-scaled (record { costing = c.args.costing.now; point = c.args.q.now }) c.loop-edge.cards c.loop-edge.edge
     (subst (λ all. length all ≤ c.loop-edge.edge) edges c.loop-edge-test.false) c.loop-edge.invariant
-
-pub returns-clause-few : goal.returns-clause-few
-returns-clause-few c = λ set below. let here = c.loop-edge.invariant set below in here.few

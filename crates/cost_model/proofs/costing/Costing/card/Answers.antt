@@ -1,29 +1,33 @@
-use Rattle.std.proofs.Common.{◌∙◌, List, cond, ap, sym}
-use Rattle.std.proofs.lemmas.List.{drop_all}
-use Rattle.query_block.specs.declared.edge.Edge.{Edge}
-use Rattle.cost_model.specs.Costing.{CostingShape, costing_tree}
-use Rattle.cost_model.specs.AtPoint.{scaled, stats_at}
-use Rattle.cost_model.specs.Cards.{kept_product, scaled_by_edges, card_of}
-use Rattle.plan_tree.specs.Sets.{set_of}
-use Rattle.cost_model.proofs.Cards.{next-scaled}
+use Rattle.std.proofs.Common.{◌≡◌, ◌∙◌, ◌-◌, ◌^◌, ℕ, bit_and, length, ap, subst, sym}
+use Rattle.query_block.specs.Shape.{BlockShape}
+use Rattle.query_block.specs.Blocks.{block_tree}
+use Rattle.cost_model.specs.Costing.{costing_tree}
+use Rattle.cost_model.specs.Pricing.{Pricing}
+use Rattle.cost_model.specs.Prices.{IsSetOf, block_at, card_at}
+use Rattle.cost_model.proofs.OfBlock.{below-all, card-of-block}
 use Rattle.cost_model.proofs.costing.Costing.card.Goals as goal
 
+-- how many sets the block has
+count : BlockShape → ℕ
+count block = 2 ^ length (block_tree block).relations
+
+pub card-requires : goal.card-requires
+unfolding count
+card-requires c =
+    let shape = c.args.self.now in
+    let at : Pricing = record { costing = shape; point = c.args.q.now } in
+    let there : c.new-2.result ≡ at = λ i. record { costing = c.new-2.ensures.costing i; point = c.new-2.ensures.point i } in
+    let many = c.set_count.ensures.count ∙ ap count c.block.ensures.block in
+    subst (λ prices. IsSetOf (block_at prices) c.new-of_block.result) (sym there)
+    (below-all c.args.set (length (costing_tree shape).block.relations) c.new-of_block.result (c.new-of_block.ensures ∙ λ i. bit_and (c.number.ensures i) (many i - 1)))
+
 pub returns-clause-card : goal.returns-clause-card
-unfolding card_of
+unfolding count
 returns-clause-card c =
     let shape = c.args.self.now in
-    let set = set_of c.args.set in
-    let kept = kept_product set 0 (stats_at (costing_tree shape) c.args.q.now).relations in
-    let edges = c.edges-edge-items.result.now in
-    let number = c.loop-number.number in
-    let edges_of : CostingShape → List Edge = λ one. one.block.edges in
-    sym (c.loop-number.invariant.0
-    ∙ ap (λ rest. scaled_by_edges shape.grid c.args.q.now set number rest c.loop-number.card) (drop_all number edges c.loop-number-test.false))
-    ∙ ap (λ all. scaled_by_edges shape.grid c.args.q.now set 0 all kept) (c.edges-edge-items.ensures.edges ∙ ap edges_of c.self.view_is)
-
-pub loop-number-preserved : goal.loop-number-preserved
-loop-number-preserved c =
-    next-scaled c.args.self.now.grid c.args.q.now (set_of c.args.set) c.edges-edge-items.result.now c.loop-number.number c.loop-number.card _ _ _ c.loop-number-test.true
-    c.loop-number.invariant
-    (c.scaled_inside-card.ensures.scaled ∙ (λ i. cond (c.has_both-inside.ensures i) (scaled c.loop-number.card (c.selectivity.ensures.selectivity i)) c.loop-number.card))
-    c.scaled_inside-card.ensures.few
+    let at : Pricing = record { costing = shape; point = c.args.q.now } in
+    let there : c.new-2.result ≡ at = λ i. record { costing = c.new-2.ensures.costing i; point = c.new-2.ensures.point i } in
+    let many = c.set_count.ensures.count ∙ ap count c.block.ensures.block in
+    c.card.ensures.card ∙ ap (λ prices. card_at prices c.new-of_block.result) there
+    ∙ card-of-block (costing_tree shape) c.args.set c.new-of_block.result c.args.q.now c.block.ensures.costing
+    (c.new-of_block.ensures ∙ λ i. bit_and (c.number.ensures i) (many i - 1))

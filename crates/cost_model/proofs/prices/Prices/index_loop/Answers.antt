@@ -1,4 +1,4 @@
-use Rattle.std.proofs.Common.{◌∙◌, ◌*◌, ℕ, ◌≤◌, ap, sym, subst}
+use Rattle.std.proofs.Common.{◌∙◌, ◌*◌, ◌^◌, ℕ, ◌≤◌, ap, sym, subst}
 use Rattle.query_block.specs.Shape.{BlockShape}
 use Rattle.plan_tree.specs.Enumerated.{column_on, edge_at}
 use Rattle.plan_tree.specs.Work.{index_loop_work}
@@ -9,7 +9,7 @@ use Rattle.cost_model.specs.Pricing.{Pricing}
 use Rattle.cost_model.specs.Costs.{relation_stats, index_stats, candidate_card}
 use Rattle.cost_model.specs.Prices.{own_cost, block_at}
 use Rattle.cost_model.proofs.AtPoint.{rows-at, height-at}
-use Rattle.cost_model.proofs.Bounds.{loop-few, in-room, descents-in-room, loop-in-room, pairs-in-room}
+use Rattle.cost_model.proofs.Bounds.{loop-few, not-capped, pairs-in-room}
 use Rattle.cost_model.proofs.Pairs.{loop-pairs-few}
 use Rattle.cost_model.proofs.prices.Prices.index_loop.Goals as goal
 
@@ -30,13 +30,15 @@ returns c =
     ∙ sym (rows-at tree at.point relation) in
     let of : IndexStats → ℕ = λ index. index.height in
     let column = c.column_of_edge-column.ensures ∙ ap (λ (block : BlockShape). column_on (edge_at block.edges c.args.edge) relation) c.block.ensures.block in
-    let height = c.from.ensures ∙ ap of c.index.ensures.stats ∙ ap (λ column. of (index_stats at.costing.stats relation column)) column
+    let height = ap of c.index-height.ensures.stats ∙ ap (λ column. of (index_stats at.costing.stats relation column)) column
     ∙ sym (height-at tree at.point relation (column_on (edge_at (block_at at).edges c.args.edge) relation)) in
     let candidates = c.candidates_among-candidates.ensures.candidates ∙ (λ i. candidate_card tree c.args.edge at.point (c.card-card.ensures.card i * rows i)) in
+    let few = loop-few c.index-height.result.height c.card-card.result c.candidates_among-candidates.result c.card.result c.index-height.ensures.few.height
+    c.card-card.ensures.few c.candidates_among-candidates.ensures.few c.card.ensures.few in
+    let exact = not-capped _ _ c.index_loop.ensures few in
     record {
-      own = λ i. index_loop_work (height i) (c.card-card.ensures.card i) (candidates i) (c.card.ensures.card i);
-      bound = loop-few c.from.result c.card-card.result c.candidates_among-candidates.result c.card.result (subst (λ n. n ≤ 4) (sym c.from.ensures) c.index.ensures.few.height)
-          c.card-card.ensures.few c.candidates_among-candidates.ensures.few c.card.ensures.few;
+      own = exact ∙ λ i. index_loop_work (height i) (c.card-card.ensures.card i) (candidates i) (c.card.ensures.card i);
+      bound = subst (λ n. n ≤ 2 ^ 108) (sym exact) few;
     }
 
 pub overflow_mul-card : goal.overflow_mul-card
@@ -45,17 +47,3 @@ overflow_mul-card c =
     pairs-in-room _ (loop-pairs-few at.costing at.point c.args.left c.args.relation _ _ c.block.ensures.costing c.requires.apart c.requires.relation
     c.card-card.ensures.card (c.from-rows.ensures ∙ ap (λ (one : RelationStats). one.rows) (c.relation.ensures.stats ∙ ap (λ (one : Pricing). relation_stats one.costing.stats c.args.relation) c.self.view_is)
     ∙ sym (rows-at (costing_tree at.costing) at.point c.args.relation)))
-
-pub overflow_mul-descents-2 : goal.overflow_mul-descents-2
-overflow_mul-descents-2 c =
-    descents-in-room c.from.result c.card-card.result (subst (λ n. n ≤ 4) (sym c.from.ensures) c.index.ensures.few.height) c.card-card.ensures.few
-
-pub overflow_add-result-3 : goal.overflow_add-result-3
-overflow_add-result-3 c =
-    loop-in-room c.from.result c.card-card.result c.candidates_among-candidates.result (subst (λ n. n ≤ 4) (sym c.from.ensures) c.index.ensures.few.height)
-    c.card-card.ensures.few c.candidates_among-candidates.ensures.few
-
-pub overflow_add-result-4 : goal.overflow_add-result-4
-overflow_add-result-4 c =
-    in-room _ (loop-few c.from.result c.card-card.result c.candidates_among-candidates.result c.card.result (subst (λ n. n ≤ 4) (sym c.from.ensures) c.index.ensures.few.height)
-    c.card-card.ensures.few c.candidates_among-candidates.ensures.few c.card.ensures.few)
