@@ -1,15 +1,11 @@
 -- Numbers of 128 bits, the greatest of which stands for every greater one: what comes of such numbers stands for what comes of those
 -- for which they stand.
-use Rattle.std.proofs.Common.{◌≡◌, ℕ, zero, suc, ◌*◌, ◌-◌, ◌^◌, ◌<◌, ◌≤◌, Bool, true, false, List, inl, inr, refl, ap, ◌∙◌, arith}
+use Rattle.std.proofs.Common.{◌≡◌, ℕ, zero, suc, ◌*◌, ◌-◌, ◌^◌, ◌<◌, ◌≤◌, Bool, true, false, inl, inr, refl, ap, ◌∙◌, arith}
 use Rattle.std.specs.Prelude.{max, cond}
 use Rattle.std.proofs.lemmas.Bool.{cases_lt}
 use Rattle.std.proofs.lemmas.Nat.{mul-le}
 use Rattle.std.proofs.Math.Nat.{mul_comm}
-use Rattle.query_block.specs.declared.edge.Edge.{Edge}
-use Rattle.plan_tree.specs.Plans.{PlanTree, has_leaf}
-use Rattle.plan_tree.specs.Work.{nest_work, index_loop_work}
-use Rattle.known_rows.specs.Capped.{capped}
-use Rattle.known_rows.specs.LeastWork.{are_joined, least_index_scan, least_of_pairs}
+use Rattle.plan_tree.specs.Work.{capped, index_scan_line, nest_work, index_loop_work}
 
 -- a product with a factor that is capped
 one-capped : (a b : ℕ) → capped (a * capped b) ≡ capped (a * b)
@@ -33,12 +29,9 @@ pub index_loop-capped : (height l known out : ℕ) → known < 2 ^ 64
     → capped (index_loop_work height (capped l) (max (capped out) known) (capped out)) ≡ capped (index_loop_work height l (max out known) out)
 index_loop-capped height l known out small = omega (arith, one-capped (2 * height) l, small)
 
-pub index_scan-capped : (height out : ℕ) → capped (least_index_scan height (capped out)) ≡ capped (least_index_scan height out)
+pub index_scan-capped : (height out : ℕ) → capped (index_scan_line height (capped out) (capped out)) ≡ capped (index_scan_line height out out)
 index_scan-capped height out = omega arith
 
-pub pairs-capped : (edges : List Edge) (left right : PlanTree) (known l r : ℕ) → known < 2 ^ 64 → capped (least_of_pairs edges left right known (capped l) (capped r)) ≡ capped (least_of_pairs edges left right known l r)
-pairs-capped edges left right known l r small = by (are_joined edges (has_leaf left) (has_leaf right))
-  where
-    by : (joined : Bool) → capped (cond joined known (max known (capped l * capped r))) ≡ capped (cond joined known (max known (l * r)))
-    by true = refl
-    by false = omega (arith, product-capped l r)
+pub pairs-capped : (joined : Bool) (known l r : ℕ) → known < 2 ^ 64 → capped (cond joined known (max known (capped l * capped r))) ≡ capped (cond joined known (max known (l * r)))
+pairs-capped true known l r small = refl
+pairs-capped false known l r small = omega (arith, product-capped l r)

@@ -1,5 +1,5 @@
 -- What is known stays so as more is learned, and no plan works less than the least.
-use Rattle.std.proofs.Common.{◌≡◌, ℕ, ◌*◌, ◌^◌, ◌<◌, ◌≤◌, Bool, true, false, List, [], ◌∷◌, zero, suc, cond, length, count_by, refl, subst, arith}
+use Rattle.std.proofs.Common.{◌≡◌, ℕ, ◌*◌, ◌^◌, ◌<◌, ◌≤◌, Bool, true, false, List, [], ◌∷◌, zero, suc, cond, length, nat_eq, count_by, refl, subst, arith}
 use Rattle.std.specs.Prelude.{max, replicate, slice_index_or, slice_set}
 use Rattle.std.proofs.lemmas.List.Sums.{sum_by-cons}
 use Rattle.std.proofs.lemmas.Nat.{mul-le}
@@ -11,13 +11,13 @@ use Rattle.query_block.specs.Meaning.{meets_filter, rows_of}
 use Rattle.plan_tree.specs.Plans.{PlanTree, Scan, IndexScan, Nest, Hash, Merge, IndexLoop, covers_of, has_leaf}
 use Rattle.plan_tree.specs.Enumerated.{AreApart, Crosses, IsLookUp, column_on, edge_at, IsSubPlan}
 use Rattle.plan_tree.specs.Sets.{set_of}
-use Rattle.plan_tree.specs.Work.{bits, candidates, height_in, loop_candidates, out_of, table_rows, work_of}
-use Rattle.plan_tree.proofs.Digits.{bits-le}
+use Rattle.plan_tree.specs.Work.{candidates, height_in, loop_candidates, out_of, table_rows, work_of}
+use Rattle.plan_tree.proofs.Digits.{sort-le}
 use Rattle.plan_tree.proofs.LeafSets.{set-of-plan}
 use Rattle.exec_join.proofs.Sets.{leaf-apart}
 use Rattle.known_rows.specs.Entries.{entries_found}
 use Rattle.known_rows.specs.Known.{AreKnown, KnownState, known_entries, known_rows_of, learned, learned_entries, nothing_known}
-use Rattle.known_rows.specs.LeastWork.{are_joined, kept_at_least, least_of_leaf, least_of_pairs, least_rows, least_work}
+use Rattle.known_rows.specs.LeastWork.{are_joined, least_of_leaf, least_rows, least_work}
 use Rattle.known_rows.proofs.Outs.{candidates-loop, found-loop, out-candidates, out-leaf, out-matches, out-product}
 
 -- ---- learning
@@ -77,9 +77,11 @@ module _ (tables : List StoredTable) (block : BlockTree) (known : KnownState) (i
   every [] = omega arith
   every (row ∷ rows) = omega (arith, sum_by-cons (λ (r : ValueRow). 1) row rows, every rows)
 
-  kept-le : (filter : List FilterTree) (rows : List ValueRow) (least : ℕ) → least ≤ count_by (meets_filter filter) rows → kept_at_least filter (length rows) least ≤ count_by (meets_filter filter) rows
+  kept-le : (filter : List FilterTree) (rows : List ValueRow) (least : ℕ) → least ≤ count_by (meets_filter filter) rows → cond (nat_eq (length filter) 0) (length rows) least ≤ count_by (meets_filter filter) rows
   kept-le [] rows least some = every rows
-  kept-le (conjunct ∷ conjuncts) rows least some = some
+  kept-le (conjunct ∷ conjuncts) rows least some =
+      let none : nat_eq (length (conjunct ∷ conjuncts)) 0 ≡ false = grind arith in
+      rw none some
 
   leaf-le : (relation : ℕ) → relation < length block.relations → least_of_leaf tables block known relation ≤ out_of tables block (Scan relation)
   leaf-le relation there =
@@ -90,7 +92,7 @@ module _ (tables : List StoredTable) (block : BlockTree) (known : KnownState) (i
 
   -- each row of one side goes with each of the other, where no edge joins them
   pairs-le : (left right : PlanTree) (l r : ℕ) → AreApart left right → l ≤ out_of tables block left → r ≤ out_of tables block right
-      → least_of_pairs block.edges left right (known_rows_of known (covers_of (Nest left right))) l r ≤ out_of tables block (Nest left right)
+      → cond (are_joined block.edges (has_leaf left) (has_leaf right)) (known_rows_of known (covers_of (Nest left right))) (max (known_rows_of known (covers_of (Nest left right))) (l * r)) ≤ out_of tables block (Nest left right)
   pairs-le left right l r apart few few' = by (are_joined block.edges (has_leaf left) (has_leaf right)) refl
     where
       least : ℕ
@@ -120,9 +122,6 @@ module _ (tables : List StoredTable) (block : BlockTree) (known : KnownState) (i
       omega (arith, some, found-loop tables block edge left relation look)
 
   -- ---- work
-
-  sort-le : (n m : ℕ) → n ≤ m → n * bits n ≤ m * bits m
-  sort-le n m le = mul-le n (bits n) m (bits m) le (bits-le n m le)
 
   of-join : (edge : ℕ) (left right : PlanTree) → AreApart left right → Crosses block.edges edge left right → out_of tables block (Nest left right) ≤ candidates tables block edge left right
   of-join edge left right apart crosses = out-candidates tables block left right apart edge crosses

@@ -1,33 +1,34 @@
 -- The least rows and the least work of a plan, by numbers that are capped of its sides.
-use Rattle.std.proofs.Common.{◌≡◌, ℕ, ◌^◌, ◌<◌, List, max, ap, sym, ◌∙◌}
+use Rattle.std.proofs.Common.{◌≡◌, ℕ, ◌*◌, ◌^◌, ◌<◌, Bool, List, cond, max, ap, sym, ◌∙◌}
 use Rattle.sql_values.specs.Stored.{StoredTable}
 use Rattle.query_block.specs.Blocks.{BlockTree, relation_at}
-use Rattle.plan_tree.specs.Plans.{PlanTree, IndexScan, Nest, IndexLoop, covers_of}
+use Rattle.plan_tree.specs.Plans.{PlanTree, IndexScan, Nest, IndexLoop, covers_of, has_leaf}
 use Rattle.plan_tree.specs.Enumerated.{column_on, edge_at}
-use Rattle.plan_tree.specs.Work.{height_in, nest_work, index_loop_work}
-use Rattle.known_rows.specs.Capped.{capped}
+use Rattle.plan_tree.specs.Work.{capped, height_in, index_scan_line, nest_work, index_loop_work}
 use Rattle.known_rows.specs.Known.{KnownState, known_entries, known_rows_of}
-use Rattle.known_rows.specs.LeastWork.{least_index_scan, least_of_pairs, least_own, least_rows}
+use Rattle.known_rows.specs.LeastWork.{are_joined, least_own, least_rows}
 use Rattle.known_rows.proofs.Capped.{index_loop-capped, index_scan-capped, nest-capped, pairs-capped}
 
 module _ (tables : List StoredTable) (block : BlockTree) (known : KnownState) where
   abbrev Rows : PlanTree → ℕ → Type 0
   Rows p n = n ≡ capped (least_rows tables block known p)
 
-  pub nest-rows : (p left right : PlanTree) (k l r : ℕ) → p ≡ Nest left right → k ≡ known_rows_of known (covers_of p) → k < 2 ^ 64 → Rows left l → Rows right r
-      → capped (least_of_pairs block.edges left right k l r) ≡ capped (least_rows tables block known p)
-  nest-rows p left right k l r is some small few few' =
-      (λ i. capped (least_of_pairs block.edges left right k (few i) (few' i)))
-      ∙ pairs-capped block.edges left right k (least_rows tables block known left) (least_rows tables block known right) small
-      ∙ (λ i. capped (least_of_pairs block.edges left right ((some ∙ ap (λ q. known_rows_of known (covers_of q)) is) i) (least_rows tables block known left) (least_rows tables block known right)))
+  pub nest-rows : (p left right : PlanTree) (joined : Bool) (k l r : ℕ) → p ≡ Nest left right → joined ≡ are_joined block.edges (has_leaf left) (has_leaf right)
+      → k ≡ known_rows_of known (covers_of p) → k < 2 ^ 64 → Rows left l → Rows right r → capped (cond joined k (max k (l * r))) ≡ capped (least_rows tables block known p)
+  nest-rows p left right joined k l r is between some small few few' =
+      let pairs = least_rows tables block known left * least_rows tables block known right in
+      (λ i. capped (cond (between i) k (max k (few i * few' i))))
+      ∙ pairs-capped (are_joined block.edges (has_leaf left) (has_leaf right)) k (least_rows tables block known left) (least_rows tables block known right) small
+      ∙ ap (λ n. capped (cond (are_joined block.edges (has_leaf left) (has_leaf right)) n (max n pairs))) (some ∙ ap (λ q. known_rows_of known (covers_of q)) is)
       ∙ ap (λ q. capped (least_rows tables block known q)) (sym is)
 
   -- ---- the node by itself
 
   pub own-index_scan : (p : PlanTree) (relation column height out : ℕ) → p ≡ IndexScan relation column → height ≡ height_in tables (relation_at block.relations relation) column → Rows p out
-      → capped (least_index_scan height out) ≡ capped (least_own tables block known p)
+      → capped (index_scan_line height out out) ≡ capped (least_own tables block known p)
   own-index_scan p relation column height out is levels few =
-      (λ i. capped (least_index_scan (levels i) ((few ∙ ap (λ q. capped (least_rows tables block known q)) is) i)))
+      let given = few ∙ ap (λ q. capped (least_rows tables block known q)) is in
+      (λ i. capped (index_scan_line (levels i) (given i) (given i)))
       ∙ index_scan-capped (height_in tables (relation_at block.relations relation) column) (least_rows tables block known (IndexScan relation column))
       ∙ ap (λ q. capped (least_own tables block known q)) (sym is)
 

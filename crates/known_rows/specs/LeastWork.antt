@@ -2,61 +2,47 @@
 -- work. What is known stands in it for the rows that nodes give, and for candidates, of which a join has no fewer than it gives,
 -- and an index loop no fewer than its edge is known to find. What tables and indexes tell without work is exact: rows, pages and
 -- heights.
-use Rattle.std.specs.Prelude.{ℕ, ◌+◌, ◌*◌, ◌^◌, Bool, List, [], ◌∷◌, length, max, if◌then◌else◌}
+use Rattle.std.specs.Prelude.{ℕ, ◌+◌, ◌*◌, ◌^◌, Bool, List, length, max, nat_eq, if◌then◌else◌}
 use Rattle.std.specs.List.{list_any}
 use Rattle.sql_values.specs.Stored.{StoredTable}
-use Rattle.work_ledger.specs.Charges.{open_charge, node_charge, entry_charge, fetch_charge}
 use Rattle.query_block.specs.declared.edge.Edge.{Edge}
-use Rattle.query_block.specs.Conditions.{FilterTree}
 use Rattle.query_block.specs.Blocks.{BlockTree, relation_at}
 use Rattle.query_block.specs.Meaning.{RelationSet}
 use Rattle.plan_tree.specs.Plans.{PlanTree, Scan, IndexScan, Nest, Hash, Merge, IndexLoop, covers_of, has_leaf}
 use Rattle.plan_tree.specs.Enumerated.{column_on, edge_at}
 use Rattle.plan_tree.specs.Sets.{is_between}
-use Rattle.plan_tree.specs.Work.{height_in, table_rows, scan_work, nest_work, hash_work, merge_work, index_loop_work}
+use Rattle.plan_tree.specs.Work.{height_in, table_rows, scan_work, index_scan_line, nest_work, hash_work, merge_work, index_loop_work}
 use Rattle.known_rows.specs.Known.{KnownState, known_entries, known_rows_of}
 
--- how many rows of a table a filter keeps, at the least: all, where it has no conjunct
-abbrev pub kept_at_least : (filter : List FilterTree) → (all known : ℕ) → ℕ
-kept_at_least [] all known = all
-kept_at_least (conjunct ∷ conjuncts) all known = known
-
--- how many rows a leaf gives, at the least
+-- how many rows a leaf gives, at the least: all of its table, where it has no filter
 abbrev pub least_of_leaf : List StoredTable → BlockTree → (known : KnownState) → (relation : ℕ) → ℕ
 least_of_leaf tables block known relation =
     let own = relation_at block.relations relation in
-    kept_at_least own.filter (length (table_rows tables own)) (known_rows_of known (2 ^ relation))
+    if nat_eq (length own.filter) 0 then length (table_rows tables own) else known_rows_of known (2 ^ relation)
 
 -- whether some edge has one of its relations in each of two sets
 abbrev pub are_joined : List Edge → (left right : RelationSet) → Bool
 are_joined edges left right = list_any (is_between left right) edges
 
--- how many rows two sides have together, at the least: each row of one goes with each of the other, where no edge joins them
-abbrev pub least_of_pairs : List Edge → (left right : PlanTree) → (known l r : ℕ) → ℕ
-least_of_pairs edges left right known l r =
-    if are_joined edges (has_leaf left) (has_leaf right) then known else max known (l * r)
-
--- how many rows a plan gives, at the least
+-- how many rows a plan gives, at the least; each row of a side goes with each of the other, where no edge joins them
 abbrev pub least_rows : List StoredTable → BlockTree → (known : KnownState) → PlanTree → ℕ
 least_rows tables block known (Scan relation) = least_of_leaf tables block known relation
 least_rows tables block known (IndexScan relation column) = least_of_leaf tables block known relation
 least_rows tables block known (Nest left right) =
-    least_of_pairs block.edges left right (known_rows_of known (covers_of (Nest left right)))
-    (least_rows tables block known left) (least_rows tables block known right)
+    let some = known_rows_of known (covers_of (Nest left right)) in
+    if are_joined block.edges (has_leaf left) (has_leaf right) then some
+    else max some (least_rows tables block known left * least_rows tables block known right)
 least_rows tables block known (Hash edge left right) = known_rows_of known (covers_of (Hash edge left right))
 least_rows tables block known (Merge edge left right) = known_rows_of known (covers_of (Merge edge left right))
 least_rows tables block known (IndexLoop edge left relation) = known_rows_of known (covers_of (IndexLoop edge left relation))
 
--- the least work of a scan by an index, which reads no fewer rows than it gives
-abbrev pub least_index_scan : (height out : ℕ) → ℕ
-least_index_scan height out = open_charge + node_charge * height + (entry_charge + fetch_charge) * out + out
-
--- the least work of the outermost node of a plan by itself
+-- the least work of the outermost node of a plan by itself; a scan by an index reads no fewer rows than it gives
 abbrev pub least_own : List StoredTable → BlockTree → (known : KnownState) → PlanTree → ℕ
 least_own tables block known (Scan relation) =
     scan_work tables (relation_at block.relations relation) (least_of_leaf tables block known relation)
 least_own tables block known (IndexScan relation column) =
-    least_index_scan (height_in tables (relation_at block.relations relation) column) (least_of_leaf tables block known relation)
+    let out = least_of_leaf tables block known relation in
+    index_scan_line (height_in tables (relation_at block.relations relation) column) out out
 least_own tables block known (Nest left right) =
     nest_work (least_rows tables block known left) (least_rows tables block known right) (least_rows tables block known (Nest left right))
 least_own tables block known (Hash edge left right) =

@@ -1,19 +1,17 @@
 // The least work of a plan, by what is known of numbers of rows and entries. Each function that calls itself does so for the
 // sides of a join, so the stack that it takes is bounded by how deep the plan is.
-ghost use Rattle.std.specs.Prelude.{◌≡◌, ◌-◌, ◌^◌, ◌<◌, length, min};
+ghost use Rattle.std.specs.Prelude.{◌≡◌, ◌-◌, ◌*◌, ◌^◌, ◌<◌, if◌then◌else◌, length, max, min};
 ghost use Rattle.query_block.specs.Blocks.{block_tree, relation_at};
 ghost use Rattle.plan_tree.specs.Plans.{covers_of, has_leaf, plan_tree};
 ghost use Rattle.plan_tree.specs.Enumerated.{IsIndexed, IsSubPlan};
 ghost use Rattle.plan_tree.specs.Sets.{set_of};
-ghost use Rattle.plan_tree.specs.Work.{height_in, scan_work};
+ghost use Rattle.plan_tree.specs.Work.{capped, height_in, scan_work};
 ghost use Rattle.db_catalog.specs.Fits.{Fits};
-ghost use Rattle.known_rows.specs.Capped.{capped};
-ghost use Rattle.known_rows.specs.LeastWork.{are_joined, least_of_leaf, least_of_pairs, least_own, least_rows, least_work};
+ghost use Rattle.known_rows.specs.LeastWork.{are_joined, least_of_leaf, least_own, least_rows, least_work};
 
 use crate::known::KnownRows;
-use crate::line;
 use db_catalog::Metered;
-use plan_tree::{Plan, Subset, column_of_edge, covers};
+use plan_tree::{Plan, Subset, column_of_edge, covers, work};
 use query_block::Block;
 
 // The table of a relation.
@@ -32,7 +30,7 @@ fn scan(block: &Block, meter: &Metered<'_>, relation: u8, out: u128) -> u128
         result ≡ capped (scan_work meter.now.database.tables own out) }
 {
     let table = table_of(block, relation);
-    line::scan(meter.pages(table), meter.rows(table), out)
+    work::scan(meter.pages(table), meter.rows(table), out)
 }
 
 // How many levels the index on a column has.
@@ -77,15 +75,13 @@ fn are_joined(block: &Block, left: &Plan, right: &Plan) -> bool
     are_sets_joined(block, relations_of(block, left), relations_of(block, right))
 }
 
-// How many rows two sides have together, at the least, of which so many are known.
-fn pairs(block: &Block, left: &Plan, right: &Plan, known: u64, l: u128, r: u128) -> u128
-    requires left { IsSubPlan (block_tree block.now) (plan_tree left.now) }
-    requires right { IsSubPlan (block_tree block.now) (plan_tree right.now) }
-    ensures { result ≡ capped (least_of_pairs block.now.edges (plan_tree left.now)
-        (plan_tree right.now) known l r) }
+// How many rows two sides have together, at the least, of which so many are known: whether an edge joins them, and how many
+// rows each has.
+fn pairs(joined: bool, known: u64, l: u128, r: u128) -> u128
+    ensures { result ≡ capped (if joined then known else max known (l * r)) }
 {
     let known = u128::from(known);
-    if are_joined(block, left, right) {
+    if joined {
         known
     } else {
         known.max(l.saturating_mul(r))
@@ -124,7 +120,7 @@ impl KnownRows {
                 let known = self.rows(relations_of(block, p));
                 let l = self.least_rows(block, meter, left);
                 let r = self.least_rows(block, meter, right);
-                pairs(block, left, right, known, l, r)
+                pairs(are_joined(block, left, right), known, l, r)
             }
             Plan::Hash(_, _, _) | Plan::Merge(_, _, _) | Plan::IndexLoop(_, _, _) => {
                 u128::from(self.rows(relations_of(block, p)))
@@ -143,25 +139,25 @@ impl KnownRows {
         match p {
             Plan::Scan(relation) => scan(block, meter, *relation, out),
             Plan::IndexScan(relation, column) => {
-                line::index_scan(height(block, meter, *relation, *column), out)
+                work::index_scan(height(block, meter, *relation, *column), out, out)
             }
             Plan::Nest(left, right) => {
                 let l = self.least_rows(block, meter, left);
-                line::nest(l, self.least_rows(block, meter, right), out)
+                work::nest(l, self.least_rows(block, meter, right), out)
             }
             Plan::Hash(_, left, right) => {
                 let l = self.least_rows(block, meter, left);
-                line::hash(l, self.least_rows(block, meter, right), out)
+                work::hash(l, self.least_rows(block, meter, right), out, out)
             }
             Plan::Merge(_, left, right) => {
                 let l = self.least_rows(block, meter, left);
-                line::merge(l, self.least_rows(block, meter, right), out)
+                work::merge(l, self.least_rows(block, meter, right), out, out)
             }
             Plan::IndexLoop(edge, left, relation) => {
                 let column = column_of_edge(block, *edge, *relation);
                 let levels = height(block, meter, *relation, column);
                 let found = out.max(u128::from(self.entries(*edge, relations_of(block, left))));
-                line::index_loop(levels, self.least_rows(block, meter, left), found, out)
+                work::index_loop(levels, self.least_rows(block, meter, left), found, out)
             }
         }
     }

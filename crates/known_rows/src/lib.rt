@@ -9,7 +9,6 @@
 mod known;
 mod law;
 mod least;
-mod line;
 
 pub use known::KnownRows;
 pub use law::{

@@ -1,10 +1,10 @@
 use Rattle.std.proofs.Common.{◌≡◌, ap, ◌∙◌, rules}
 use Rattle.query_block.specs.Blocks.{block_tree}
 use Rattle.plan_tree.specs.declared.plan.Plan.{Plan, the_lemmas}
-use Rattle.plan_tree.specs.Plans.{Nest, plan_tree}
+use Rattle.plan_tree.specs.Plans.{Nest, has_leaf, plan_tree}
+use Rattle.plan_tree.specs.Work.{capped}
 use Rattle.known_rows.specs.Known.{known_rows_of}
-use Rattle.known_rows.specs.Capped.{capped}
-use Rattle.known_rows.specs.LeastWork.{least_of_pairs, least_rows}
+use Rattle.known_rows.specs.LeastWork.{are_joined, least_rows}
 use Rattle.known_rows.proofs.Nodes.{nest-rows}
 use Rattle.known_rows.proofs.known.KnownRows.+least_rows.Goals as goal
 
@@ -18,7 +18,7 @@ returns-in-Nest t c =
     let tree : plan_tree c.args.p.now ≡ Nest left right = search (rules, the_lemmas) in
     let rows = λ (p : Plan). capped (least_rows tables block known (plan_tree p)) in
     c.pairs.ensures
-    ∙ (λ i. capped (least_of_pairs block.edges (plan_tree (c.deref-in-Nest-2.ensures i)) (plan_tree (c.deref-in-Nest-3.ensures i)) c.rows-known.result c.least_rows-l.result c.least_rows-r.result))
-    ∙ nest-rows tables block known (plan_tree c.args.p.now) left right c.rows-known.result c.least_rows-l.result c.least_rows-r.result tree
+    ∙ nest-rows tables block known (plan_tree c.args.p.now) left right c.are_joined.result c.rows-known.result c.least_rows-l.result c.least_rows-r.result tree
+    (c.are_joined.ensures ∙ (λ i. are_joined block.edges (has_leaf (plan_tree (c.deref-in-Nest-2.ensures i))) (has_leaf (plan_tree (c.deref-in-Nest-3.ensures i)))))
     (c.rows-known.ensures ∙ ap (λ n. known_rows_of known n) c.relations_of.ensures) c.rows-known.type_inv
     (c.least_rows-l.ensures ∙ ap rows c.deref.ensures) (c.least_rows-r.ensures ∙ ap rows c.deref-in-Nest.ensures)

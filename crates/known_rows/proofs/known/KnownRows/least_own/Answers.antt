@@ -2,8 +2,7 @@ use Rattle.std.proofs.Common.{◌≡◌, max, ap, ◌∙◌, arith, rules}
 use Rattle.query_block.specs.Blocks.{block_tree, relation_at}
 use Rattle.plan_tree.specs.declared.plan.Plan.{Plan, the_lemmas}
 use Rattle.plan_tree.specs.Plans.{IndexScan, Nest, IndexLoop, covers_of, plan_tree}
-use Rattle.plan_tree.specs.Work.{height_in, index_loop_work}
-use Rattle.known_rows.specs.Capped.{capped}
+use Rattle.plan_tree.specs.Work.{capped, height_in, index_loop_work}
 use Rattle.known_rows.specs.Known.{known_entries}
 use Rattle.known_rows.specs.LeastWork.{least_rows}
 use Rattle.known_rows.proofs.Nodes.{own-index_scan, own-nest, own-index_loop}
