@@ -1,5 +1,5 @@
 -- What a way to the rows of a relation has left before anything is read, and so the scan of a leaf.
-use Rattle.std.proofs.Common.{◌≡◌, ℕ, ◌+◌, ◌<◌, Option, Some, None, length, refl, sym, ap, subst, ◌∙◌, arith}
+use Rattle.std.proofs.Common.{◌≡◌, ℕ, ◌+◌, ◌<◌, Option, Some, None, IfSome, length, refl, sym, ap, subst, ◌∙◌, arith}
 use Rattle.std.specs.List.Sorted.{IsPermutation}
 use Rattle.std.proofs.lemmas.List.Sorted.{IsPermutation-map, length_permutation}
 use Rattle.work_ledger.specs.Charges.{open_charge}
@@ -14,9 +14,9 @@ use Rattle.db_catalog.specs.Database.{DatabaseState}
 use Rattle.db_catalog.specs.Indexes.{index_height}
 use Rattle.exec_scan.specs.declared.way.Way.{Way}
 use Rattle.exec_scan.specs.declared.way.Way.TheVariants as way
-use Rattle.exec_scan.specs.EntryReading.{EntryReaderState, reader_by}
+use Rattle.exec_scan.specs.EntryReading.{EntryReaderState}
 use Rattle.exec_scan.specs.Places.{placed_row}
-use Rattle.exec_scan.specs.Reading.{CanBeFound, HasAll, IsRelationIn, LeadsTo, column_of, is_wanted, read_due, work_by}
+use Rattle.exec_scan.specs.Reading.{HasAll, IsRelationIn, LeadsTo, column_of, is_wanted, read_due, work_by}
 use Rattle.exec_scan.specs.Scanning.{find_left}
 use Rattle.exec_scan.specs.OnWay.{with_emits}
 use Rattle.exec_scan.specs.State.{leaf_by}
@@ -26,7 +26,7 @@ use Rattle.plan_tree.proofs.MetParts.{meets-part, meets-some}
 
 -- an index that isn't descended yet: what meets the filter is wanted and has a value in the column
 pub index-leads : (database : DatabaseState) (own : RelationTree) (column : ℕ) → IsRelationIn database own → IsIndexed own column × HasUsable own column
-    → (reader : EntryReaderState) → reader ≡ reader_by own.table column → LeadsTo database own (Some column) (way.Index reader)
+    → (reader : EntryReaderState) → reader ≡ record { table = own.table; column = column; cursor = None } → LeadsTo database own (Some column) (way.Index reader)
 index-leads database own column relation (indexed, usable) reader new =
     let wanted = is_wanted own column in
     let levels : index_height database own.table column ≡ height_in database.tables own column = ap height_of (count-entries database own.table column) in
@@ -76,6 +76,6 @@ module _ (database : DatabaseState) (block : BlockTree) (is : IsBlock block) (re
 
 -- what a leaf of a plan of the block tells of its relation
 pub scannable : (block : BlockTree) (relation : ℕ) (column : Option ℕ) → IsSubPlan block (leaf_by relation column)
-    → (relation < length block.relations) × CanBeFound (relation_at block.relations relation) column
+    → (relation < length block.relations) × IfSome column (λ by. IsIndexed (relation_at block.relations relation) by × HasUsable (relation_at block.relations relation) by)
 scannable block relation None is = (is, tt)
 scannable block relation (Some column) is = (is.exists, (is.indexed, is.usable))

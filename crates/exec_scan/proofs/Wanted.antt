@@ -11,8 +11,8 @@ use Rattle.db_catalog.specs.Database.{DatabaseState, StandAsWords, table_at}
 use Rattle.db_catalog.specs.Fits.{FitsTable}
 use Rattle.db_catalog.specs.Indexes.{index_at, index_height, row_of_entry}
 use Rattle.db_catalog.proofs.Picked.{in-range}
-use Rattle.exec_scan.specs.EntryReading.{EntryReaderState, MovesReader, ReadsEntry, entries_ahead, entries_at}
-use Rattle.exec_scan.specs.Reading.{AreNone, IsFirstRow, descent_due, entries_to_read, is_wanted, wanted_due, wanted_entries, wanted_rows}
+use Rattle.exec_scan.specs.EntryReading.{EntryReaderState, ReadsEntry, entries_ahead, entries_at}
+use Rattle.exec_scan.specs.Reading.{IsFirstRow, descent_due, entries_to_read, is_wanted, wanted_due, wanted_entries, wanted_rows}
 use Rattle.exec_scan.proofs.Relations.{first-of}
 
 -- a cursor is there or not
@@ -55,8 +55,8 @@ module _ (database : DatabaseState) (own : RelationTree) (fits : FitsTable datab
       ∙ ap (entries_to_read (wanted old.table old.column) (index_at database old.table old.column)) (sym (none-of old.cursor none))
 
   -- then one entry after another is read
-  module _ (old mid new : EntryReaderState) (table : old.table ≡ own.table) (same : wanted_entries database own mid ≡ wanted_entries database own old) (before : MovesReader old mid)
-      (moves : MovesReader mid new) (some : IsSome mid.cursor) (still : IsSome new.cursor) where
+  module _ (old mid new : EntryReaderState) (table : old.table ≡ own.table) (same : wanted_entries database own mid ≡ wanted_entries database own old) (before : mid ≡ record old { cursor = mid.cursor })
+      (moves : new ≡ record mid { cursor = new.cursor }) (some : IsSome mid.cursor) (still : IsSome new.cursor) where
     table-mid : mid.table ≡ old.table
     table-mid = ap (λ (reader : EntryReaderState). reader.table) before
 
@@ -69,12 +69,12 @@ module _ (database : DatabaseState) (own : RelationTree) (fits : FitsTable datab
     rows-new : wanted_rows database own new ≡ map (row_of_entry database old.table) (entries_ahead database new)
     rows-new = ap (map (row_of_entry database new.table)) (ahead new still) ∙ ap (λ (t : ℕ). map (row_of_entry database t) (entries_ahead database new)) table-new
 
-    pub none-read : (entries_ahead database new ≡ []) × (new ≡ mid) → AreNone (wanted_rows database own old) (wanted_rows database own new) (wanted_due database own new)
-    none-read (ended, is) = record {
-      before = rows-old ∙ ap (λ (reader : EntryReaderState). map (row_of_entry database old.table) (entries_ahead database reader)) (sym is) ∙ ap (map (row_of_entry database old.table)) ended;
-      after = rows-new ∙ ap (map (row_of_entry database old.table)) ended;
-      due = omega (arith, descent-done (index_height database new.table new.column) new.cursor still, ap length (ahead new still ∙ ended));
-    }
+    pub none-read : (entries_ahead database new ≡ []) × (new ≡ mid) → (wanted_rows database own old ≡ []) × (wanted_rows database own new ≡ []) × ((wanted_due database own new).due ≡ 0)
+    none-read (ended, is) = (
+      rows-old ∙ ap (λ (reader : EntryReaderState). map (row_of_entry database old.table) (entries_ahead database reader)) (sym is) ∙ ap (map (row_of_entry database old.table)) ended,
+      rows-new ∙ ap (map (row_of_entry database old.table)) ended,
+      omega (arith, descent-done (index_height database new.table new.column) new.cursor still, ap length (ahead new still ∙ ended)),
+    )
 
     pub first-read : (words : List ℤ) → ReadsEntry database mid new words → IsFirstRow database.texts own (wanted_rows database own old) (wanted_rows database own new) words
     first-read words reads =

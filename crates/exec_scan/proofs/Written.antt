@@ -14,7 +14,7 @@ use Rattle.exec_scan.specs.OnWay.{with_emits}
 use Rattle.exec_scan.specs.Places.{AreOfRelation, KeepsOtherWords, placed_row}
 use Rattle.exec_scan.specs.Reading.{IsFirstRow, column_of, kept_rows, table_of}
 use Rattle.exec_scan.specs.Scanning.{IsScanOver, find_left, scan_left}
-use Rattle.exec_scan.specs.State.{ScanState, leaf_of, relation_of}
+use Rattle.exec_scan.specs.State.{ScanState, leaf_of}
 use Rattle.exec_scan.proofs.Begun.{same-leaf}
 use Rattle.exec_scan.proofs.Parts.{is-part, size}
 
@@ -77,8 +77,8 @@ module _ (database : DatabaseState) (block : BlockTree) (scan known : ScanState)
       done : WrittenOf block scan.place.relation words before after
       done = written_of block scan.place.relation scan.place.relation (table_of scan.way) scan.place.columns scan.place.offset words before after over.numbers refl long wide put
 
-      pub others : KeepsOtherWords block (relation_of known) before after
-      others = subst (λ (s : ScanState). KeepsOtherWords block (relation_of s) before after) is done.others
+      pub others : KeepsOtherWords block known.place.relation before after
+      others = subst (λ (s : ScanState). KeepsOtherWords block s.place.relation before after) is done.others
 
       pub gives : GivesFirst (scan_left database block known) (with_emits (find_left database block scan.place.relation new)) (IsPart database.texts block.relations (has_leaf (leaf_of known)) after) true
       gives =

@@ -1,5 +1,5 @@
 -- Where a relation's rows and words stand among those of all relations of a block.
-use Rattle.std.specs.Prelude.{◌≡◌, ℕ, ℤ, ◌+◌, ◌<◌, ◌++◌, List, [], length, map, take, drop, slice_set}
+use Rattle.std.specs.Prelude.{◌≡◌, ℕ, ℤ, ◌+◌, ◌<◌, List, [], length, map, take, drop, slice_set}
 use Rattle.sql_values.specs.Stored.{ValueRow}
 use Rattle.query_block.specs.Blocks.{RelationTree, BlockTree, IsBlock, IsRelation, relation_at, offset_of}
 use Rattle.query_block.specs.Meaning.{Combination}
@@ -26,10 +26,6 @@ pub record AreOfRelation (block : BlockTree) (relation table columns offset : �
 pub record IsPlaceOf (block : BlockTree) (number : ℕ) (place : RelationPlace) : Type 0 where
   pub relation : place.relation ≡ number
   pub numbers : AreOfRelation block number (relation_at block.relations number).table place.columns place.offset
-
--- a row with so many words from this one on replaced by others
-abbrev pub with_words : (offset count : ℕ) → (words old : List ℤ) → List ℤ
-with_words offset count words old = take offset old ++ (words ++ drop (offset + count) old)
 
 -- the words of the other relations in a row of all stay as they are, and the row is as wide
 pub record KeepsOtherWords (block : BlockTree) (relation : ℕ) (old new : List ℤ) : Type 0 where

@@ -1,11 +1,10 @@
 -- What is left to read of a relation's rows on each of the two ways to them, and what is always so of a way.
 use Rattle.std.specs.Prelude.{◌≡◌, ℕ, ℤ, ◌+◌, ◌*◌, Bool, List, [], ◌∷◌, Option, Some, None, MatchOption, Result, IfOk, length, map, filter}
 use Rattle.std.specs.List.Sorted.{IsPermutation}
-use Rattle.work_ledger.specs.Charges.{open_charge}
+use Rattle.work_ledger.specs.Charges.{entry_charge, fetch_charge, node_charge, open_charge}
 use Rattle.sql_values.specs.Stored.{StoredTable, ValueRow, values_of}
 use Rattle.query_block.specs.Blocks.{IsRelation, RelationTree}
 use Rattle.query_block.specs.Meaning.{meets_filter}
-use Rattle.plan_tree.specs.Enumerated.{HasUsable, IsIndexed}
 use Rattle.plan_tree.specs.Usable.{is_fixed_usable}
 use Rattle.plan_tree.specs.Work.{index_scan_work, scan_work, table_rows}
 use Rattle.plan_tree.specs.Left.{Left}
@@ -20,7 +19,6 @@ use Rattle.exec_scan.specs.declared.way.Way.{Way}
 use Rattle.exec_scan.specs.declared.way.Way.TheVariants as way
 use Rattle.exec_scan.specs.ColumnRanges.{AreStored, IsKnownOf}
 use Rattle.exec_scan.specs.EntryReading.{EntryReaderState, IsReaderOf, entries_at}
-use Rattle.exec_scan.specs.Stepping.{PaysFor}
 use Rattle.exec_scan.specs.TableReading.{IsTableReader, TableReaderState, table_ahead, table_due}
 
 -- the table whose rows are read
@@ -58,29 +56,26 @@ wanted_rows database own reader = map (row_of_entry database reader.table) (want
 
 -- the work of the descent, if it isn't made yet
 abbrev pub descent_due : (height : ℕ) → Option Cursor → ℕ
-descent_due height None = 2 * height
+descent_due height None = node_charge * height
 descent_due height (Some cursor) = 0
 
--- what reading them has left: no row comes of it alone; that of the descent is due, and 10 for each entry and its row
+-- what reading them has left: no row comes of it alone; that of the descent is due, and each entry and its row
 abbrev pub wanted_due : DatabaseState → RelationTree → EntryReaderState → Left
 wanted_due database own reader = record {
   rest = [];
-  due = descent_due (index_height database reader.table reader.column) reader.cursor + 10 * length (wanted_entries database own reader);
+  due = descent_due (index_height database reader.table reader.column) reader.cursor
+      + (entry_charge + fetch_charge) * length (wanted_entries database own reader);
 }
 
--- the rows of the relation that aren't read yet
-abbrev pub rows_ahead : DatabaseState → RelationTree → Way → List ValueRow
-rows_ahead database own (way.Table table) = table_ahead database table.reader
-rows_ahead database own (way.Index reader) = wanted_rows database own reader
-
--- what reading them has left
+-- what reading the rows of the relation has left
 abbrev pub read_due : DatabaseState → RelationTree → Way → Left
 read_due database own (way.Table table) = table_due database table.reader
 read_due database own (way.Index reader) = wanted_due database own reader
 
--- of the rows ahead those that meet the relation's filter
+-- of the rows that aren't read yet those that meet the relation's filter
 abbrev pub kept_rows : DatabaseState → RelationTree → Way → List ValueRow
-kept_rows database own way = filter (meets_filter own.filter) (rows_ahead database own way)
+kept_rows database own (way.Table table) = filter (meets_filter own.filter) (table_ahead database table.reader)
+kept_rows database own (way.Index reader) = filter (meets_filter own.filter) (wanted_rows database own reader)
 
 -- the reader stands in its table or its index
 abbrev pub IsReaderIn : DatabaseState → Way → Type 0
@@ -92,10 +87,6 @@ pub record IsRelationIn (database : DatabaseState) (own : RelationTree) : Type 0
   pub allowed : IsRelation [] own
   pub fits : FitsTable database own
 
--- the relation's rows are in its table; by a column they are found where an index on it can use the filter
-abbrev pub CanBeFound : RelationTree → (column : Option ℕ) → Type 0
-CanBeFound own column = MatchOption column (Unit {0}) (λ c. IsIndexed own c × HasUsable own c)
-
 -- a way to the rows of this relation, and what it knows of those that meet the filter
 pub record IsWayTo (database : DatabaseState) (own : RelationTree) (way : Way) : Type 0 where
   pub relation : IsRelationIn database own
@@ -103,21 +94,16 @@ pub record IsWayTo (database : DatabaseState) (own : RelationTree) (way : Way) :
   pub reading : IsReaderIn database way
   pub known : IsKnownOf database.texts own (known_of way)
 
--- there were no rows, there are none, and nothing is due
-pub record AreNone (old new : List ValueRow) (left : Left) : Type 0 where
-  pub before : old ≡ []
-  pub after : new ≡ []
-  pub due : left.due ≡ 0
-
 -- the words are those of the first of these rows, which then isn't one of them
 pub record IsFirstRow (texts : List (List ℕ)) (own : RelationTree) (old new : List ValueRow) (words : List ℤ) : Type 0 where
   pub are : AreStored texts own.columns words
   pub first : old ≡ values_of texts own.columns words ∷ new
 
--- a call lends the first of these rows; or there were none, and nothing is due
+-- a call lends the first of these rows; or there were none, there are none, and nothing is due
 abbrev pub LendsFirst : {T E : Type 0} → (texts : List (List ℕ)) → RelationTree → (old new : List ValueRow) → Left → Result (Option T) E → (words_of : T → List ℤ) → Type 0
 LendsFirst texts own old new left result words_of =
-    IfOk result (λ found. MatchOption found (AreNone old new left) (λ lent. IsFirstRow texts own old new (words_of lent)))
+    IfOk result (λ found.
+    MatchOption found ((old ≡ []) × (new ≡ []) × (left.due ≡ 0)) (λ lent. IsFirstRow texts own old new (words_of lent)))
 
 -- a look at the page that is opened last lends the first of the rows of a table that meet the filter; or none of these is on
 -- it, and all its rows are looked at
@@ -126,23 +112,11 @@ FindsOnPage database own old new found words_of =
     let kept = λ (reader : TableReaderState). filter (meets_filter own.filter) (table_ahead database reader) in
     MatchOption found ((kept new ≡ kept old) × (new.slot ≡ new.slots)) (λ lent. IsFirstRow database.texts own (kept old) (kept new) (words_of lent))
 
--- so it lends the first of the rows that the entries of an index lead to, or of the rows ahead on a way that meet the filter
-abbrev pub LendsWanted : {T E : Type 0} → MeterState → RelationTree → (old new : EntryReaderState) → Result (Option T) E → (words_of : T → List ℤ) → Type 0
-LendsWanted meter own old new result words_of =
-    let rows = wanted_rows meter.database own in
-    LendsFirst meter.database.texts own (rows old) (rows new) (wanted_due meter.database own new) result words_of
-
+-- so it lends the first of the rows ahead on a way that meet the filter
 abbrev pub LendsKept : {T E : Type 0} → MeterState → RelationTree → (old new : Way) → Result (Option T) E → (words_of : T → List ℤ) → Type 0
 LendsKept meter own old new result words_of =
     let rows = kept_rows meter.database own in
     LendsFirst meter.database.texts own (rows old) (rows new) (read_due meter.database own new) result words_of
-
--- and it pays for what reading has no longer left
-abbrev pub PaysWanted : {T E : Type 0} → RelationTree → (old new : EntryReaderState) → (before after : MeterState) → Result T E → Type 0
-PaysWanted own old new before after result = PaysFor (wanted_due before.database own) old new before after result
-
-abbrev pub PaysReading : {T E : Type 0} → RelationTree → (old new : Way) → (before after : MeterState) → Result T E → Type 0
-PaysReading own old new before after result = PaysFor (read_due before.database own) old new before after result
 
 -- the work of the scan of a relation by the index on a column, or of its table, that gives so many rows
 abbrev pub work_by : List StoredTable → RelationTree → Option ℕ → (out : ℕ) → ℕ

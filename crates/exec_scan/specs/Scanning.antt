@@ -1,5 +1,5 @@
 -- What the operator of a leaf has left of the rows of its relation, and what is always so of one.
-use Rattle.std.specs.Prelude.{◌≡◌, ℕ, ℤ, ◌+◌, Bool, List, [], Result, length, map}
+use Rattle.std.specs.Prelude.{◌≡◌, ℕ, ℤ, ◌+◌, List, [], length, map}
 use Rattle.std.specs.List.Sorted.{IsPermutation}
 use Rattle.work_ledger.specs.Charges.{open_charge}
 use Rattle.plan_tree.specs.Plans.{PlanTree, has_leaf}
@@ -10,14 +10,12 @@ use Rattle.query_block.specs.Blocks.{BlockTree, relation_at, width_of}
 use Rattle.query_block.specs.Meaning.{rows_of}
 use Rattle.db_catalog.specs.Database.{DatabaseState}
 use Rattle.db_catalog.specs.Fits.{Fits}
-use Rattle.db_catalog.specs.Meter.{MeterState}
 use Rattle.exec_scan.specs.declared.way.Way.{Way}
 use Rattle.exec_scan.specs.ColumnRanges.{IsKnownOf}
 use Rattle.exec_scan.specs.OnWay.{with_emits}
 use Rattle.exec_scan.specs.Places.{AreOfRelation, KeepsOtherWords, placed_row}
 use Rattle.exec_scan.specs.Reading.{IsReaderIn, kept_rows, known_of, read_due, table_of}
-use Rattle.exec_scan.specs.State.{ScanState, leaf_of, relation_of}
-use Rattle.exec_scan.specs.Stepping.{Yields}
+use Rattle.exec_scan.specs.State.{ScanState, leaf_of}
 
 -- what finding the rows of a relation has left: of the rows ahead those come that meet its filter, each in its place, and
 -- the work of reading is due
@@ -60,13 +58,8 @@ pub record MayScanInto (database : DatabaseState) (block : BlockTree) (op : Scan
   pub scan : IsScanOver database block op
   pub width : length out ≡ width_of block
 
--- a scan gives the first row that it has left
-abbrev pub YieldsRow : {E : Type 0} → (before after : MeterState) → BlockTree → (old new : ScanState) → (out : List ℤ) → Result Bool E → Type 0
-YieldsRow before after block old new out result =
-    let left = scan_left before.database block in Yields block (has_leaf (leaf_of old)) (left old) (left new) out before after result
-
 -- it goes on as the scan of the same leaf, and of a row of all relations it has written the words of its own alone
 pub record ScansOn (database : DatabaseState) (block : BlockTree) (old new : ScanState) (out out' : List ℤ) : Type 0 where
   pub operator : IsScanOver database block new
   pub leaf : leaf_of new ≡ leaf_of old
-  pub written : KeepsOtherWords block (relation_of old) out out'
+  pub written : KeepsOtherWords block old.place.relation out out'

@@ -18,7 +18,3 @@ leaf_by relation (Some column) = IndexScan relation column
 -- the leaf that it runs
 abbrev pub leaf_of : ScanState → PlanTree
 leaf_of scan = leaf_by scan.place.relation (column_of scan.way)
-
--- the relation that it reads
-abbrev pub relation_of : ScanState → ℕ
-relation_of scan = scan.place.relation

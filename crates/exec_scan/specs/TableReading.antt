@@ -41,19 +41,15 @@ abbrev pub table_ahead : DatabaseState → TableReaderState → List ValueRow
 table_ahead database reader =
     let table = table_at database reader.table in drop (row_number (length table.columns) reader.page reader.slot) table.rows
 
--- what looking at them has left: no row comes of it alone; 8 is due for each page that isn't opened, and 1 for each row that
--- stands on none of the opened pages
+-- what looking at them has left: no row comes of it alone; each page that isn't opened is due, and each row that stands on none
+-- of the opened pages
 abbrev pub table_due : DatabaseState → TableReaderState → Left
 table_due database reader =
     let table = table_at database reader.table in
     record {
       rest = [];
-      due = 8 * (reader.pages - reader.opened) + (length table.rows - reader.opened * rows_per_page (length table.columns));
+      due = page_charge * (reader.pages - reader.opened) + (length table.rows - reader.opened * rows_per_page (length table.columns));
     }
-
--- only where it is in its table changes
-abbrev pub MovesWithinTable : (old new : TableReaderState) → Type 0
-MovesWithinTable old new = new ≡ record old { opened = new.opened; page = new.page; slots = new.slots; slot = new.slot }
 
 -- no page of the table is opened yet: all its rows are ahead, and its pages and rows are due
 pub record StartsTable (database : DatabaseState) (number : ℕ) (at : TableReaderState) : Type 0 where
@@ -62,22 +58,12 @@ pub record StartsTable (database : DatabaseState) (number : ℕ) (at : TableRead
   pub rows : table_ahead database at ≡ (table_at database number).rows
   pub due : (table_due database at).due ≡ page_charge * table_pages database number + length (table_at database number).rows
 
--- all rows of the opened pages are looked at
-pub record EndsPage (database : DatabaseState) (at : TableReaderState) : Type 0 where
-  pub reader : IsTableReader database at
-  pub looked : at.slot ≡ at.slots
-
 -- the next page is opened, none of whose rows is looked at; or all pages are opened, nothing is due, and nothing changes
 abbrev pub OpensNext : DatabaseState → (old new : TableReaderState) → (more : Bool) → Type 0
 OpensNext database old new true = (new.opened ≡ old.opened + 1) × (table_ahead database new ≡ table_ahead database old)
 OpensNext database old new false = (table_ahead database old ≡ []) × ((table_due database old).due ≡ 0) × (new ≡ old)
 
--- it goes on in its table
+-- it goes on in its table, and only where it is in it changes
 pub record ReadsTableOn (database : DatabaseState) (old new : TableReaderState) : Type 0 where
-  pub moves : MovesWithinTable old new
-  pub reader : IsTableReader database new
-
--- it looks at rows of the page at hand, and opens none
-pub record StaysOnPage (database : DatabaseState) (old new : TableReaderState) : Type 0 where
-  pub moves : new ≡ record old { slot = new.slot }
+  pub moves : new ≡ record old { opened = new.opened; page = new.page; slots = new.slots; slot = new.slot }
   pub reader : IsTableReader database new

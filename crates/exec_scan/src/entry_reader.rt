@@ -1,9 +1,10 @@
 // Rows by the entries of an index: it descends to those of a range of words, and then fetches the row of each. It relies on
 // the meter for entries and rows, and fetches the row of an entry once.
-ghost use Rattle.std.specs.Prelude.{◌≡◌, ◌↔◌, IsSome, IsTrue};
+ghost use Rattle.std.specs.Prelude.{◌≡◌, ◌↔◌, ◌*◌, IsSome, IsTrue, None};
+ghost use Rattle.work_ledger.specs.Charges.{node_charge};
+ghost use Rattle.db_catalog.specs.Indexes.{index_height};
 ghost use Rattle.db_catalog.specs.Meter.{Reads};
 ghost use Rattle.exec_scan.specs.EntryReading.{Descends, IsIndexOfWords, IsReaderOf, ReadsNext};
-ghost use Rattle.exec_scan.specs.EntryReading.{descent_charge, reader_by};
 
 use btree_index::Cursor;
 use db_catalog::Metered;
@@ -35,7 +36,7 @@ impl Model for EntryReader {
 impl EntryReader {
     /// A reader by the index on a column, to which it hasn't descended yet.
     pub fn new(table: u32, column: u8) -> EntryReader
-        ensures { result ≡ reader_by table column }
+        ensures { result ≡ record { table = table; column = column; cursor = None } }
     {
         EntryReader {
             table,
@@ -64,7 +65,8 @@ impl EntryReader {
         requires { IsReaderOf meter.old.database self.old }
         ensures descends { Descends meter.old.database from to self.old self.new result }
         ensures words { IsIndexOfWords meter.old.database self.old.table self.old.column }
-        ensures reads { Reads (descent_charge meter.old.database self.old)
+        ensures reads { Reads
+            (node_charge * index_height meter.old.database self.old.table self.old.column)
             meter.old meter.new result }
     {
         let cursor = meter.seek(self.table, self.column, from, to)?;

@@ -5,8 +5,7 @@ ghost use Rattle.query_block.specs.Blocks.{relation_tree};
 ghost use Rattle.exec_scan.specs.ColumnRanges.{IsKnownOf};
 ghost use Rattle.exec_scan.specs.Reading.{FindsOnPage, IsRelationIn};
 ghost use Rattle.exec_scan.specs.Stepping.{PaysFor};
-ghost use Rattle.exec_scan.specs.TableReading.{EndsPage, HasTable, IsTableReader, StaysOnPage, OpensNext};
-ghost use Rattle.exec_scan.specs.TableReading.{ReadsTableOn, StartsTable, table_due};
+ghost use Rattle.exec_scan.specs.TableReading.{HasTable, IsTableReader, OpensNext, ReadsTableOn, StartsTable, table_due};
 
 use crate::column_range::ColumnRange;
 use crate::page_rows::{next_kept, row_in};
@@ -61,7 +60,8 @@ impl TableReader {
     /// Opens the next page, once all rows of the one before are looked at, which pays for it and all its rows. False where all
     /// pages are opened.
     pub(crate) fn open_next(&mut self, meter: &mut Metered<'_>) -> Result<bool, Exhausted>
-        requires { EndsPage meter.old.database self.old }
+        requires reader { IsTableReader meter.old.database self.old }
+        requires looked { self.old.slot ≡ self.old.slots }
         ensures opens { IfOk result (OpensNext meter.old.database self.old self.new) }
         ensures pays { PaysFor (table_due meter.old.database)
             self.old self.new meter.old meter.new result }
@@ -91,7 +91,8 @@ impl TableReader {
         requires known { IsKnownOf meter.now.database.texts (relation_tree relation.now) known }
         ensures row { FindsOnPage meter.now.database (relation_tree relation.now)
             self.old self.new result (λ words. words.now) }
-        ensures looks { StaysOnPage meter.now.database self.old self.new }
+        ensures stays { self.new ≡ record self.old { slot = self.new.slot } }
+        ensures reader { IsTableReader meter.now.database self.new }
     {
         if self.slot == self.slots {
             return None;

@@ -1,10 +1,12 @@
 // The two ways to the rows of a relation: through its whole table, or by the index on one of its columns. It relies on
 // their readers for what is read and paid, and never gives a row that doesn't meet the relation's filter.
-ghost use Rattle.std.specs.Prelude.{◌≡◌, OnOk, IsSome};
+ghost use Rattle.std.specs.Prelude.{◌≡◌, OnOk, IsSome, IfSome};
 ghost use Rattle.query_block.specs.Blocks.{relation_tree};
+ghost use Rattle.plan_tree.specs.Enumerated.{HasUsable, IsIndexed};
 ghost use Rattle.exec_scan.specs.EntryReading.{ReadsOn};
-ghost use Rattle.exec_scan.specs.Reading.{CanBeFound, FindsOn, IsRelationIn, IsWayTo, LeadsTo};
-ghost use Rattle.exec_scan.specs.Reading.{LendsKept, LendsWanted, PaysReading, PaysWanted, wanted_entries};
+ghost use Rattle.exec_scan.specs.Reading.{FindsOn, IsRelationIn, IsWayTo, LeadsTo, LendsFirst, LendsKept};
+ghost use Rattle.exec_scan.specs.Reading.{read_due, wanted_due, wanted_entries, wanted_rows};
+ghost use Rattle.exec_scan.specs.Stepping.{PaysFor};
 ghost use Rattle.exec_scan.specs.declared.way.Way.TheVariants.{Index, Table};
 
 use crate::column_range::ColumnRange;
@@ -40,8 +42,8 @@ fn descend_to_wanted(
     ensures entries { OnOk result
         (wanted_entries meter.old.database (relation_tree relation.now) reader.new
         ≡ wanted_entries meter.old.database (relation_tree relation.now) reader.old) }
-    ensures pays { PaysWanted (relation_tree relation.now) reader.old reader.new
-        meter.old meter.new result }
+    ensures pays { PaysFor (wanted_due meter.old.database (relation_tree relation.now))
+        reader.old reader.new meter.old meter.new result }
     ensures goes_on { ReadsOn meter.old.database reader.old reader.new }
 {
     if reader.has_descended() {
@@ -59,10 +61,13 @@ fn read_wanted<'d>(
     meter: &mut Metered<'d>,
 ) -> Result<Option<&'d [i64]>, Exhausted>
     requires way { IsWayTo meter.old.database (relation_tree relation.now) (Index reader.old) }
-    ensures row { LendsWanted meter.old (relation_tree relation.now) reader.old reader.new
+    ensures row { let wanted = wanted_rows meter.old.database (relation_tree relation.now) in
+        LendsFirst meter.old.database.texts (relation_tree relation.now)
+        (wanted reader.old) (wanted reader.new)
+        (wanted_due meter.old.database (relation_tree relation.now) reader.new)
         result (λ words. words.now) }
-    ensures pays { PaysWanted (relation_tree relation.now) reader.old reader.new
-        meter.old meter.new result }
+    ensures pays { PaysFor (wanted_due meter.old.database (relation_tree relation.now))
+        reader.old reader.new meter.old meter.new result }
     ensures goes_on { ReadsOn meter.old.database reader.old reader.new }
 {
     descend_to_wanted(reader, relation, meter)?;
@@ -78,8 +83,8 @@ fn find_wanted<'d>(
     requires way { IsWayTo meter.old.database (relation_tree relation.now) (Index reader.old) }
     ensures row { LendsKept meter.old (relation_tree relation.now) (Index reader.old)
         (Index reader.new) result (λ words. words.now) }
-    ensures pays { PaysWanted (relation_tree relation.now) reader.old reader.new
-        meter.old meter.new result }
+    ensures pays { PaysFor (wanted_due meter.old.database (relation_tree relation.now))
+        reader.old reader.new meter.old meter.new result }
     ensures goes_on { ReadsOn meter.old.database reader.old reader.new }
 {
     let texts = meter.texts();
@@ -106,8 +111,8 @@ impl TableWay {
         requires way { IsWayTo meter.old.database (relation_tree relation.now) (Table self.old) }
         ensures row { LendsKept meter.old (relation_tree relation.now) (Table self.old)
             (Table self.new) result (λ words. words.now) }
-        ensures pays { PaysReading (relation_tree relation.now) (Table self.old) (Table self.new)
-            meter.old meter.new result }
+        ensures pays { PaysFor (read_due meter.old.database (relation_tree relation.now))
+            (Table self.old) (Table self.new) meter.old meter.new result }
         ensures goes_on { FindsOn meter.old.database (relation_tree relation.now)
             (Table self.old) (Table self.new) }
     {
@@ -126,7 +131,8 @@ impl Way {
     /// The way to a relation's rows by the index on a column, or else through its table. Nothing is read yet.
     pub(crate) fn new(relation: &Relation, column: Option<u8>, meter: &Metered<'_>) -> Way
         requires relation { IsRelationIn meter.now.database (relation_tree relation.now) }
-        requires found { CanBeFound (relation_tree relation.now) column }
+        requires found { IfSome column (λ by. IsIndexed (relation_tree relation.now) by
+            × HasUsable (relation_tree relation.now) by) }
         ensures { LeadsTo meter.now.database (relation_tree relation.now) column result }
     {
         match column {
@@ -147,8 +153,8 @@ impl Way {
         requires way { IsWayTo meter.old.database (relation_tree relation.now) self.old }
         ensures row { LendsKept meter.old (relation_tree relation.now) self.old self.new
             result (λ words. words.now) }
-        ensures pays { PaysReading (relation_tree relation.now) self.old self.new
-            meter.old meter.new result }
+        ensures pays { PaysFor (read_due meter.old.database (relation_tree relation.now))
+            self.old self.new meter.old meter.new result }
         ensures goes_on { FindsOn meter.old.database (relation_tree relation.now)
             self.old self.new }
     {

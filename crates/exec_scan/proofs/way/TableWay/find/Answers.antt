@@ -23,7 +23,7 @@ returns-in-Some-clause-row c = rw c.pages.invariant.kept at (rw (c.in-Some.is, c
 
 pub returns-in-Some-clause-pays : goal.returns-in-Some-clause-pays
 returns-in-Some-clause-pays c =
-    let looked = ap (table_due c.args.meter.now.database) (sym c.find_on_page.ensures.looks.moves) in
+    let looked = ap (table_due c.args.meter.now.database) (sym c.find_on_page.ensures.stays) in
     let on = subst (λ left. OnWay (table_due c.args.meter.now.database c.args.self.now.reader) left c.args.meter.now.account c.pages.meter.account) looked c.pages.invariant.on_way in
     record {
       due = record { paid = on.paid; refused = tt; limit = on.limit; never_falls = on.never_falls };
@@ -33,20 +33,20 @@ returns-in-Some-clause-pays c =
 pub returns-in-Some-clause-goes_on : goal.returns-in-Some-clause-goes_on
 returns-in-Some-clause-goes_on c = record {
   way = goes-on c.args.meter.now.database c.pages.meter.database (relation_tree c.args.relation.now) c.pages.self c.find_on_page.new.self c.pages.invariant.way c.pages.invariant.database
-      (ap (λ r. r.table) c.find_on_page.ensures.looks.moves) c.find_on_page.ensures.looks.reader;
+      (ap (λ r. r.table) c.find_on_page.ensures.stays) c.find_on_page.ensures.reader;
   column = refl;
 }
 
 pub returns-in_err-open_next-clause-goes_on : goal.returns-in_err-open_next-clause-goes_on
 returns-in_err-open_next-clause-goes_on c = record {
   way = goes-on c.args.meter.now.database c.pages.meter.database (relation_tree c.args.relation.now) c.pages.self c.open_next.new.self c.pages.invariant.way c.pages.invariant.database
-      (ap (λ r. r.table) c.open_next.ensures.goes_on.moves ∙ ap (λ r. r.table) c.find_on_page.ensures.looks.moves) c.open_next.ensures.goes_on.reader;
+      (ap (λ r. r.table) c.open_next.ensures.goes_on.moves ∙ ap (λ r. r.table) c.find_on_page.ensures.stays) c.open_next.ensures.goes_on.reader;
   column = refl;
 }
 
 pub returns-then-not-branch-clause-goes_on : goal.returns-then-not-branch-clause-goes_on
 returns-then-not-branch-clause-goes_on c = record {
   way = goes-on c.args.meter.now.database c.pages.meter.database (relation_tree c.args.relation.now) c.pages.self c.open_next.new.self c.pages.invariant.way c.pages.invariant.database
-      (ap (λ r. r.table) c.open_next.ensures.goes_on.moves ∙ ap (λ r. r.table) c.find_on_page.ensures.looks.moves) c.open_next.ensures.goes_on.reader;
+      (ap (λ r. r.table) c.open_next.ensures.goes_on.moves ∙ ap (λ r. r.table) c.find_on_page.ensures.stays) c.open_next.ensures.goes_on.reader;
   column = refl;
 }
