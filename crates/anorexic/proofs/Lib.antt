@@ -2,4 +2,3 @@ pub mod Frontier
 pub mod Table
 pub mod Turns
 pub mod Steps
-pub mod Gathering

@@ -9,47 +9,43 @@ use Rattle.std.specs.declared.cmp.Ordering.TheVariants.{Less, Equal, Greater}
 use borrow.Author.Count.{below_more}
 use Rattle.std.proofs.lemmas.Bool.{true≢false}
 use Rattle.std.proofs.lemmas.Cmp.{upto, tied_itself, nat_cmp_total, on_total, then_total, back_total}
-use Rattle.std.proofs.lemmas.List.{get_or-map, get_or-drop, get_or_default, length-map, map-append, append_assoc}
-use Rattle.std.proofs.lemmas.List.Elements.{Contains-get_or}
+use Rattle.std.proofs.lemmas.List.{get_or-map, get_or-drop, length-map, map-append, append_assoc}
 use Rattle.std.proofs.lemmas.List.Filters.{FiltersInPlace}
 use Rattle.std.proofs.lemmas.List.FromFn.{fill_by_all, get_or-range_with_len, length-range_with_len}
+use Rattle.plan_tree.specs.declared.plan.Plan.{Plan}
+use Rattle.plan_tree.specs.declared.plan.Plan.TheVariants as plan
 use Rattle.plan_tree.specs.Plans.{PlanTree, Scan, plan_tree}
 use Rattle.plan_tree.proofs.Members.{IsIn, in-contained, contained-in}
 use Rattle.plan_tree.proofs.PlanOrder as plan-order
 use Rattle.cost_model.specs.Costing.{CostingTree}
 use Rattle.cost_model.specs.Greedy.{greedy_turns, greedy}
 use Rattle.cost_model.specs.Optimal.{best_plan}
-use Rattle.cost_model.specs.declared.frontier_point.FrontierPoint.{FrontierPoint}
-use Rattle.cost_model.specs.FrontierPoints.{IsFrontierPoint, frontier_points}
-use Rattle.anorexic.specs.Frontiers.{frontier_plans, plan_at, point_at_place}
-use Rattle.anorexic.specs.Turns.{IsCoverTable, is_marked, cover_order, turn_order}
-use Rattle.anorexic.proofs.Frontier.{plan-there, best-plans}
-use Rattle.anorexic.specs.Gathered.{AreAmong}
+use Rattle.cost_model.proofs.BestPlans.{best-only}
+use Rattle.plan_space.specs.FrontierPlans.{HoldsBest, nth_point}
+use Rattle.anorexic.specs.Turns.{IsCoverTable, is_marked, cover_order, plan_at, turn_order}
 use Rattle.anorexic.proofs.Turns.{one-turn, same-turns}
 
 -- ---- the first candidate
 
-pub turn-total : (frontier : List FrontierPoint) (candidates : List ℕ) (table : List Bool) (uncovered : List ℕ) → IsTotalOrder (turn_order frontier candidates table uncovered)
-turn-total frontier candidates table uncovered =
-    then_total (back_total (on_total (λ number. count_by (is_marked table (length candidates) number) uncovered) nat_cmp_total))
-    (on_total (λ number. plan_at frontier (slice_index_or candidates number 0)) plan-order.total)
+pub turn-total : (plans : List Plan) (table : List Bool) (uncovered : List ℕ) → IsTotalOrder (turn_order plans table uncovered)
+turn-total plans table uncovered =
+    then_total (back_total (on_total (λ number. count_by (is_marked table (length plans) number) uncovered) nat_cmp_total))
+    (on_total (plan_at plans) plan-order.total)
 
-pub first-itself : (frontier : List FrontierPoint) (candidates : List ℕ) (table : List Bool) (uncovered : List ℕ) (other : ℕ) → other < 1
-    → is_gt (turn_order frontier candidates table uncovered 0 other) ≡ false
-first-itself frontier candidates table uncovered other less =
+pub first-itself : (plans : List Plan) (table : List Bool) (uncovered : List ℕ) (other : ℕ) → other < 1 → is_gt (turn_order plans table uncovered 0 other) ≡ false
+first-itself plans table uncovered other less =
     let same : 0 ≡ other = omega (arith, less) in
-    subst (λ one. is_gt (turn_order frontier candidates table uncovered 0 one) ≡ false) same (ap is_gt (tied_itself (turn-total frontier candidates table uncovered) 0))
+    subst (λ one. is_gt (turn_order plans table uncovered 0 one) ≡ false) same (ap is_gt (tied_itself (turn-total plans table uncovered) 0))
 
 -- it is what the code compares
-pub turn-order-is : (frontier : List FrontierPoint) (candidates : List ℕ) (table : List Bool) (uncovered : List ℕ) (first candidate most count : ℕ) (d e : FrontierPoint)
-    → All (λ place. place < length frontier) candidates → first < length candidates → candidate < length candidates
-    → most ≡ count_by (is_marked table (length candidates) first) uncovered → count ≡ count_by (is_marked table (length candidates) candidate) uncovered
-    → cover_order most (plan_tree (slice_index_or frontier (slice_index_or candidates first 0) d).plan) count (plan_tree (slice_index_or frontier (slice_index_or candidates candidate 0) e).plan)
-    ≡ turn_order frontier candidates table uncovered first candidate
-turn-order-is frontier candidates table uncovered first candidate most count d e within first-few few a b =
-    let p = plan-there frontier (slice_index_or candidates first 0) d (within first 0 first-few) in
-    let q = plan-there frontier (slice_index_or candidates candidate 0) e (within candidate 0 few) in
-    λ i. cover_order (a i) (sym p i) (b i) (sym q i)
+pub turn-order-is : (plans : List Plan) (table : List Bool) (uncovered : List ℕ) (first candidate most count : ℕ) (p other : Plan)
+    → first < length plans → candidate < length plans → p ≡ slice_index_or plans first p → other ≡ slice_index_or plans candidate other
+    → most ≡ count_by (is_marked table (length plans) first) uncovered → count ≡ count_by (is_marked table (length plans) candidate) uncovered
+    → cover_order most (plan_tree p) count (plan_tree other) ≡ turn_order plans table uncovered first candidate
+turn-order-is plans table uncovered first candidate most count p other first-few few is-first is a b =
+    let at-first = ap plan_tree is-first ∙ sym (get_or-map plan_tree plans first p (Scan 0) first-few) in
+    let at = ap plan_tree is ∙ sym (get_or-map plan_tree plans candidate other (Scan 0) few) in
+    λ i. cover_order (a i) (at-first i) (b i) (at i)
 
 turned : (a b : Ordering) → a ≡ ordering_reverse b → is_gt b ≡ true → is_gt a ≡ false
 turned a Less turn behind = absurd (true≢false (sym behind))
@@ -57,13 +53,13 @@ turned a Equal turn behind = absurd (true≢false (sym behind))
 turned a Greater turn behind = ap is_gt turn
 
 -- the next one is better
-pub next-first : (frontier : List FrontierPoint) (candidates : List ℕ) (table : List Bool) (uncovered : List ℕ) (first candidate : ℕ)
-    → is_gt (turn_order frontier candidates table uncovered first candidate) ≡ true
-    → ((other : ℕ) → other < candidate → is_gt (turn_order frontier candidates table uncovered first other) ≡ false)
-    → (other : ℕ) → other < candidate + 1 → is_gt (turn_order frontier candidates table uncovered candidate other) ≡ false
-next-first frontier candidates table uncovered first candidate behind least =
-    let order = turn_order frontier candidates table uncovered in
-    let total = turn-total frontier candidates table uncovered in
+pub next-first : (plans : List Plan) (table : List Bool) (uncovered : List ℕ) (first candidate : ℕ)
+    → is_gt (turn_order plans table uncovered first candidate) ≡ true
+    → ((other : ℕ) → other < candidate → is_gt (turn_order plans table uncovered first other) ≡ false)
+    → (other : ℕ) → other < candidate + 1 → is_gt (turn_order plans table uncovered candidate other) ≡ false
+next-first plans table uncovered first candidate behind least =
+    let order = turn_order plans table uncovered in
+    let total = turn-total plans table uncovered in
     let before : is_gt (order candidate first) ≡ false = turned (order candidate first) (order first candidate) (total.antisymm candidate first) behind in
     below_more (λ other. is_gt (order candidate other) ≡ false) candidate
     (λ other less. upto total candidate first other before (least other less))
@@ -88,9 +84,8 @@ row-there table width test xs ys kept i place rows is below at =
 -- ---- turns
 
 -- all places are uncovered at first
-pub all-points : (frontier : List FrontierPoint) → map (point_at_place frontier) (range_with_len 0 (length frontier)) ≡ frontier_points frontier
-all-points frontier =
-    sym (fill_by_all (point_at_place frontier) (frontier_points frontier) (length frontier) [] (length-map frontier (λ (at : FrontierPoint). at.point)) (λ k less. refl))
+pub all-points : (points : List (List ℕ)) → map (nth_point points) (range_with_len 0 (length points)) ≡ points
+all-points points = sym (fill_by_all (nth_point points) points (length points) [] refl (λ k less. refl))
 
 range-more : (a n : ℕ) → range_with_len a (suc n) ≡ range_with_len a n ++ (a + n) ∷ []
 range-more a zero = let none : a ≡ a + 0 = omega arith in ap (λ k. k ∷ []) none
@@ -110,56 +105,48 @@ places-within count k d less =
     omega (arith, short, get_or-range_with_len 0 count k d short)
 
 -- what is taken, and what the turns that are left take
-abbrev pub TakesRest : List FrontierPoint → (candidates : List ℕ) → List Bool → (taken uncovered : List ℕ) → (turns : ℕ) → Type 0
-TakesRest frontier candidates table taken uncovered turns =
-    (costing : CostingTree) (threshold : ℕ) → IsCoverTable costing threshold frontier (map (plan_at frontier) candidates) table
-    → map (plan_at frontier) taken ++ greedy_turns costing threshold (map (plan_at frontier) candidates) turns (map (point_at_place frontier) uncovered)
-    ≡ greedy_turns costing threshold (map (plan_at frontier) candidates) (length frontier) (frontier_points frontier)
+abbrev pub TakesRest : (count : ℕ) → List Plan → List Bool → (taken uncovered : List ℕ) → (turns : ℕ) → Type 0
+TakesRest count plans table taken uncovered turns =
+    (costing : CostingTree) (threshold : ℕ) (points : List (List ℕ)) → length points ≡ count → IsCoverTable costing threshold points (map plan_tree plans) table
+    → map (plan_at plans) taken ++ greedy_turns costing threshold (map plan_tree plans) turns (map (nth_point points) uncovered)
+    ≡ greedy_turns costing threshold (map plan_tree plans) count points
 
-pub takes-more : (frontier : List FrontierPoint) (candidates : List ℕ) (table : List Bool) (taken uncovered : List ℕ) (candidate turn : ℕ)
-    → turn < length frontier → All (λ place. place < length frontier) uncovered → 0 < length uncovered → candidate < length candidates
-    → ((other : ℕ) → other < length candidates → is_gt (turn_order frontier candidates table uncovered candidate other) ≡ false)
-    → TakesRest frontier candidates table taken uncovered (length frontier - turn)
-    → TakesRest frontier candidates table (taken ++ slice_index_or candidates candidate 0 ∷ [])
-    (filter (λ place. not (is_marked table (length candidates) candidate place)) uncovered) (length frontier - (turn + 1))
-takes-more frontier candidates table taken uncovered candidate turn less within some few first takes costing threshold is =
-    let plans = map (plan_at frontier) candidates in
-    let place = slice_index_or candidates candidate 0 in
-    let turns = length frontier - (turn + 1) in
-    let one : length frontier - turn ≡ suc turns = omega (arith, less) in
-    let left = filter (λ place. not (is_marked table (length candidates) candidate place)) uncovered in
-    let rest = greedy_turns costing threshold plans turns (map (point_at_place frontier) left) in
-    let now = one-turn costing threshold frontier candidates table uncovered candidate turns is within some few first in
-    ap (λ xs. xs ++ rest) (map-append (plan_at frontier) taken (place ∷ []))
-    ∙ append_assoc (map (plan_at frontier) taken) (plan_at frontier place ∷ []) rest
-    ∙ ap (λ xs. map (plan_at frontier) taken ++ xs) (sym now)
-    ∙ ap (λ n. map (plan_at frontier) taken ++ greedy_turns costing threshold plans n (map (point_at_place frontier) uncovered)) (sym one)
-    ∙ takes costing threshold is
+pub takes-more : (count : ℕ) (plans : List Plan) (table : List Bool) (taken uncovered : List ℕ) (candidate turn : ℕ)
+    → turn < count → All (λ place. place < count) uncovered → 0 < length uncovered → candidate < length plans
+    → ((other : ℕ) → other < length plans → is_gt (turn_order plans table uncovered candidate other) ≡ false)
+    → TakesRest count plans table taken uncovered (count - turn)
+    → TakesRest count plans table (taken ++ candidate ∷ []) (filter (λ place. not (is_marked table (length plans) candidate place)) uncovered) (count - (turn + 1))
+takes-more count plans table taken uncovered candidate turn less within some few first takes costing threshold points long is =
+    let trees = map plan_tree plans in
+    let turns = count - (turn + 1) in
+    let one : count - turn ≡ suc turns = omega (arith, less) in
+    let left = filter (λ place. not (is_marked table (length plans) candidate place)) uncovered in
+    let rest = greedy_turns costing threshold trees turns (map (nth_point points) left) in
+    let now = one-turn costing threshold points plans table uncovered candidate turns is (subst (λ n. All (λ place. place < n) uncovered) (sym long) within) some few first in
+    ap (λ xs. xs ++ rest) (map-append (plan_at plans) taken (candidate ∷ []))
+    ∙ append_assoc (map (plan_at plans) taken) (plan_at plans candidate ∷ []) rest
+    ∙ ap (λ xs. map (plan_at plans) taken ++ xs) (sym now)
+    ∙ ap (λ n. map (plan_at plans) taken ++ greedy_turns costing threshold trees n (map (nth_point points) uncovered)) (sym one)
+    ∙ takes costing threshold points long is
 
 -- the candidates are the best plans at the points
-pub all-turns : (costing : CostingTree) (threshold : ℕ) (frontier : List FrontierPoint) (candidates : List ℕ)
-    → All (IsFrontierPoint costing) frontier → All (λ place. place < length frontier) candidates → AreAmong frontier candidates (length frontier)
-    → greedy_turns costing threshold (map (plan_at frontier) candidates) (length frontier) (frontier_points frontier) ≡ greedy costing threshold (frontier_points frontier)
-all-turns costing threshold frontier candidates each within among =
-    let plans = map (plan_at frontier) candidates in
-    let points = frontier_points frontier in
-    let best = best-plans costing frontier each in
-    let long : length (frontier_plans frontier) ≡ length frontier = length-map frontier (λ (at : FrontierPoint). plan_tree at.plan) in
-    let many : length points ≡ length frontier = length-map frontier (λ (at : FrontierPoint). at.point) in
-    let into : (p : PlanTree) → IsIn p plans → IsIn p (map (best_plan costing) points) =
+pub all-turns : (costing : CostingTree) (threshold : ℕ) (points : List (List ℕ)) (count : ℕ) (plans : List Plan) → length points ≡ count → HoldsBest costing points count plans
+    → greedy_turns costing threshold (map plan_tree plans) count points ≡ greedy costing threshold points
+all-turns costing threshold points count plans long held =
+    let trees = map plan_tree plans in
+    let best = map (best_plan costing) points in
+    let into : (p : PlanTree) → IsIn p trees → IsIn p best =
     λ p is.
-    let (number, below, at) = contained-in p plans is in
-    let few : number < length candidates = omega (arith, below, length-map candidates (plan_at frontier)) in
-    let place = slice_index_or candidates number 0 in
-    let there : place < length (frontier_plans frontier) = omega (arith, long, within number 0 few) in
-    let same : plan_at frontier place ≡ p = sym (get_or-map (plan_at frontier) candidates number 0 p few) ∙ at in
-    subst (IsIn p) best (subst (λ one. IsIn one (frontier_plans frontier)) same
-    (in-contained (plan_at frontier place) (frontier_plans frontier) (Contains-get_or (frontier_plans frontier) place (Scan 0) there))) in
-    let back : (p : PlanTree) → IsIn p (map (best_plan costing) points) → IsIn p plans =
+    let (place, below, at) = contained-in p trees is in
+    let few : place < length plans = omega (arith, below, length-map plans plan_tree) in
+    let one = held.each place (plan.Scan 0) few in
+    let same : plan_tree (slice_index_or plans place (plan.Scan 0)) ≡ p = sym (get_or-map plan_tree plans place (plan.Scan 0) p few) ∙ at in
+    let only = best-only costing (plan_tree (slice_index_or plans place (plan.Scan 0))) (nth_point points one.number) one.best in
+    in-contained p best (one.number, omega (arith, one.exists, length-map points (best_plan costing)), get_or-map (best_plan costing) points one.number [] p one.exists ∙ sym only ∙ same) in
+    let back : (p : PlanTree) → IsIn p best → IsIn p trees =
     λ p is.
-    let (place, below, at) = contained-in p (frontier_plans frontier) (subst (IsIn p) (sym best) is) in
-    let there : place < length frontier = omega (arith, below, long) in
-    let same : plan_at frontier place ≡ p = get_or_default (frontier_plans frontier) place (Scan 0) p below ∙ at in
-    subst (λ one. IsIn one plans) same (in-contained (plan_at frontier place) plans (among place there)) in
-    same-turns costing threshold plans (map (best_plan costing) points) (length frontier) points into back
-    ∙ ap (λ n. greedy_turns costing threshold (map (best_plan costing) points) n points) (sym many)
+    let (place, below, at) = contained-in p best is in
+    let few : place < length points = omega (arith, below, length-map points (best_plan costing)) in
+    subst (λ one. IsIn one trees) (sym (get_or-map (best_plan costing) points place [] p few) ∙ at)
+    (in-contained (best_plan costing (nth_point points place)) trees (held.all place (omega (arith, few, long)))) in
+    same-turns costing threshold trees best count points into back ∙ ap (λ n. greedy_turns costing threshold best n points) (sym long)

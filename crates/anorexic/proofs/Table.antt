@@ -7,12 +7,11 @@ use Rattle.std.proofs.lemmas.List.{get_or-map, length-map, length-take-le}
 use Rattle.std.proofs.lemmas.List.Concat.{get_or-flat_map}
 use Rattle.std.proofs.lemmas.List.Elements.{All-head, All-tail}
 use Rattle.std.proofs.lemmas.List.Sums.{sum_by-cons}
-use Rattle.plan_tree.specs.Plans.{Scan}
+use Rattle.plan_tree.specs.Plans.{PlanTree, Scan}
 use Rattle.cost_model.specs.Costing.{CostingTree}
 use Rattle.cost_model.specs.Greedy.{covers_at}
-use Rattle.cost_model.specs.declared.frontier_point.FrontierPoint.{FrontierPoint}
-use Rattle.cost_model.specs.FrontierPoints.{frontier_points}
-use Rattle.anorexic.specs.Frontiers.{plan_at, point_at_place}
+use Rattle.plan_space.specs.Parts.{nth_plan}
+use Rattle.plan_space.specs.FrontierPlans.{nth_point}
 use Rattle.anorexic.specs.Turns.{cover_row, IsCoverTable, is_marked}
 
 -- rows that are equally long
@@ -23,43 +22,31 @@ rows-long f width (x ∷ xs) long =
     let both = length-append (f x) (flat_map f xs) in
     grind (arith, more, both, long x)
 
-pub table-long : (costing : CostingTree) (threshold : ℕ) (frontier : List FrontierPoint) (candidates : List ℕ) (table : List Bool)
-    → IsCoverTable costing threshold frontier (map (plan_at frontier) candidates) table → length table ≡ length frontier * length candidates
-table-long costing threshold frontier candidates table is =
-    let plans = map (plan_at frontier) candidates in
-    let many = rows-long (cover_row costing threshold plans) (length candidates) (frontier_points frontier)
-    (λ point. length-map plans (λ p. covers_at costing threshold p point) ∙ length-map candidates (plan_at frontier)) in
-    let points : length (frontier_points frontier) ≡ length frontier = length-map frontier (λ (at : FrontierPoint). at.point) in
-    ap length is ∙ many ∙ ap (λ n. n * length candidates) points
+pub table-long : (costing : CostingTree) (threshold : ℕ) (points : List (List ℕ)) (plans : List PlanTree) (table : List Bool)
+    → IsCoverTable costing threshold points plans table → length table ≡ length points * length plans
+table-long costing threshold points plans table is =
+    ap length is ∙ rows-long (cover_row costing threshold plans) (length plans) points (λ point. length-map plans (λ p. covers_at costing threshold p point))
 
 -- a row lies within the table
 pub row-within : (place points width : ℕ) → place < points → place * width + width ≤ points * width
 row-within place points width less = grind (arith, less)
 
 -- the test of a candidate and the point at a place
-pub marked-is : (costing : CostingTree) (threshold : ℕ) (frontier : List FrontierPoint) (candidates : List ℕ) (table : List Bool) (candidate place : ℕ)
-    → IsCoverTable costing threshold frontier (map (plan_at frontier) candidates) table → candidate < length candidates → place < length frontier
-    → is_marked table (length candidates) candidate place
-    ≡ covers_at costing threshold (plan_at frontier (slice_index_or candidates candidate 0)) (point_at_place frontier place)
-marked-is costing threshold frontier candidates table candidate place is few below =
-    let plans = map (plan_at frontier) candidates in
-    let points = frontier_points frontier in
+pub marked-is : (costing : CostingTree) (threshold : ℕ) (points : List (List ℕ)) (plans : List PlanTree) (table : List Bool) (candidate place : ℕ)
+    → IsCoverTable costing threshold points plans table → candidate < length plans → place < length points
+    → is_marked table (length plans) candidate place ≡ covers_at costing threshold (nth_plan plans candidate) (nth_point points place)
+marked-is costing threshold points plans table candidate place is few within =
     let row = cover_row costing threshold plans in
-    let wide : (point : List ℕ) → length (row point) ≡ length candidates =
-    λ point. length-map plans (λ p. covers_at costing threshold p point) ∙ length-map candidates (plan_at frontier) in
-    let long : length points ≡ length frontier = length-map frontier (λ (at : FrontierPoint). at.point) in
-    let within : place < length points = omega (arith, long, below) in
-    let before : length (flat_map row (take place points)) ≡ place * length candidates =
-    rows-long row (length candidates) (take place points) wide ∙ ap (λ n. n * length candidates) (length-take-le place points (omega (arith, within))) in
-    let point = slice_index_or points place [] in
+    let wide : (point : List ℕ) → length (row point) ≡ length plans = λ point. length-map plans (λ p. covers_at costing threshold p point) in
+    let before : length (flat_map row (take place points)) ≡ place * length plans =
+    rows-long row (length plans) (take place points) wide ∙ ap (λ n. n * length plans) (length-take-le place points (omega (arith, within))) in
+    let point = nth_point points place in
     let there = get_or-flat_map row points place candidate [] false within (omega (arith, wide point, few)) in
-    let of-plan = get_or-map (λ p. covers_at costing threshold p point) plans candidate (Scan 0) false (omega (arith, length-map candidates (plan_at frontier))) in
-    let of-place = get_or-map (plan_at frontier) candidates candidate 0 (Scan 0) few in
-    ap (λ all. slice_index_or all (place * length candidates + candidate) false) is
+    let of-plan = get_or-map (λ p. covers_at costing threshold p point) plans candidate (Scan 0) false few in
+    ap (λ all. slice_index_or all (place * length plans + candidate) false) is
     ∙ ap (λ n. slice_index_or (flat_map row points) (n + candidate) false) (sym before)
     ∙ there
     ∙ of-plan
-    ∙ ap (λ p. covers_at costing threshold p point) of-place
 
 -- a test of places counts and keeps as the test of what stands there does
 abbrev one-if : Bool → ℕ

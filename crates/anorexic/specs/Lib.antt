@@ -1,4 +1,3 @@
-pub mod Frontiers
--- what only proofs need
-pub mod Gathered
 pub mod Turns
+-- what only proofs need
+pub mod Points

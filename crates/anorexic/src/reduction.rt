@@ -1,18 +1,20 @@
 // Greedy reduction.
-ghost use Rattle.std.specs.Prelude.{◌≡◌, ◌*◌, ◌<◌, ◌≤◌, ℕ, All, Contains, IfOk, length, map};
+ghost use Rattle.std.specs.Prelude.{◌≡◌, ◌*◌, ◌<◌, ◌≤◌, All, IfOk, length, map};
 ghost use Rattle.std.specs.List.{range_with_len};
 ghost use Rattle.sql_values.specs.Limits.{max_threshold};
-ghost use Rattle.plan_tree.specs.Plans.{plan_tree};
+ghost use Rattle.plan_tree.specs.Plans.{plan_tree, FitsSet};
 ghost use Rattle.cost_model.specs.Costing.{costing_tree};
 ghost use Rattle.cost_model.specs.Greedy.{greedy};
 ghost use Rattle.cost_model.specs.FrontierPoints.{IsFrontier, frontier_points};
-ghost use Rattle.anorexic.specs.Frontiers.{FrontierPlansFit, plan_at};
-ghost use Rattle.anorexic.specs.Turns.{AreTaken};
+ghost use Rattle.plan_space.specs.SurfacePoints.{surface_points};
+ghost use Rattle.plan_space.specs.FrontierPlans.{AreFrontierPlans};
+ghost use Rattle.anorexic.specs.Points.{AreTakenApart};
+ghost use Rattle.anorexic.specs.Turns.{AreTaken, plan_at};
 
-use crate::candidates::{Candidates, gather};
 use crate::cover::cover_table;
 use crate::turn::{close, first_candidate};
 use cost_model::{Costing, FrontierPoint};
+use plan_space::{CostedPlans, FrontierPlans, SurfacePoint};
 use plan_tree::{Plan, copy};
 use std::alloc::{AllocError, Global};
 
@@ -27,54 +29,84 @@ fn all_places(alloc: Global, count: usize) -> Result<Vec<usize>, AllocError>
     Ok(places)
 }
 
-// The places of the plans that are taken, in order: a turn for each, until no point is open.
+// The numbers of the candidates that are taken for so many points, in order: a turn for each, until no point is open.
 fn turns(
     alloc: Global,
-    frontier: &[FrontierPoint],
-    candidates: &[usize],
+    points: usize,
+    candidates: &[Plan],
     table: &[bool],
 ) -> Result<Vec<usize>, AllocError>
-    requires plans { FrontierPlansFit frontier.now }
-    requires places { All (λ place. place < length frontier.now) candidates.now }
-    requires each { (place : ℕ) → place < length frontier.now
-        → Contains (map (plan_at frontier.now) candidates.now) (plan_at frontier.now place) }
-    requires table { length table.now ≡ length frontier.now * length candidates.now }
-    ensures { IfOk result
-        (λ taken. AreTaken frontier.now candidates.now table.now taken.items) }
+    requires fit { All (λ p. FitsSet (plan_tree p)) candidates.now }
+    requires some { 0 < points → 0 < length candidates.now }
+    requires table { length table.now ≡ points * length candidates.now }
+    ensures { IfOk result (λ taken. AreTaken points candidates.now table.now taken.items) }
 {
     let mut taken = Vec::new(alloc);
-    let mut uncovered = all_places(alloc, frontier.len())?;
-    for _turn in 0..frontier.len() {
+    let mut uncovered = all_places(alloc, points)?;
+    for _turn in 0..points {
         if uncovered.is_empty() {
             return Ok(taken);
         }
-        let candidate = first_candidate(frontier, candidates, table, uncovered.as_slice());
+        let candidate = first_candidate(candidates, table, uncovered.as_slice());
         close(table, candidates.len(), candidate, &mut uncovered);
-        taken.push(candidates[candidate])?;
+        taken.push(candidate)?;
     }
     Ok(taken)
 }
 
-// Copies of the plans at these places.
-fn copies(
-    alloc: Global,
-    frontier: &[FrontierPoint],
-    places: &[usize],
-) -> Result<Vec<Plan>, AllocError>
-    requires { All (λ place. place < length frontier.now) places.now }
-    ensures { IfOk result (λ plans.
-        map plan_tree plans.items ≡ map (plan_at frontier.now) places.now) }
+// Copies of the plans of these numbers.
+fn copies(alloc: Global, plans: &[Plan], numbers: &[usize]) -> Result<Vec<Plan>, AllocError>
+    requires { All (λ number. number < length plans.now) numbers.now }
+    ensures { IfOk result (λ taken.
+        map plan_tree taken.items ≡ map (plan_at plans.now) numbers.now) }
 {
-    let mut plans = Vec::new(alloc);
-    for place in places {
-        plans.push(copy(alloc, &frontier[*place].plan)?)?;
+    let mut taken = Vec::new(alloc);
+    for number in numbers {
+        taken.push(copy(alloc, &plans[*number])?)?;
     }
-    Ok(plans)
+    Ok(taken)
 }
 
-/// The plans that greedy reduction takes for the points of a frontier, in the order in which it takes them: in each turn the
-/// plan that covers the most points that no plan covers yet, of equals the first in plan order, until all are covered. A plan
-/// covers a point where it costs at most so many percent more than the best plan. An error is want of memory alone.
+/// The plans that greedy reduction takes for a frontier, in the order in which it takes them: in each turn the plan that
+/// covers the most points that no plan covers yet, of equals the first in plan order, until all are covered. A plan covers a
+/// point where it costs at most so many percent more than the best plan. The only error is out of memory.
+pub fn reduce_frontier(
+    alloc: Global,
+    costing: &Costing<'_>,
+    frontier: &FrontierPlans,
+    threshold: u32,
+) -> Result<Vec<Plan>, AllocError>
+    requires frontier { AreFrontierPlans (costing_tree costing.now) frontier.now }
+    requires threshold { threshold ≤ max_threshold }
+    ensures { IfOk result (λ plans. map plan_tree plans.items
+        ≡ greedy (costing_tree costing.now) threshold (surface_points frontier.now.points.items)) }
+{
+    let _block = costing.block();
+    let points = frontier.points.as_slice();
+    let candidates = frontier.plans.as_slice();
+    let mut costed = CostedPlans::of_plans(alloc, &*costing, candidates)?;
+    let table = cover_table(alloc, points, &mut costed, candidates.len(), threshold)?;
+    let taken = turns(alloc, points.len(), candidates, table.as_slice())?;
+    copies(alloc, candidates, taken.as_slice())
+}
+
+// The points of a frontier, and a copy of each of their plans.
+fn taken_apart(alloc: Global, frontier: &[FrontierPoint]) -> Result<FrontierPlans, AllocError>
+    ensures { IfOk result (AreTakenApart frontier.now) }
+{
+    let mut points = Vec::new(alloc);
+    let mut plans = Vec::new(alloc);
+    for at in frontier {
+        points.push(SurfacePoint {
+            point: at.point,
+            cost: at.cost,
+        })?;
+        plans.push(copy(alloc, &at.plan)?)?;
+    }
+    Ok(FrontierPlans { points, plans })
+}
+
+/// The same for a frontier whose points are each given with their plan.
 pub fn reduce(
     alloc: Global,
     costing: &Costing<'_>,
@@ -86,10 +118,6 @@ pub fn reduce(
     ensures { IfOk result (λ plans. map plan_tree plans.items
         ≡ greedy (costing_tree costing.now) threshold (frontier_points frontier.now)) }
 {
-    let _block = costing.block();
-    let Candidates { mut plans, places } = gather(alloc, &*costing, frontier)?;
-    let places = places.as_slice();
-    let table = cover_table(alloc, frontier, &mut plans, places, threshold)?;
-    let taken = turns(alloc, frontier, places, table.as_slice())?;
-    copies(alloc, frontier, taken.as_slice())
+    let apart = taken_apart(alloc, frontier)?;
+    reduce_frontier(alloc, costing, &apart, threshold)
 }

@@ -3,10 +3,8 @@
 ghost use Rattle.std.specs.Prelude.{◌≡◌, ◌+◌, ◌*◌, ◌<◌, ◌≤◌, ℕ, All, count_by, false, filter, length, not};
 ghost use Rattle.std.specs.Ordering.{is_gt};
 ghost use Rattle.plan_tree.specs.Plans.{plan_tree, FitsSet};
-ghost use Rattle.anorexic.specs.Frontiers.{FrontierPlansFit};
 ghost use Rattle.anorexic.specs.Turns.{is_marked, cover_order, turn_order};
 
-use cost_model::FrontierPoint;
 use plan_tree::{Plan, plan_order};
 use std::cmp::Ordering;
 
@@ -39,28 +37,21 @@ fn cover_order(count: usize, p: &Plan, other_count: usize, other: &Plan) -> Orde
 }
 
 /// The candidate that this turn takes.
-pub(crate) fn first_candidate(
-    frontier: &[FrontierPoint],
-    candidates: &[usize],
-    table: &[bool],
-    uncovered: &[usize],
-) -> usize
-    requires plans { FrontierPlansFit frontier.now }
+pub(crate) fn first_candidate(candidates: &[Plan], table: &[bool], uncovered: &[usize]) -> usize
+    requires fit { All (λ p. FitsSet (plan_tree p)) candidates.now }
     requires some { 0 < length candidates.now }
-    requires places { All (λ place. place < length frontier.now) candidates.now }
     requires rows { All (λ place. place * length candidates.now + length candidates.now
         ≤ length table.now) uncovered.now }
     ensures candidate { result < length candidates.now }
     ensures first { (other : ℕ) → other < length candidates.now
-        → is_gt (turn_order frontier.now candidates.now table.now uncovered.now result other) ≡ false }
+        → is_gt (turn_order candidates.now table.now uncovered.now result other) ≡ false }
 {
     let width = candidates.len();
     let mut first = 0;
     let mut most = covered(table, width, 0, uncovered);
     for candidate in 1..width {
         let count = covered(table, width, candidate, uncovered);
-        let p = &frontier[candidates[candidate]].plan;
-        if cover_order(most, &frontier[candidates[first]].plan, count, p).is_gt() {
+        if cover_order(most, &candidates[first], count, &candidates[candidate]).is_gt() {
             first = candidate;
             most = count;
         }

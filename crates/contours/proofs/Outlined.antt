@@ -5,7 +5,7 @@ use Rattle.std.specs.declared.alloc.Global.{Global}
 use Rattle.std.proofs.lemmas.List.{map_push}
 use Rattle.cost_model.specs.Costing.{CostingTree}
 use Rattle.cost_model.specs.Frontier.{frontier}
-use Rattle.cost_model.specs.FrontierPoints.{frontier_points}
+use Rattle.plan_space.specs.SurfacePoints.{surface_points}
 use Rattle.bouquet_type.specs.declared.contour.Contour.{Contour}
 use Rattle.bouquet_type.specs.Trees.{BouquetTree, ContourTree, contour_tree}
 use Rattle.bouquet_type.specs.Compiled.{compiled}
@@ -18,14 +18,14 @@ AreOutlined costing frontiers contours =
     map (λ (points : Vec (List ℕ) Global). points.items) frontiers ≡ map (λ (contour : ContourTree). frontier costing contour.cost) (map contour_tree contours)
 
 pub outlined-more : (costing : CostingTree) (threshold : ℕ) (frontiers : List (Vec (List ℕ) Global)) (contours : List Contour) (points : Vec (List ℕ) Global) (found : Found) (old new : MakerState)
-    → whole_of old ≡ compiled costing threshold → MakesNext old new found → points.items ≡ frontier_points found.frontier.items → AreOutlined costing frontiers contours
+    → whole_of old ≡ compiled costing threshold → MakesNext old new found → points.items ≡ surface_points found.points.items → AreOutlined costing frontiers contours
     → AreOutlined costing (frontiers ++ points ∷ []) (contours ++ found.contour ∷ [])
 unfolding compiled
 outlined-more costing threshold frontiers contours points found old new whole makes are before =
     let items : Vec (List ℕ) Global → List (List ℕ) = λ points. points.items in
     let front : ContourTree → List (List ℕ) = λ contour. frontier costing contour.cost in
     let here : points.items ≡ frontier costing found.contour.cost =
-    are ∙ makes.frontier ∙ ap (λ (b : BouquetTree). frontier b.costing found.contour.cost) whole in
+    are ∙ makes.points ∙ ap (λ (b : BouquetTree). frontier b.costing found.contour.cost) whole in
     map_push items frontiers points
     ∙ ap₂ (λ (all : List (List (List ℕ))) (one : List (List ℕ)). all ++ one ∷ []) before here
     ∙ sym (ap (map front) (map_push contour_tree contours found.contour) ∙ map_push front (map contour_tree contours) (contour_tree found.contour))

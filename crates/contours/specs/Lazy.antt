@@ -3,7 +3,7 @@ use Rattle.std.specs.Prelude.{◌≡◌, ℕ, ◌+◌, ◌≤◌, List, [], ◌�
 use Rattle.sql_values.specs.Limits.{max_threshold}
 use Rattle.cost_model.specs.Costing.{CostingShape, IsCosting, costing_tree}
 use Rattle.cost_model.specs.Frontier.{frontier}
-use Rattle.cost_model.specs.FrontierPoints.{frontier_points}
+use Rattle.plan_space.specs.SurfacePoints.{surface_points}
 use Rattle.bouquet_type.specs.declared.contour.Contour.{Contour}
 use Rattle.bouquet_type.specs.Trees.{BouquetTree, ContourTree, contour_tree}
 use Rattle.bouquet_type.specs.Budgets.{contour_cost}
@@ -24,11 +24,11 @@ whole_of m = compiled (costing_tree m.costing) m.threshold
 abbrev pub ahead_of : MakerState → List ContourTree
 ahead_of m = drop m.made (whole_of m).contours
 
--- the next contour was made, from the points of its frontier
+-- the next contour was made, with the points of its frontier
 pub record MakesNext (old new : MakerState) (found : Found) : Type 0 where
   pub whole : whole_of new ≡ whole_of old
   pub ahead : ahead_of old ≡ contour_tree found.contour ∷ ahead_of new
-  pub frontier : frontier_points found.frontier.items ≡ frontier (whole_of old).costing found.contour.cost
+  pub points : surface_points found.points.items ≡ frontier (whole_of old).costing found.contour.cost
 
 -- it was made; or all were, and nothing changed
 abbrev pub Makes : (old new : MakerState) → Option Found → Type 0

@@ -2,15 +2,15 @@
 ghost use Rattle.std.specs.Prelude.{◌≡◌, ◌≤◌, IfOk};
 ghost use Rattle.sql_values.specs.Limits.{max_threshold};
 ghost use Rattle.cost_model.specs.Costing.{costing_tree};
-ghost use Rattle.cost_model.specs.FrontierPoints.{frontier_points};
+ghost use Rattle.plan_space.specs.SurfacePoints.{surface_points};
 ghost use Rattle.bouquet_type.specs.Trees.{IsOutline};
 ghost use Rattle.contours.specs.Contours.{AreContours, bouquet_of};
 
 use crate::maker::Maker;
 use bouquet_type::{Contour, Outline};
-use cost_model::{Costing, FrontierPoint};
+use cost_model::Costing;
 use ess_grid::Point;
-use plan_space::Outlook;
+use plan_space::{Outlook, SurfacePoint};
 use std::alloc::{AllocError, Global};
 
 /// The contours of a compiled bouquet, and what is known of the points of its grid.
@@ -22,9 +22,9 @@ pub(crate) struct Made {
     pub(crate) outline: Outline,
 }
 
-// The points of a frontier. An error is want of memory.
-fn points(alloc: Global, frontier: &[FrontierPoint]) -> Result<Vec<Point>, AllocError>
-    ensures { IfOk result (λ points. points.items ≡ frontier_points frontier.now) }
+// The points of a frontier, without their costs.
+fn points(alloc: Global, frontier: &[SurfacePoint]) -> Result<Vec<Point>, AllocError>
+    ensures { IfOk result (λ points. points.items ≡ surface_points frontier.now) }
 {
     let mut points = Vec::with_capacity(alloc, frontier.len())?;
     for at in frontier {
@@ -46,7 +46,7 @@ fn contours_by(alloc: Global, outlook: &Outlook<'_>, threshold: u32) -> Result<M
     let mut contours = Vec::new(alloc);
     let mut frontiers = Vec::new(alloc);
     while let Some(found) = maker.next(alloc)? {
-        frontiers.push(points(alloc, found.frontier.as_slice())?)?;
+        frontiers.push(points(alloc, found.points.as_slice())?)?;
         contours.push(found.contour)?;
     }
     let costs = Vec::from_slice(alloc, outlook.surface().costs())?;

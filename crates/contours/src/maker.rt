@@ -3,25 +3,24 @@ ghost use Rattle.std.specs.Prelude.{◌≡◌, ◌≤◌, IfOk, OnErr};
 ghost use Rattle.sql_values.specs.Limits.{max_threshold, max_contour_cost};
 ghost use Rattle.cost_model.specs.Costing.{costing_tree};
 ghost use Rattle.cost_model.specs.Frontier.{frontier};
-ghost use Rattle.cost_model.specs.FrontierPoints.{frontier_points};
+ghost use Rattle.plan_space.specs.SurfacePoints.{surface_points};
 ghost use Rattle.bouquet_type.specs.Trees.{contour_tree};
 ghost use Rattle.bouquet_type.specs.Compiled.{compiled_contour, contour_count};
 ghost use Rattle.contours.specs.Lazy.{Makes};
 
-use anorexic::reduce;
+use anorexic::reduce_frontier;
 use bouquet_type::Contour;
-use cost_model::FrontierPoint;
-use plan_space::{CostSurface, Outlook};
+use plan_space::{CostSurface, FrontierPlans, Outlook, SurfacePoint};
 use std::alloc::{AllocError, Global};
 use std::marker::Model;
 
-/// A contour, and the frontier that it was made from.
+/// A contour, and the points of its frontier.
 #[derive(Drop)]
 pub(crate) struct Found {
     /// The contour.
     pub(crate) contour: Contour,
-    /// The points of its frontier, in the grid's order, with their best plans.
-    pub(crate) frontier: Vec<FrontierPoint>,
+    /// The points, in the grid's order, with the optimal costs there.
+    pub(crate) points: Vec<SurfacePoint>,
 }
 
 /// Makes the contours of the compiled bouquet of an outlook, the cheapest first.
@@ -78,14 +77,15 @@ fn contour(
     requires cost { cost ≤ max_contour_cost }
     ensures contour { IfOk result (λ found.
         contour_tree found.contour ≡ compiled_contour (costing_tree outlook.now) threshold cost) }
-    ensures frontier { IfOk result (λ found.
-        frontier_points found.frontier.items ≡ frontier (costing_tree outlook.now) cost) }
+    ensures points { IfOk result (λ found.
+        surface_points found.points.items ≡ frontier (costing_tree outlook.now) cost) }
 {
     let frontier = outlook.frontier(alloc, cost)?;
-    let plans = reduce(alloc, outlook.costing(), &frontier, threshold)?;
+    let plans = reduce_frontier(alloc, outlook.costing(), &frontier, threshold)?;
+    let FrontierPlans { points, plans: _ } = frontier;
     Ok(Found {
         contour: Contour { cost, plans },
-        frontier,
+        points,
     })
 }
 

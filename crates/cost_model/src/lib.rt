@@ -12,6 +12,7 @@ mod arithmetic;
 mod at_point;
 mod axes;
 mod costing;
+mod cover;
 mod frontier_point;
 mod law;
 mod own;
@@ -23,6 +24,7 @@ mod stale;
 mod stats;
 
 pub use costing::Costing;
+pub use cover::is_covered;
 pub use frontier_point::FrontierPoint;
 pub use law::{
     a_card_is_rounded_once, cards_see_the_set_alone, costs_are_bounded, costs_are_sums,

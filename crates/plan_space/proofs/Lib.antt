@@ -5,10 +5,12 @@ pub mod Considered
 pub mod LookedUp
 pub mod Places
 pub mod Followed
+pub mod Told
 pub mod Rows
 pub mod ByPlaces
 pub mod Successors
 pub mod FrontierPoints
+pub mod HeldPlans
 pub mod PartNumbers
 pub mod PartCosts
 pub mod Added

@@ -4,6 +4,7 @@ pub mod Steps
 pub mod Alike
 pub mod Surface
 pub mod SurfacePoints
+pub mod FrontierPlans
 pub mod Places
 pub mod CostedPlans
 -- what only proofs need

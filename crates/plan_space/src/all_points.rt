@@ -1,5 +1,5 @@
 // The best plans of a block at all points of its grid.
-ghost use Rattle.std.specs.Prelude.{◌≡◌, ◌<◌, ◌≤◌, IfOk, length};
+ghost use Rattle.std.specs.Prelude.{◌≡◌, ◌<◌, ◌≤◌, IfOk, IsTrue, length};
 ghost use Rattle.sql_values.specs.Limits.{cost_bound};
 ghost use Rattle.ess_grid.specs.Points.{points_of};
 ghost use Rattle.query_block.specs.Blocks.{block_tree};
@@ -11,7 +11,7 @@ ghost use Rattle.plan_space.specs.Alike.{AreEarlier, AreLeastRows, IsLeastRow};
 
 use crate::alike::axes_inside_sets;
 use crate::entry::Entry;
-use crate::search::rebuilt;
+use crate::search::{rebuilt, tells};
 use crate::sets::set_of_all;
 use crate::table::filled;
 use cost_model::{Costing, PriceRoom, Prices};
@@ -22,7 +22,7 @@ use std::marker::Model;
 
 /// The best plans of a block at all points of a costing's grid, and what they cost there. It keeps 2 KiB a point.
 #[derive(Drop)]
-pub struct BestPlans<'c> {
+pub(crate) struct BestPlans<'c> {
     costing: &'c Costing<'c>,
     // The entries of all sets, a row a point, in the order of the grid.
     rows: Vec<[Entry; 64]>,
@@ -80,7 +80,7 @@ fn rows_of(alloc: Global, costing: &Costing<'_>) -> Result<Vec<[Entry; 64]>, All
 
 /// Finds the best plans at all points at once: each set of relations is searched once for each combination of the levels of
 /// the axes inside it. An error is want of memory.
-pub fn best_at_all_points<'c>(
+pub(crate) fn best_at_all_points<'c>(
     alloc: Global,
     costing: &'c Costing<'c>,
 ) -> Result<BestPlans<'c>, AllocError>
@@ -101,7 +101,7 @@ impl BestPlans<'_> {
     }
 
     /// What the best plan costs at the point at this place of the grid, from 0: the optimal cost there.
-    pub fn cost(&self, place: usize) -> u128
+    pub(crate) fn cost(&self, place: usize) -> u128
         requires { place < length (points_of self.now.grid) }
         ensures cost { IsOptimalAt (costing_tree self.now) place result }
         ensures bound { result < cost_bound }
@@ -112,12 +112,21 @@ impl BestPlans<'_> {
 
     /// The best plan at the point at this place of the grid, from 0: of all plans of the block the cheapest, and of equally
     /// cheap ones the first in plan order. An error is want of memory.
-    pub fn plan(&self, alloc: Global, place: usize) -> Result<Plan, AllocError>
+    pub(crate) fn plan(&self, alloc: Global, place: usize) -> Result<Plan, AllocError>
         requires { place < length (points_of self.now.grid) }
         ensures { IfOk result (λ p. IsBestAt (costing_tree self.now) place (plan_tree p)) }
     {
         let block = self.costing.block();
         let p = rebuilt(alloc, block, self.row(place), set_of_all(block))?;
         Ok(p)
+    }
+
+    /// Whether a plan is the best one at the point at this place of the grid, from 0. It takes no memory.
+    pub(crate) fn is_plan(&self, place: usize, p: &Plan) -> bool
+        requires { place < length (points_of self.now.grid) }
+        ensures { IsTrue result → IsBestAt (costing_tree self.now) place (plan_tree p.now) }
+    {
+        let block = self.costing.block();
+        tells(block, self.row(place), set_of_all(block), p)
     }
 }

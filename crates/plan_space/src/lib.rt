@@ -1,10 +1,9 @@
 //! The best plan of a block at a point of the grid, or at all points at once: of all plans of the
 //! block the cheapest there, and of equally cheap ones the first in plan order. And the frontiers
 //! of a block: the points of each with their best plans.
-//! To the layers above it promises that `best` and `BestPlans` answer exactly that plan and its
-//! cost, over all bushy shapes, products, indexes and edges, that a `CostSurface` tells exactly
-//! which points are on the frontier of a cost, and that an `Outlook` gives them with their best
-//! plans.
+//! To the layers above it promises that `best` answers exactly that plan and its cost, over all
+//! bushy shapes, products, indexes and edges, that a `CostSurface` tells exactly which points are on
+//! the frontier of a cost, and that an `Outlook` gives them with their best plans, each once.
 //! It never lists the plans, never says what a node costs, never looks at a table, and takes memory
 //! for its answers alone.
 #![tactic(auto)]
@@ -25,8 +24,7 @@ mod steps;
 mod surface;
 mod table;
 
-pub use all_points::{BestPlans, best_at_all_points};
 pub use costed_plans::CostedPlans;
-pub use outlook::Outlook;
+pub use outlook::{FrontierPlans, Outlook};
 pub use search::best;
 pub use surface::{CostSurface, SurfacePoint};

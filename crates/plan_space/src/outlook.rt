@@ -1,16 +1,27 @@
-// The frontiers of a block with the best plans of their points.
-ghost use Rattle.std.specs.Prelude.{◌≡◌, ◌≤◌, IfOk};
+// The frontiers of a block with the plans that are best there.
+ghost use Rattle.std.specs.Prelude.{◌≡◌, ◌+◌, ◌<◌, ◌≤◌, ℕ, List, All, IfOk, IsTrue, OnOk, Some, length};
 ghost use Rattle.sql_values.specs.Limits.{max_contour_cost};
+ghost use Rattle.ess_grid.specs.Points.{points_of, point_at};
 ghost use Rattle.cost_model.specs.Costing.{costing_tree, IsCosting};
 ghost use Rattle.cost_model.specs.Frontier.{frontier};
-ghost use Rattle.cost_model.specs.FrontierPoints.{IsFrontierPoint, IsFrontier, frontier_points};
-ghost use Rattle.plan_space.specs.SurfacePoints.{IsSurfacePoint};
+ghost use Rattle.plan_space.specs.SurfacePoints.{IsSurfacePoint, surface_points};
+ghost use Rattle.plan_space.specs.FrontierPlans.{AreFrontierPlans, HasBest, HoldsBest};
 
 use crate::all_points::{BestPlans, best_at_all_points};
 use crate::surface::{CostSurface, SurfacePoint, optimal_costs};
-use cost_model::{Costing, FrontierPoint};
+use cost_model::Costing;
+use plan_tree::Plan;
 use std::alloc::{AllocError, Global};
 use std::marker::Model;
+
+/// A frontier: its points, and the plans that are best there.
+#[derive(Drop)]
+pub struct FrontierPlans {
+    /// The points, in the grid's order, with the optimal costs there.
+    pub points: Vec<SurfacePoint>,
+    /// The plans that are best at these points, in the order in which they were found.
+    pub plans: Vec<Plan>,
+}
 
 /// The best plans of a costing's block at all points of its grid, and the optimal costs, by which frontiers are found.
 #[derive(Drop)]
@@ -60,36 +71,66 @@ impl<'c> Outlook<'c> {
         &self.surface
     }
 
-    // A point of a frontier with its best plan. An error is want of memory.
-    fn frontier_point(&self, alloc: Global, at: &SurfacePoint) -> Result<FrontierPoint, AllocError>
-        requires { IsSurfacePoint (costing_tree self.now) at.now }
-        ensures point { IfOk result (λ told. told.point ≡ at.now.point) }
-        ensures best { IfOk result (IsFrontierPoint (costing_tree self.now)) }
+    // Whether one of these plans is the best one at the point at this place.
+    fn has_plan(&self, plans: &[Plan], place: usize) -> bool
+        requires { place < length (points_of self.now.grid) }
+        ensures { IsTrue result → (point : List ℕ) → point_at self.now.grid place ≡ Some point →
+            HasBest (costing_tree self.now) plans.now point }
     {
-        let place = self.costing().grid().place_of(&at.point);
-        let plan = self.best.plan(alloc, place)?;
-        Ok(FrontierPoint {
-            point: at.point,
-            plan,
-            cost: at.cost,
-        })
+        for p in plans {
+            if self.best.is_plan(place, p) {
+                return true;
+            }
+        }
+        false
     }
 
-    /// The points of the frontier of a contour of this cost, in the grid's order, with their best plans. An error is want of
+    // Adds the best plan at the next of some points, where it isn't there.
+    fn add_plan(
+        &self,
+        alloc: Global,
+        points: &[SurfacePoint],
+        number: usize,
+        plans: &mut Vec<Plan>,
+    ) -> Result<(), AllocError>
+        requires points { All (IsSurfacePoint (costing_tree self.now)) points.now }
+        requires number { number < length points.now }
+        requires known { HoldsBest
+            (costing_tree self.now) (surface_points points.now) number plans.old.items }
+        ensures { OnOk result (HoldsBest
+            (costing_tree self.now) (surface_points points.now) (number + 1) plans.new.items) }
+    {
+        let place = self.costing().grid().place_of(&points[number].point);
+        if self.has_plan(plans.as_slice(), place) {
+            return Ok(());
+        }
+        plans.push(self.best.plan(alloc, place)?)?;
+        Ok(())
+    }
+
+    // The best plans at some points, each once.
+    fn plans_at(&self, alloc: Global, points: &[SurfacePoint]) -> Result<Vec<Plan>, AllocError>
+        requires { All (IsSurfacePoint (costing_tree self.now)) points.now }
+        ensures { IfOk result (λ plans. HoldsBest
+            (costing_tree self.now) (surface_points points.now) (length points.now) plans.items) }
+    {
+        let mut plans = Vec::new(alloc);
+        for number in 0..points.len() {
+            self.add_plan(alloc, points, number, &mut plans)?;
+        }
+        Ok(plans)
+    }
+
+    /// The frontier of a contour of this cost. A plan that is best at several points is made once. The only error is out of
     /// memory.
-    pub fn frontier(&self, alloc: Global, cost: u128) -> Result<Vec<FrontierPoint>, AllocError>
+    pub fn frontier(&self, alloc: Global, cost: u128) -> Result<FrontierPlans, AllocError>
         requires { cost ≤ max_contour_cost }
         ensures points { IfOk result (λ found.
-            frontier_points found.items ≡ frontier (costing_tree self.now) cost) }
-        ensures frontier { IfOk result (λ found. IsFrontier (costing_tree self.now) found.items) }
+            surface_points found.points.items ≡ frontier (costing_tree self.now) cost) }
+        ensures plans { IfOk result (AreFrontierPlans (costing_tree self.now)) }
     {
-        let _levels = self.costing().grid().levels();
-        let frontier = self.surface.frontier(alloc, cost)?;
-        let points = frontier.as_slice();
-        let mut found = Vec::new(alloc);
-        for at in points {
-            found.push(self.frontier_point(alloc, at)?)?;
-        }
-        Ok(found)
+        let points = self.surface.frontier(alloc, cost)?;
+        let plans = self.plans_at(alloc, points.as_slice())?;
+        Ok(FrontierPlans { points, plans })
     }
 }

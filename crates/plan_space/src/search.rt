@@ -1,5 +1,5 @@
 // The best plan of a block at a point.
-ghost use Rattle.std.specs.Prelude.{◌≡◌, ◌<◌, ◌≤◌, IfOk};
+ghost use Rattle.std.specs.Prelude.{◌≡◌, ◌<◌, ◌≤◌, IfOk, IsTrue};
 ghost use Rattle.ess_grid.specs.Points.{IsPoint};
 ghost use Rattle.query_block.specs.Blocks.{block_tree};
 ghost use Rattle.plan_tree.specs.Plans.{plan_tree, covers_of};
@@ -8,7 +8,7 @@ ghost use Rattle.cost_model.specs.Best.{IsBest};
 ghost use Rattle.cost_model.specs.Optimal.{optimal_cost};
 ghost use Rattle.cost_model.specs.Prices.{block_at};
 ghost use Rattle.plan_space.specs.Alike.{AreInsideSets};
-ghost use Rattle.plan_space.specs.Table.{Follows, AllStand, HasEntry};
+ghost use Rattle.plan_space.specs.Table.{AllStand, Follows, HasEntry, IsTold};
 
 use crate::alike::axes_inside_sets;
 use crate::entry::Entry;
@@ -76,6 +76,46 @@ pub(crate) fn rebuilt(
             let left = boxed(alloc, block, table, Subset::new(left))?;
             Ok(Plan::IndexLoop(edge, left, relation))
         }
+    }
+}
+
+/// Whether a plan is the one of a set that the entries tell. It takes no memory.
+pub(crate) fn tells(block: &Block, table: &[Entry; 64], set: Subset, p: &Plan) -> bool
+    requires stands { AllStand (block_tree block.now) table.now }
+    requires set { HasEntry (block_tree block.now) set }
+    ensures { IsTrue result → IsTold table.now (plan_tree p.now) set }
+{
+    let root = table[set.number() as usize].root;
+    match p {
+        Plan::Scan(relation) => root == Root::Scan(*relation),
+        Plan::IndexScan(relation, column) => root == Root::IndexScan(*relation, *column),
+        Plan::Nest(left, right) => match root {
+            Root::Nest(side) => {
+                let side = Subset::new(side);
+                tells(block, table, side, left) && tells(block, table, set.without(side), right)
+            }
+            _ => false,
+        },
+        Plan::Hash(edge, left, right) => match root {
+            Root::Hash(other, side) if other == *edge => {
+                let side = Subset::new(side);
+                tells(block, table, side, left) && tells(block, table, set.without(side), right)
+            }
+            _ => false,
+        },
+        Plan::Merge(edge, left, right) => match root {
+            Root::Merge(other, side) if other == *edge => {
+                let side = Subset::new(side);
+                tells(block, table, side, left) && tells(block, table, set.without(side), right)
+            }
+            _ => false,
+        },
+        Plan::IndexLoop(edge, left, relation) => match root {
+            Root::IndexLoop(other, side, right) if other == *edge && right == *relation => {
+                tells(block, table, Subset::new(side), left)
+            }
+            _ => false,
+        },
     }
 }
 

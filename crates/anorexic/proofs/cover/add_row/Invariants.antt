@@ -1,9 +1,10 @@
 use Rattle.std.proofs.Common.{◌≡◌, ◌++◌, ◌+◌, ◌*◌, map, take}
 use Rattle.std.specs.Prelude.{nat_le}
-use Rattle.anorexic.specs.Turns.{cost_at_place}
+use Rattle.cost_model.specs.Costing.{costing_tree}
+use Rattle.cost_model.specs.Costs.{cost_of}
 use Rattle.anorexic.proofs.cover.add_row.Given as goal
 
 abbrev pub invariant-loop-place : goal.invariant-loop-place
 invariant-loop-place l =
     l.table.items ≡ l.initial.table.items
-    ++ map (λ place. nat_le (100 * cost_at_place l.plans l.at.point place) ((100 + l.threshold) * l.at.cost)) (take l.place-index l.places)
+    ++ map (λ p. nat_le (100 * cost_of (costing_tree l.plans.costing) p l.at.point) ((100 + l.threshold) * l.at.cost)) (take l.place l.plans.plans)

@@ -8,28 +8,27 @@ use Rattle.anorexic.proofs.turn.first_candidate.Goals as goal
 use Rattle.anorexic.proofs.turn.first_candidate.Goals.{then-is_gt, else-is_gt}
 
 pub loop-candidate-init : goal.loop-candidate-init
-loop-candidate-init c = (omega arith, c.covered-most.ensures, first-itself c.args.frontier.now c.args.candidates.now c.args.table.now c.args.uncovered.now)
+loop-candidate-init c = (omega arith, c.covered-most.ensures, first-itself c.args.candidates.now c.args.table.now c.args.uncovered.now)
 
 pub loop-candidate-preserved : goal.loop-candidate-preserved
 loop-candidate-preserved c =
-    let frontier = c.args.frontier.now in
     let candidates = c.args.candidates.now in
     let table = c.args.table.now in
     let uncovered = c.args.uncovered.now in
     let first = c.loop-candidate.first in
     let candidate = c.loop-candidate.candidate in
-    let order = turn_order frontier candidates table uncovered in
+    let order = turn_order candidates table uncovered in
     let (within, most, least) = c.loop-candidate.invariant in
     let few : candidate < length candidates = omega arith in
-    let same = turn-order-is frontier candidates table uncovered first candidate c.loop-candidate.most c.covered-count.result
-    c.index-frontier-candidates-in-loop-candidate.result c.index-frontier-candidates.result c.requires.places (omega (arith, within, few)) few most c.covered-count.ensures in
+    let same = turn-order-is candidates table uncovered first candidate c.loop-candidate.most c.covered-count.result
+    c.index-candidates-first.result c.index-candidates-candidate.result (omega (arith, within, few)) few c.index-candidates-first.is c.index-candidates-candidate.is most c.covered-count.ensures in
     let compared = c.is_gt.ensures ∙ ap is_gt (c.cover_order.ensures ∙ same) in
     let family : ℕ → ℕ → Type 0 = λ one count.
     (one < candidate + 1) × (count ≡ count_by (is_marked table (length candidates) one) uncovered) × ((other : ℕ) → other < candidate + 1 → is_gt (order one other) ≡ false) in
     elim c.if-is_gt.branch [
       | then-is_gt w ↦
           subst (λ one. family one c.if-is_gt.most) (sym w.first-is) (subst (family candidate) (sym w.most-is)
-          (omega arith, c.covered-count.ensures, next-first frontier candidates table uncovered first candidate (sym compared ∙ w.if-is_gt.true) least))
+          (omega arith, c.covered-count.ensures, next-first candidates table uncovered first candidate (sym compared ∙ w.if-is_gt.true) least))
       | else-is_gt w ↦
           subst (λ one. family one c.if-is_gt.most) (sym w.first-is) (subst (family first) (sym w.most-is)
           (omega (arith, within), most, below_more (λ other. is_gt (order first other) ≡ false) candidate least (sym compared ∙ w.if-is_gt.false)))

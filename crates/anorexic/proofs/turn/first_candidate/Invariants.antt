@@ -8,4 +8,4 @@ abbrev pub invariant-loop-candidate : goal.invariant-loop-candidate
 invariant-loop-candidate l =
     (l.first < l.candidate)
     × (l.most ≡ count_by (is_marked l.table l.width l.first) l.uncovered)
-    × ((other : ℕ) → other < l.candidate → is_gt (turn_order l.frontier l.candidates l.table l.uncovered l.first other) ≡ false)
+    × ((other : ℕ) → other < l.candidate → is_gt (turn_order l.candidates l.table l.uncovered l.first other) ≡ false)

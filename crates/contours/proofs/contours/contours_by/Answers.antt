@@ -2,7 +2,7 @@ use Rattle.std.proofs.Common.{◌∙◌, ℕ, List, [], ◌∷◌, ◌++◌, ap,
 use Rattle.std.specs.Prelude.{Vec}
 use Rattle.std.specs.declared.alloc.Global.{Global}
 use Rattle.cost_model.specs.Costing.{CostingShape, costing_tree}
-use Rattle.cost_model.specs.FrontierPoints.{frontier_points}
+use Rattle.plan_space.specs.SurfacePoints.{surface_points}
 use Rattle.plan_space.specs.Surface.{optimal_costs}
 use Rattle.bouquet_type.specs.declared.contour.Contour.{Contour}
 use Rattle.contours.proofs.Collected.{AreCollected, collected-none, collected-more, collected-all, made-none}
@@ -36,7 +36,7 @@ loop-frontiers-preserved c =
     collected-more costing c.args.threshold contours found.contour maker c.next.new.self made.whole made.ahead c.loop-frontiers.invariant.collected in
     let outlined =
     outlined-more costing c.args.threshold c.loop-frontiers.frontiers.items contours c.in_ok-points.field-0 found maker c.next.new.self
-    c.loop-frontiers.invariant.collected.whole made (c.in_ok-points.ensures ∙ ap frontier_points c.as_slice.ensures.value) c.loop-frontiers.invariant.outlined in
+    c.loop-frontiers.invariant.collected.whole made (c.in_ok-points.ensures ∙ ap surface_points c.as_slice.ensures.value) c.loop-frontiers.invariant.outlined in
     record {
       collected = subst (λ (contours : List Contour). AreCollected costing c.args.threshold contours c.next.new.self) (sym c.in_ok-push-2.ensures.items) more;
       outlined = subst (λ (all : List Contour). AreOutlined costing c.push.new.self.items all) (sym {A = List Contour} c.in_ok-push-2.ensures.items)

@@ -54,7 +54,7 @@ returns-clause-made c =
       whole = ap whole_of c.self.view_is;
       ahead = sym (ap ahead_of c.self.view_is) ∙ next-ahead costing m.threshold m.made more
           ∙ ap (λ (one : ContourTree). one ∷ behind) (sym (tree ∙ ap (compiled_contour costing m.threshold) is.next));
-      frontier = c.in_ok-found.ensures.frontier
+      points = c.in_ok-found.ensures.points
           ∙ ap (frontier costing) (sym (ap (λ (one : ContourTree). one.cost) tree))
           ∙ ap (λ (one : MakerState). frontier (whole_of one).costing c.in_ok-found.found.contour.cost) c.self.view_is;
     }

@@ -1,0 +1,46 @@
+use Rattle.std.proofs.Common.{◌≡◌, ◌∙◌, ◌+◌, [], List, Some, length, ap, sym, subst, arith}
+use Rattle.std.specs.Prelude.{slice_index_or}
+use Rattle.std.proofs.lemmas.List.{get_or-map, length-map}
+use Rattle.ess_grid.specs.Points.{point_at}
+use Rattle.plan_tree.specs.declared.plan.Plan.{Plan}
+use Rattle.plan_tree.specs.Plans.{plan_tree}
+use Rattle.cost_model.specs.Best.{IsBest}
+use Rattle.cost_model.specs.Costing.{CostingShape, costing_tree}
+use Rattle.plan_space.specs.declared.surface.SurfacePoint.{SurfacePoint}
+use Rattle.plan_space.specs.Places.{IsBestAt}
+use Rattle.plan_space.specs.SurfacePoints.{surface_points}
+use Rattle.plan_space.specs.FrontierPlans.{HasBest, HoldsBest, nth_point}
+use Rattle.plan_space.proofs.HeldPlans.{holds-known, holds-more}
+use Rattle.plan_space.proofs.outlook.Outlook.add_plan.Goals as goal
+
+pub returns-then-has_plan : goal.returns-then-has_plan
+returns-then-has_plan c =
+    let costing = costing_tree c.args.self.now in
+    let points = c.args.points.now in
+    let plans = c.args.plans.now.items in
+    let at = slice_index_or points c.args.number c.index-points-number.result in
+    let place = c.place_of-place.result in
+    let grid = c.grid.ensures ∙ ap (λ (one : CostingShape). one.grid) c.costing.ensures.same in
+    let there = subst (λ grid. point_at grid place ≡ Some at.point) grid c.place_of-place.ensures.place in
+    let here = subst (λ (all : List Plan). HasBest costing all at.point) c.as_slice.ensures.value (c.has_plan.ensures c.if-has_plan.true at.point there) in
+    let point : nth_point (surface_points points) c.args.number ≡ at.point =
+    get_or-map (λ (one : SurfacePoint). one.point) points c.args.number c.index-points-number.result [] c.requires.number in
+    holds-known costing (surface_points points) c.args.number plans (subst (HasBest costing plans) (sym point) here) c.requires.known
+
+pub returns : goal.returns
+returns c =
+    let costing = costing_tree c.args.self.now in
+    let points = c.args.points.now in
+    let number = c.args.number in
+    let plans = c.args.plans.now.items in
+    let at = slice_index_or points c.args.number c.index-points-number.result in
+    let place = c.place_of-place.result in
+    let p = c.in_ok-plan.field-0 in
+    let grid = c.grid.ensures ∙ ap (λ (one : CostingShape). one.grid) c.costing.ensures.same in
+    let there = subst (λ grid. point_at grid place ≡ Some at.point) grid c.place_of-place.ensures.place in
+    let best = subst (λ (one : CostingShape). IsBestAt (costing_tree one) place (plan_tree p)) (c.self.invariant ∙ c.self.view_is) c.in_ok-plan.ensures in
+    let point : nth_point (surface_points points) number ≡ at.point =
+    get_or-map (λ (one : SurfacePoint). one.point) points number c.index-points-number.result [] c.requires.number in
+    subst (λ (all : List Plan). HoldsBest costing (surface_points points) (number + 1) all) (sym c.in_ok-push.ensures.items)
+    (holds-more costing (surface_points points) number plans p (omega (arith, c.requires.number, length-map points (λ (one : SurfacePoint). one.point)))
+    (subst (λ one. IsBest costing one (plan_tree p)) (sym point) (best at.point there)) c.requires.known)
