@@ -5,24 +5,24 @@ use Rattle.std.specs.List.{sum_by}
 use Rattle.std.proofs.lemmas.List.{drop_more, drop_all, length-map}
 use Rattle.std.proofs.lemmas.List.Elements.{All-nil, All-cons}
 use Rattle.std.proofs.lemmas.List.Sums.{sum_by-cons}
-use Rattle.row_stack.specs.declared.space.Space.{Space}
-use Rattle.query_block.specs.Blocks.{BlockTree}
+use Rattle.query_block.specs.Blocks.{BlockTree, block_tree}
 use Rattle.plan_tree.specs.declared.plan.Plan.{Plan}
 use Rattle.plan_tree.specs.Plans.{PlanTree, plan_tree}
 use Rattle.plan_tree.specs.AllPlans.{plans_of}
 use Rattle.plan_tree.specs.Work.{work_of}
 use Rattle.db_catalog.specs.Database.{DatabaseState}
-use Rattle.db_catalog.specs.Meter.{MeterState}
+use Rattle.exec_pipe.specs.declared.engine.Engine.{Engine}
+use Rattle.exec_pipe.specs.Engines.{IsEngine, engine_of}
 use Rattle.exec_pipe.specs.Scenes.{IsEmptyContext}
-use Rattle.bouquet_type.specs.Shapes.{BouquetShape}
 use Rattle.bouquet_type.specs.Trees.{BouquetTree, bouquet_tree}
+use Rattle.audit_run.specs.declared.executions.Audited.{Audited}
 use Rattle.audit_run.specs.declared.figures.Figures.{Figures}
 use Rattle.audit_run.specs.declared.figures.Measured.{Measured}
 use Rattle.audit_run.specs.Measures.{Measure, measure_of, measures_of, worst_of}
 use Rattle.audit_run.specs.declared.told.AuditFault.{AuditFault}
 use Rattle.audit_run.specs.declared.told.AuditFault.TheVariants.{PlanLimit, WorkLimit, NoMemory}
-use Rattle.audit_run.specs.Executed.{measure, AreWith, HasWork, StopsAudit}
-use Rattle.audit_run.specs.Audits.{audit_of, work_of_all}
+use Rattle.audit_run.specs.Executed.{measure, AreItsPlans, AreWith, HasWork, StopsAudit}
+use Rattle.audit_run.specs.Audits.{audit_of, work_of_all, RefusesAudit}
 use Rattle.audit_run.proofs.Some.{cost_some, work_some}
 use Rattle.audit_run.proofs.Worst.{IsMeasure}
 use Rattle.audit_run.proofs.Walk.{AreFigures, first_figures, figures-begin, figures-next, figures-end}
@@ -84,16 +84,16 @@ module _ (bouquet : BouquetTree) (block : BlockTree) (database : DatabaseState) 
         ap (sum_by (work_of database.tables block)) all,
       )
 
-  -- so what stops it stops the audit
-  pub stops : (plans : List Plan) (index : ℕ) (plan : Plan) (figures : Figures) (spent most : ℕ) (fault : AuditFault) → index < length plans → plan ≡ get_or plans index plan → map plan_tree plans ≡ plans_of block
-      → AreFigures (measures_in plans) (measures_in (drop index plans)) figures spent → StopsAudit (spent + work_of database.tables block (plan_tree plan)) most fault → StopsAudit (work_of_all block database) most fault
-  stops plans index plan figures spent most PlanLimit there at all are stop = stop
-  stops plans index plan figures spent most (WorkLimit told) there at all are stop = (omega (arith, stop.0, next-within plans index plan figures spent there at all are), stop.1)
-  stops plans index plan figures spent most NoMemory there at all are stop = stop
+  -- so what stops it is why there is no audit
+  pub refuses : (plans : List Plan) (index : ℕ) (plan : Plan) (figures : Figures) (spent most : ℕ) (fault : AuditFault) → index < length plans → plan ≡ get_or plans index plan → AreItsPlans block plans
+      → AreFigures (measures_in plans) (measures_in (drop index plans)) figures spent → StopsAudit (spent + work_of database.tables block (plan_tree plan)) most fault → RefusesAudit block database most fault
+  refuses plans index plan figures spent most PlanLimit there at its are stop = absurd stop
+  refuses plans index plan figures spent most (WorkLimit told) there at its are stop = (its.few, omega (arith, stop.0, next-within plans index plan figures spent there at its.all are), stop.1)
+  refuses plans index plan figures spent most NoMemory there at its are stop = tt
 
   -- the figures of all plans, told
   pub told : (plans : List Plan) (figures : Figures) (spent most : ℕ) → 1 ≤ length (plans_of block)
-      → map plan_tree plans ≡ plans_of block → spent < 2 ^ 64 → most ≡ (audit_of bouquet block database point).r
+      → map plan_tree plans ≡ plans_of block → spent < 2 ^ 128 → most ≡ (audit_of bouquet block database point).r
       → AreFigures (measures_in plans) (measures_in (drop (length plans) plans)) figures spent
       → record {
         point = point;
@@ -119,10 +119,12 @@ module _ (bouquet : BouquetTree) (block : BlockTree) (database : DatabaseState) 
       let work : spent ≡ work_of_all block database = end.work ∙ work-measured (plans_of block) in
       rw (count, end.below, a, b, end.cheapest, ranks, work) refl
 
--- so many plans were executed, and these are their figures
-pub record IsBetween (b : BouquetShape) (block : BlockTree) (database : DatabaseState) (point : List ℕ) (plans : List Plan) (index : ℕ) (figures : Figures) (meter : MeterState) (space : Space) (most : ℕ) : Type 0 where
-  pub so_far : AreFigures (measures_in (bouquet_tree b) block database point plans)
-      (measures_in (bouquet_tree b) block database point (drop index plans)) figures meter.account.spent
-  pub unchanged : meter.database ≡ database
-  pub within : meter.account.spent ≤ most
-  pub context : IsEmptyContext meter block space
+-- so many plans were executed, and these are their figures; the engine is the one that was made, and there are no rows
+pub record IsBetween (audited : Audited) (plans : List Plan) (index : ℕ) (figures : Figures) (engine : Engine) : Type 0 where
+  pub so_far : AreFigures (measures_in (bouquet_tree audited.bouquet.now) (block_tree audited.block.now) audited.db.now audited.point.now plans)
+      (measures_in (bouquet_tree audited.bouquet.now) (block_tree audited.block.now) audited.db.now audited.point.now (drop index plans)) figures engine.meter.now.account.spent
+  pub block : engine.block.now ≡ audited.block.now
+  pub most : engine.max_work ≡ audited.max_work
+  pub database : engine.meter.now.database ≡ audited.db.now
+  pub holds : IsEngine (engine_of engine)
+  pub context : IsEmptyContext engine.meter.now (block_tree engine.block.now) engine.space.now

@@ -90,7 +90,7 @@ pub record AreAll (whole : List Measure) (figures : Figures) (spent : ℕ) : Typ
   pub cheapest : figures.cheapest ≡ least_of (works_of whole)
   pub work : spent ≡ sum_by (λ m. m.work) whole
 
-pub figures-end : (whole : List Measure) (figures : Figures) (spent : ℕ) → 1 ≤ length whole → spent < 2 ^ 64 → AreFigures whole [] figures spent
+pub figures-end : (whole : List Measure) (figures : Figures) (spent : ℕ) → 1 ≤ length whole → spent < 2 ^ 128 → AreFigures whole [] figures spent
     → AreAll whole figures spent
 figures-end [] figures spent some few are = absurd (omega (arith, some))
 figures-end (m ∷ more) figures spent some few are =

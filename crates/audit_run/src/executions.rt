@@ -1,24 +1,22 @@
 // The audit: every plan is executed once.
-ghost use Rattle.std.specs.Prelude.{◌≡◌, ◌≤◌, All, IfErr, IfOk, map};
+ghost use Rattle.std.specs.Prelude.{◌≡◌, ◌≤◌, IfErr, IfOk};
 ghost use Rattle.sql_values.specs.Limits.{max_plans};
 ghost use Rattle.ess_grid.specs.Points.{IsPoint};
 ghost use Rattle.query_block.specs.Blocks.{block_tree, put_of};
 ghost use Rattle.query_block.specs.Values.{FitValues};
-ghost use Rattle.plan_tree.specs.Plans.{plan_tree};
-ghost use Rattle.plan_tree.specs.Enumerated.{IsPlan};
-ghost use Rattle.plan_tree.specs.AllPlans.{plans_of};
 ghost use Rattle.db_catalog.specs.Fits.{Fits};
-ghost use Rattle.exec_pipe.specs.Scenes.{IsEmptyContext};
+ghost use Rattle.exec_pipe.specs.Engines.{MayExecute, engine_of};
 ghost use Rattle.bouquet_type.specs.Trees.{bouquet_tree};
-ghost use Rattle.audit_run.specs.Executed.{MayAudit, MeasuresPlan, StopsAudit};
-ghost use Rattle.audit_run.specs.Audits.{audit_of, told_audit, work_of_all, RefusesAudit};
+ghost use Rattle.audit_run.specs.Executed.{AreItsPlans, Audits, MayAudit, MayCost, MeasuresPlan};
+ghost use Rattle.audit_run.specs.Audits.{audit_of, told_audit, RefusesAudit};
 
 use crate::figures::{Figures, Measured};
 use crate::told::{Audit, AuditFault};
 use bouquet_type::Bouquet;
+use cost_model::Costing;
 use db_catalog::{Database, Metered};
 use ess_grid::Point;
-use exec_pipe::{RunStop, run_within};
+use exec_pipe::{Engine, RunStop};
 use known_rows::KnownRows;
 use plan_tree::{AllFault, Plan, all_plans};
 use query_block::Block;
@@ -26,104 +24,88 @@ use row_stack::Space;
 use sql_values::{MAX_PLANS, Value};
 use std::alloc::Global;
 
-// What a plan costs at a point and works: it is executed over an empty space, and its rows are given back.
+// A bouquet on a block, which is the bouquet's with some values put in: its plans are executed over a database, and their works
+// held against their costs at a point. All executions together spend at most `max_work` units.
+#[derive(Clone, Copy, Drop)]
+struct Audited<'a> {
+    bouquet: &'a Bouquet,
+    block: &'a Block,
+    db: &'a Database,
+    point: &'a Point,
+    max_work: u64,
+}
+
+// What a plan costs at a point and works: it is executed where there are no rows, and its rows are given back.
 fn measured(
     alloc: Global,
-    b: &Bouquet,
-    block: &Block,
+    engine: &mut Engine<'_, '_>,
+    costing: &Costing<'_>,
     point: &Point,
     plan: &Plan,
-    meter: &mut Metered<'_>,
-    space: &mut Space,
-    max_work: u64,
 ) -> Result<Measured, AuditFault>
-    requires block { MayAudit b.now block.now }
-    requires context { IsEmptyContext meter.old (block_tree block.now) space.old }
-    requires point { IsPoint b.now.grid point.now }
-    requires plan { IsPlan (block_tree block.now) (plan_tree plan.now) }
-    requires left { meter.old.account.spent ≤ max_work }
-    ensures measures { MeasuresPlan (bouquet_tree b.now) (block_tree block.now) point.now
-        (plan_tree plan.now) max_work meter.old meter.new space.new result }
+    requires executes { MayExecute (engine_of engine.old) plan.now }
+    requires costs { MayCost costing.now point.now plan.now }
+    ensures { MeasuresPlan costing.now point.now plan.now engine.old engine.new result }
 {
-    let before = meter.spent();
-    let mut known = KnownRows::new();
-    match run_within(alloc, block, plan, meter, space, &mut known, None, max_work) {
+    let most = engine.max_work;
+    let before = engine.meter.spent();
+    match engine.execute(alloc, plan, None) {
         Ok(_) => {
-            space.result.release(0);
-            let cost = b.costing().cost(plan, point);
-            let work = meter.spent() - before;
+            engine.space.result.release(0);
+            let cost = costing.cost(plan, point);
+            let work = engine.meter.spent() - before;
             Ok(Measured { cost, work })
         }
         Err(RunStop::WorkLimit) => Err(AuditFault::WorkLimit {
-            spent: u128::from(max_work),
+            spent: u128::from(most),
         }),
         Err(RunStop::NoMemory) => Err(AuditFault::NoMemory),
     }
 }
 
 // Executes these, which are all plans of the block.
-fn audit_plans(
-    alloc: Global,
-    db: &Database,
-    b: &Bouquet,
-    block: &Block,
-    point: &Point,
-    plans: &[Plan],
-    max_work: u64,
-) -> Result<Audit, AuditFault>
-    requires block { MayAudit b.now block.now }
-    requires fits { Fits db.now (block_tree block.now) }
-    requires point { IsPoint b.now.grid point.now }
-    requires plans { map plan_tree plans.now ≡ plans_of (block_tree block.now) }
-    requires each { All (λ p. IsPlan (block_tree block.now) (plan_tree p)) plans.now }
-    ensures audit { IfOk result (λ audit. told_audit audit
-        ≡ audit_of (bouquet_tree b.now) (block_tree block.now) db.now point.now) }
-    ensures within { IfOk result (λ audit. audit.work ≤ max_work) }
-    ensures stops { IfErr result (StopsAudit (work_of_all (block_tree block.now) db.now) max_work) }
+fn audit_plans(alloc: Global, audited: &Audited<'_>, plans: &[Plan]) -> Result<Audit, AuditFault>
+    requires audited { MayAudit audited.now }
+    requires plans { AreItsPlans (block_tree audited.now.block.now) plans.now }
+    ensures { Audits audited.now result }
 {
-    let mut meter = Metered::new(db);
-    let mut space = Space::new(alloc, block.width());
+    let costing = audited.bouquet.costing();
+    let mut meter = Metered::new(audited.db);
+    let mut space = Space::new(alloc, audited.block.width());
+    let mut known = KnownRows::new();
+    let mut engine = Engine {
+        block: audited.block,
+        meter: &mut meter,
+        space: &mut space,
+        known: &mut known,
+        max_work: audited.max_work,
+    };
     let mut figures = Figures::new();
     for plan in plans {
-        match measured(
-            alloc, b, block, point, plan, &mut meter, &mut space, max_work,
-        ) {
+        match measured(alloc, &mut engine, &costing, audited.point, plan) {
             Ok(measured) => figures = figures.with(measured),
             Err(fault) => return Err(fault),
         }
     }
     Ok(Audit {
-        point: *point,
+        point: *audited.point,
         plans: plans.len() as u64,
         below: figures.below,
         a: figures.worst.cost,
         b: figures.worst.work,
         cheapest: figures.cheapest,
-        r: b.most(),
-        work: meter.spent(),
+        r: audited.bouquet.most(),
+        work: engine.meter.spent(),
     })
 }
 
-// Executes every plan of a block, which is the bouquet's with some values put in.
-fn audit_block(
-    alloc: Global,
-    db: &Database,
-    b: &Bouquet,
-    block: &Block,
-    point: &Point,
-    max_work: u64,
-) -> Result<Audit, AuditFault>
-    requires block { MayAudit b.now block.now }
-    requires fits { Fits db.now (block_tree block.now) }
-    requires point { IsPoint b.now.grid point.now }
-    ensures audit { IfOk result (λ audit. told_audit audit
-        ≡ audit_of (bouquet_tree b.now) (block_tree block.now) db.now point.now) }
-    ensures few { IfOk result (λ audit. audit.plans ≤ max_plans) }
-    ensures within { IfOk result (λ audit. audit.work ≤ max_work) }
-    ensures refuses { IfErr result (RefusesAudit (block_tree block.now) db.now max_work) }
+// Executes every plan of the block.
+fn audit_block(alloc: Global, audited: &Audited<'_>) -> Result<Audit, AuditFault>
+    requires { MayAudit audited.now }
+    ensures { Audits audited.now result }
 {
-    match all_plans(alloc, block, MAX_PLANS) {
-        Ok(plans) => audit_plans(alloc, db, b, block, point, plans.as_slice(), max_work),
+    match all_plans(alloc, audited.block, MAX_PLANS) {
+        Ok(plans) => audit_plans(alloc, audited, plans.as_slice()),
         Err(AllFault::TooMany) => Err(AuditFault::PlanLimit),
         Err(AllFault::NoMemory) => Err(AuditFault::NoMemory),
     }
@@ -150,7 +132,16 @@ pub fn audit(
         (RefusesAudit (put_of values.now (block_tree b.now.block)) db.now max_work) }
 {
     match b.block().put(alloc, values) {
-        Ok(block) => audit_block(alloc, db, b, &block, point, max_work),
+        Ok(block) => audit_block(
+            alloc,
+            &Audited {
+                bouquet: b,
+                block: &block,
+                db,
+                point,
+                max_work,
+            },
+        ),
         Err(_) => Err(AuditFault::NoMemory),
     }
 }
