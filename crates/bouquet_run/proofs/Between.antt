@@ -19,8 +19,8 @@ use Rattle.bouquet_type.specs.declared.report.Report.{Report}
 use Rattle.bouquet_type.specs.declared.report.RunFault.{RunFault}
 use Rattle.bouquet_type.specs.declared.report.RunFault.TheVariants.{WorkLimit}
 use Rattle.bouquet_type.proofs.Bound.{bound}
-use Rattle.run_step.specs.Coming.{Coming, Passes, Ends, GoesOn, TellsStep, coming}
-use Rattle.run_step.proofs.Onward.{LeadsOn, leads-on, run_from}
+use Rattle.bouquet_run.specs.Coming.{Coming, Passes, Ends, GoesOn, TellsStep, coming}
+use Rattle.bouquet_run.proofs.Onward.{LeadsOn, leads-on, run_from}
 use Rattle.bouquet_run.specs.Between.{IsBetween}
 use Rattle.bouquet_run.specs.Outcomes.{AnswersRun, works_over}
 

@@ -9,6 +9,8 @@
 
 mod attempts;
 mod book;
+mod step;
 
 pub use attempts::{run, run_ladder};
 pub use book::Book;
+pub use step::execute;

@@ -9,8 +9,8 @@ use Rattle.bouquet_type.specs.Schedule.{Member}
 use Rattle.bouquet_type.specs.Skipping.{without_skipped}
 use Rattle.bouquet_type.specs.Cursor.{AttemptTree, first_attempt, members_behind}
 use Rattle.bouquet_type.specs.Runs.{RunEnd}
-use Rattle.run_step.specs.Coming.{Passes, Ends, GoesOn, coming, is_done}
-use Rattle.run_step.proofs.Onward.{LeadsOn, coming_next, leads-on, run_from}
+use Rattle.bouquet_run.specs.Coming.{Passes, Ends, GoesOn, coming, is_done}
+use Rattle.bouquet_run.proofs.Onward.{LeadsOn, coming_next, leads-on, run_from}
 use Rattle.learned_run.specs.Skips.{is_skipped, skip_point, skips_among}
 
 -- a plan that ends the run is done, and one that doesn't isn't

@@ -10,13 +10,13 @@ ghost use Rattle.learned_run.specs.Outcomes.{AnswersLearned};
 use crate::frontiers::Frontiers;
 use crate::learned::{Learned, Skip};
 use crate::lesson::Lesson;
+use bouquet_run::execute;
 use bouquet_type::{Attempt, Bouquet, Kept, Report, RunFault, Schedule};
 use db_catalog::Metered;
 use ess_grid::Point;
 use known_rows::KnownRows;
 use query_block::Block;
 use row_stack::Space;
-use run_step::execute;
 use std::alloc::{AllocError, Global};
 
 // Adds the skip of an execution by this point. An error is want of memory.

@@ -15,7 +15,7 @@ use Rattle.bouquet_type.specs.Cursor.{AttemptTree, ScheduleState, TakesNext, att
 use Rattle.bouquet_type.specs.declared.report.Report.{Report}
 use Rattle.bouquet_type.specs.declared.report.RunFault.{RunFault}
 use Rattle.bouquet_type.specs.declared.report.RunFault.TheVariants.{WorkLimit, NoMemory}
-use Rattle.run_step.specs.Coming.{Coming, TellsStep, coming}
+use Rattle.bouquet_run.specs.Coming.{Coming, TellsStep, coming}
 use Rattle.bouquet_run.specs.Outcomes.{AnswersRun, works_over}
 use Rattle.bouquet_run.proofs.Between.{answered, between, plan-of-put, refused, stays-on}
 use Rattle.turns.specs.Standing.{JobTask}

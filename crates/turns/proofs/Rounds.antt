@@ -7,8 +7,8 @@ use Rattle.std.proofs.lemmas.Option.{get_or_from_slice_get}
 use Rattle.std.proofs.lemmas.List.Elements.{All-cons, All-nil}
 use Rattle.bouquet_type.specs.Schedule.{Member, final_plan}
 use Rattle.bouquet_type.specs.Cursor.{members_behind}
-use Rattle.run_step.specs.Coming.{Coming, Passes, Ends, GoesOn}
-use Rattle.run_step.proofs.Onward.{LeadsOn, leads-on}
+use Rattle.bouquet_run.specs.Coming.{Coming, Passes, Ends, GoesOn}
+use Rattle.bouquet_run.proofs.Onward.{LeadsOn, leads-on}
 use Rattle.bouquet_run.specs.Outcomes.{works_over}
 use Rattle.turns.specs.Standing.{JobTask, Standing, Runs, Ended, Past, Lost, next_coming, stands_by, turn_of}
 use Rattle.turns.specs.Jobs.{JobShape, JobTree, job_tree}

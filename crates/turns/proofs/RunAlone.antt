@@ -7,8 +7,8 @@ use Rattle.exec_pipe.specs.Runs.{spends}
 use Rattle.bouquet_type.specs.Schedule.{Member, final_plan, schedule}
 use Rattle.bouquet_type.specs.Cursor.{AttemptTree, members_behind}
 use Rattle.bouquet_type.specs.Runs.{RunEnd, end_behind, end_of, run_end, total_work}
-use Rattle.run_step.specs.Coming.{Coming, Passes, Ends, GoesOn, coming, coming_if, is_done}
-use Rattle.run_step.proofs.Onward.{LeadsOn, leads-on}
+use Rattle.bouquet_run.specs.Coming.{Coming, Passes, Ends, GoesOn, coming, coming_if, is_done}
+use Rattle.bouquet_run.proofs.Onward.{LeadsOn, leads-on}
 use Rattle.bouquet_run.specs.Outcomes.{works_over}
 use Rattle.turns.specs.Standing.{JobTask, Standing, Runs, Ended, Past, Lost, job_after, next_attempt, next_coming, stands_by, turn_of}
 

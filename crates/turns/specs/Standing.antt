@@ -6,7 +6,7 @@ use Rattle.bouquet_type.specs.Trees.{BouquetTree}
 use Rattle.bouquet_type.specs.Schedule.{Member, final_plan, schedule}
 use Rattle.bouquet_type.specs.Cursor.{AttemptTree, first_attempt, members_behind}
 use Rattle.bouquet_type.specs.Runs.{RunEnd}
-use Rattle.run_step.specs.Coming.{Coming, Passes, Ends, GoesOn, coming}
+use Rattle.bouquet_run.specs.Coming.{Coming, Passes, Ends, GoesOn, coming}
 use Rattle.bouquet_run.specs.Outcomes.{works_over}
 
 -- a bouquet is to be run on a block over a database, and no more than this may be spent

@@ -1,6 +1,6 @@
 -- The turns of several jobs.
 use Rattle.std.specs.Prelude.{◌≡◌, ◌≢◌, ◌⊎◌, ℕ, zero, suc, ◌+◌, nat_eq, max, Bool, true, false, List, [], ◌∷◌, ◌++◌, All, length, map, set, slice_get, option_to_list, if◌then◌else◌, Option, None, Some, Result, Ok, Err}
-use Rattle.run_step.specs.Coming.{Coming, Passes, Ends, GoesOn}
+use Rattle.bouquet_run.specs.Coming.{Coming, Passes, Ends, GoesOn}
 use Rattle.turns.specs.Standing.{JobTask, Standing, Runs, Ended, Past, Lost, job_after, next_attempt, next_coming, turns_of}
 use Rattle.turns.specs.Jobs.{JobTree}
 use Rattle.turns.specs.declared.turn.Turn.{Turn}

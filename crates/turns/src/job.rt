@@ -11,12 +11,12 @@ ghost use Rattle.turns.specs.declared.progress.Progress.TheVariants.{Running};
 use crate::progress::{Progress, progress_by};
 use crate::state::JobState;
 use crate::turn::Turn;
+use bouquet_run::execute;
 use bouquet_type::{Bouquet, Kept, Report, RunFault, Schedule};
 use db_catalog::{Database, Metered};
 use known_rows::KnownRows;
 use query_block::Block;
 use row_stack::{RowStack, Space};
-use run_step::execute;
 use std::alloc::{AllocError, Global};
 use std::marker::Model;
 

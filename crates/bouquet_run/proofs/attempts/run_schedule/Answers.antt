@@ -7,7 +7,7 @@ use Rattle.bouquet_type.specs.Trees.{BouquetTree}
 use Rattle.bouquet_type.specs.Cursor.{attempt_tree, schedule_of}
 use Rattle.bouquet_type.specs.declared.report.Report.{Report}
 use Rattle.known_rows.proofs.Laws.{nothing-known}
-use Rattle.run_step.specs.Coming.{TellsStep, coming}
+use Rattle.bouquet_run.specs.Coming.{TellsStep, coming}
 use Rattle.bouquet_run.specs.Outcomes.{AnswersRun, works_over}
 use Rattle.bouquet_run.proofs.Between.{answered, plan-of-put}
 use Rattle.bouquet_run.proofs.attempts.run_schedule.Goals as goal

@@ -19,7 +19,7 @@ use Rattle.bouquet_type.proofs.Meets.{plans-of-bouquet}
 use Rattle.db_catalog.specs.Database.{DatabaseState}
 use Rattle.known_rows.specs.Known.{AreKnown}
 use Rattle.known_rows.proofs.Laws.{nothing-known}
-use Rattle.run_step.specs.Coming.{Coming, TellsStep, coming}
+use Rattle.bouquet_run.specs.Coming.{Coming, TellsStep, coming}
 use Rattle.learned_run.specs.declared.learned.Skip.{Skip}
 use Rattle.learned_run.specs.Outcomes.{AnswersLearned}
 use Rattle.learned_run.specs.Raising.{IsLearned, RulesOut}

@@ -3,8 +3,8 @@ use Rattle.query_block.specs.Blocks.{block_tree}
 use Rattle.plan_tree.specs.Plans.{plan_tree}
 use Rattle.exec_pipe.specs.Runs.{RunsWithin}
 use Rattle.exec_pipe.specs.Starting.{plan_work}
-use Rattle.run_step.proofs.Done.{told}
-use Rattle.run_step.proofs.step.execute.Goals as goal
+use Rattle.bouquet_run.proofs.Done.{told}
+use Rattle.bouquet_run.proofs.step.execute.Goals as goal
 
 pub returns-in_ok-report-in-Ok-Done-clause-tells :
     goal.returns-in_ok-report-in-Ok-Done-clause-tells

@@ -16,7 +16,7 @@ use Rattle.exec_pipe.specs.Runs.{RunsWithin}
 use Rattle.exec_pipe.specs.declared.budgeted.Outcome.TheVariants.{Done}
 use Rattle.bouquet_type.specs.declared.report.Report.{Report}
 use Rattle.bouquet_type.specs.Runs.{RunEnd}
-use Rattle.run_step.specs.Coming.{Ends, TellsEnd, TellsStep, coming}
+use Rattle.bouquet_run.specs.Coming.{Ends, TellsEnd, TellsStep, coming}
 
 -- a block means as many rows as were found
 meaning_count : (database : DatabaseState) (block : BlockTree) (words : List (List ℤ)) → AreRowsOf database block words

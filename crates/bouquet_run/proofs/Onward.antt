@@ -5,7 +5,7 @@ use Rattle.plan_tree.specs.Plans.{PlanTree}
 use Rattle.bouquet_type.specs.Schedule.{Member}
 use Rattle.bouquet_type.specs.Cursor.{first_attempt, members_behind}
 use Rattle.bouquet_type.specs.Runs.{RunEnd, end_behind, end_of}
-use Rattle.run_step.specs.Coming.{Coming, Passes, Ends, GoesOn, coming}
+use Rattle.bouquet_run.specs.Coming.{Coming, Passes, Ends, GoesOn, coming}
 
 -- the end of a run of which these members are left, where so many executions before spent so much
 abbrev pub run_from : (work : PlanTree → ℕ) → (final : PlanTree) → (spent runs : ℕ) → List Member → RunEnd

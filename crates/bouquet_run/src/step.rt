@@ -7,7 +7,7 @@ ghost use Rattle.exec_pipe.specs.Runs.{OnlyRuns, OnlyRunsWithin};
 ghost use Rattle.exec_pipe.specs.Scenes.{MayRun};
 ghost use Rattle.exec_pipe.specs.Starting.{plan_work};
 ghost use Rattle.bouquet_type.specs.Cursor.{attempt_tree};
-ghost use Rattle.run_step.specs.Coming.{TellsEnd, TellsStep, coming};
+ghost use Rattle.bouquet_run.specs.Coming.{TellsEnd, TellsStep, coming};
 
 use bouquet_type::{Attempt, Report, RunFault};
 use db_catalog::Metered;
