@@ -1,3 +1,3 @@
 pub mod Done
 pub mod Onward
-pub mod Between
+pub mod Stepping

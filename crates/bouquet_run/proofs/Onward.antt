@@ -6,10 +6,7 @@ use Rattle.bouquet_type.specs.Schedule.{Member}
 use Rattle.bouquet_type.specs.Cursor.{first_attempt, members_behind}
 use Rattle.bouquet_type.specs.Runs.{RunEnd, end_behind, end_of}
 use Rattle.bouquet_run.specs.Coming.{Coming, Passes, Ends, GoesOn, coming}
-
--- the end of a run of which these members are left, where so many executions before spent so much
-abbrev pub run_from : (work : PlanTree → ℕ) → (final : PlanTree) → (spent runs : ℕ) → List Member → RunEnd
-run_from work final spent runs members = end_behind spent runs (end_of work members final)
+use Rattle.bouquet_run.specs.Running.{run_from}
 
 -- what comes of the next one is told of that end: it has more work than the most; it is this one; or it is the end from behind
 abbrev pub LeadsOn : (work : PlanTree → ℕ) → (final : PlanTree) → (most spent runs : ℕ) → List Member → Coming → Type 0

@@ -1,3 +1,3 @@
 pub mod Coming
 pub mod Outcomes
-pub mod Between
+pub mod Running

@@ -1,72 +1,81 @@
 -- What holds between two steps of a run that learns.
-use Rattle.std.proofs.Common.{◌≡◌, ◌∙◌, inl, inr, ℕ, ℤ, ◌+◌, ◌-◌, ◌<◌, ◌≤◌, ◌++◌, List, [], ◌∷◌, length, refl, ap, sym, subst, arith, append_assoc}
-use Rattle.std.specs.Prelude.{All, Bool, MatchResult, true, false, Option, Some, None, IfSome, IsSomeAnd, IsErrAnd, Result, Ok, Err, is_some, if◌then◌else◌}
+use Rattle.std.proofs.Common.{◌≡◌, ◌∙◌, inl, inr, ℕ, ℤ, ◌+◌, ◌-◌, ◌<◌, ◌≤◌, ◌++◌, List, [], ◌∷◌, length, refl, ap, ap₂, sym, subst, arith, append_assoc}
+use Rattle.std.specs.Prelude.{All, Bool, Vec, true, false, Option, Some, None, IfSome, IsSomeAnd, IsErrAnd, MatchResult, Result, Ok, Err, is_some, nat_le, if◌then◌else◌}
+use Rattle.std.specs.declared.alloc.Global.{Global}
 use Rattle.std.proofs.lemmas.Bool.{cases_Bool}
 use Rattle.std.proofs.lemmas.List.{append-nil}
 use Rattle.std.proofs.lemmas.List.Elements.{All-nil, All-head, All-tail, All-push}
 use Rattle.std.proofs.lemmas.Option.{slice_get_within}
 use Rattle.ess_grid.specs.Points.{IsGrid, IsPoint}
-use Rattle.query_block.specs.Blocks.{BlockTree, IsPutOf}
+use Rattle.query_block.specs.Blocks.{BlockTree}
 use Rattle.plan_tree.specs.Plans.{PlanTree, plan_tree}
 use Rattle.plan_tree.specs.Enumerated.{IsPlan}
-use Rattle.plan_tree.specs.Work.{work_of}
-use Rattle.plan_tree.proofs.PutPlans.{put-plan}
 use Rattle.db_catalog.specs.Database.{DatabaseState}
 use Rattle.db_catalog.specs.Meter.{MeterState}
 use Rattle.row_stack.specs.declared.space.Space.{Space}
-use Rattle.exec_pipe.specs.Runs.{OnlyRuns}
+use Rattle.exec_pipe.specs.Runs.{OnlyRunsWithin}
+use Rattle.cost_model.specs.Costing.{IsCosting}
 use Rattle.cost_model.specs.Frontier.{frontier}
 use Rattle.bouquet_type.specs.Trees.{BouquetTree, ContourTree}
 use Rattle.bouquet_type.specs.Schedule.{Member, final_plan, schedule}
 use Rattle.bouquet_type.specs.Ladders.{AreTried}
-use Rattle.bouquet_type.specs.Cursor.{AttemptTree, IsSchedule, ScheduleState, StandsAtFirst, TakesNext, attempt_at, attempt_tree, first_attempt, members_behind, members_left}
-use Rattle.bouquet_type.specs.Runs.{RunEnd}
+use Rattle.bouquet_type.specs.Bounded.{IsWithinBound}
+use Rattle.bouquet_type.specs.Cursor.{AttemptTree, IsSchedule, IsWholeSchedule, ScheduleState, StandsAtFirst, TakesNext, attempt_at, attempt_tree, first_attempt, members_behind, members_left}
+use Rattle.bouquet_type.specs.Reports.{told_end}
+use Rattle.bouquet_type.specs.Runs.{RunEnd, end_of}
 use Rattle.bouquet_type.specs.Skipping.{without_skipped}
 use Rattle.bouquet_type.specs.declared.schedule.Attempt.{Attempt}
 use Rattle.bouquet_type.specs.declared.report.Report.{Report}
 use Rattle.bouquet_type.specs.declared.report.RunFault.{RunFault}
-use Rattle.bouquet_type.specs.declared.report.RunFault.TheVariants.{WorkLimit, NoMemory}
-use Rattle.bouquet_run.specs.Coming.{Coming, Passes, Ends, GoesOn, TellsStep, coming}
-use Rattle.bouquet_run.proofs.Onward.{coming_next, run_from}
+use Rattle.bouquet_run.specs.Coming.{TellsStep, coming, is_done}
+use Rattle.bouquet_run.specs.Outcomes.{works_over}
+use Rattle.bouquet_run.specs.Running.{IsRunning, RunState, Steps, run_from}
+use Rattle.bouquet_run.proofs.Stepping.{begun, steps, tells-first}
 use Rattle.learned_run.specs.declared.learned.Skip.{Skip}
+use Rattle.learned_run.specs.declared.learned.Learned.{Learned}
+use Rattle.learned_run.specs.declared.lesson.Lesson.{Lesson}
 use Rattle.learned_run.specs.Learning.{learned_point}
 use Rattle.learned_run.specs.Skips.{IsSkipOf, covers_above, is_skipped, learned_end, skip_by, skip_of, skip_point, skips_among, skips_of}
-use Rattle.learned_run.specs.declared.learned.Learned.{Learned}
-use Rattle.learned_run.specs.Outcomes.{AnswersLearned, RefusesLearned}
+use Rattle.learned_run.specs.Outcomes.{AnswersLearned}
 use Rattle.learned_run.specs.Raising.{IsLearned, RulesOut}
 use Rattle.learned_run.specs.Covering.{IsMemberOf, IsStepOf, member_of, step_skip}
 use Rattle.learned_run.proofs.RuledOut.{learned-is, learned-more}
 use Rattle.learned_run.proofs.Members.{members-are}
-use Rattle.learned_run.proofs.Leading.{GoesBehind, IsTriedFirst, ends-so, goes-so, passes-so, skipped-first}
+use Rattle.learned_run.proofs.Unskipped.{learned-bound}
+use Rattle.learned_run.proofs.Leading.{IsTriedFirst, behind-first, done-ends, none-behind, none-here, over-goes, same-first, skipped-first}
 
--- of a bouquet's run so much was spent by so many executions that were exhausted, and these were skipped; those executions left
--- these least levels, and these members are left
-pub record IsLearning (bouquet : BouquetTree) (work : PlanTree → ℕ) (spent runs : ℕ) (skips : List Skip) (some : Bool) (least : Option (List ℕ)) (left : List Member) : Type 0 where
+-- the executions that are due among some members, where these were exhausted; and the skips among them
+abbrev due_among : BouquetTree → (exhausted : List Member) → List Member → List Member
+due_among bouquet exhausted left = without_skipped (is_skipped bouquet.costing bouquet.threshold) exhausted left
+
+abbrev skips_due : BouquetTree → (work : PlanTree → ℕ) → (exhausted : List Member) → List Member → List Skip
+skips_due bouquet work exhausted left = skips_among bouquet.costing bouquet.threshold work exhausted left
+
+-- a run of a bouquet learns: its executions were exhausted, these were skipped, and this lesson was drawn of them
+pub record IsLearning (bouquet : BouquetTree) (block : BlockTree) (most : ℕ) (first : MeterState) (empty : Space) (run : RunState) (skips : List Skip) (lesson : Lesson) : Type 0 where
   pub exhausted : List Member
-  pub learned : IsLearned bouquet.costing exhausted some least
-  pub end : learned_end bouquet work ≡ run_from work (final_plan bouquet) spent runs (without_skipped (is_skipped bouquet.costing bouquet.threshold) exhausted left)
-  pub told : skips_of bouquet work ≡ skips ++ skips_among bouquet.costing bouquet.threshold work exhausted left
+  pub learned : IsLearned bouquet.costing exhausted lesson.some lesson.least
+  pub running : IsRunning bouquet block most (learned_end bouquet (works_over first.database block)) first empty (due_among bouquet exhausted (members_left run.schedule)) run
+  pub told : skips_of bouquet (works_over first.database block) ≡ skips ++ skips_due bouquet (works_over first.database block) exhausted (members_left run.schedule)
   pub exist : All (IsSkipOf bouquet) skips
-  pub members : All (IsMemberOf bouquet) left
+  pub members : All (IsMemberOf bouquet) (members_left run.schedule)
 
 -- before the first one
-same-end : (end : RunEnd) → end ≡ record { plan = end.plan; total = 0 + end.total; runs = 0 + end.runs; contour = end.contour }
-same-end end =
-    let total : end.total ≡ 0 + end.total = omega arith in
-    let runs : end.runs ≡ 0 + end.runs = omega arith in
-    λ i. record { plan = end.plan; total = total i; runs = runs i; contour = end.contour }
-
-pub learning-begun : (bouquet : BouquetTree) (work : PlanTree → ℕ) (left : List Member) (some : Bool) (least : Option (List ℕ)) → IsLearned bouquet.costing [] some least
-    → left ≡ schedule bouquet → IsLearning bouquet work 0 0 [] some least left
-learning-begun bouquet work left some least learned all = record {
-  exhausted = [];
-  learned = learned;
-  end = same-end (learned_end bouquet work)
-      ∙ ap (λ (members : List Member). run_from work (final_plan bouquet) 0 0 (without_skipped (is_skipped bouquet.costing bouquet.threshold) [] members)) (sym all);
-  told = ap (skips_among bouquet.costing bouquet.threshold work []) (sym all);
-  exist = All-nil (IsSkipOf bouquet);
-  members = subst (All (IsMemberOf bouquet)) (sym all) (members-are bouquet);
-}
+pub learning-begun : (bouquet : BouquetTree) (block : BlockTree) (most : ℕ) (first : MeterState) (empty : Space) (state : ScheduleState) (lesson : Lesson) → IsLearned bouquet.costing [] lesson.some lesson.least
+    → first.account.spent ≡ 0 → empty.result.rows ≡ [] → IsWholeSchedule bouquet state
+    → IsLearning bouquet block most first empty (record { schedule = state; meter = first; space = empty; runs = 0 }) [] lesson
+learning-begun bouquet block most first empty state lesson learned unspent rows whole =
+    let work = works_over first.database block in
+    let all : schedule bouquet ≡ members_left state = sym whole.members in
+    record {
+      exhausted = [];
+      learned = learned;
+      running = begun bouquet block most (learned_end bouquet work) first empty (due_among bouquet [] (members_left state)) state
+          (ap (λ (members : List Member). end_of work (due_among bouquet [] members) (final_plan bouquet)) all) unspent rows whole;
+      told = ap (skips_due bouquet work []) all;
+      exist = All-nil (IsSkipOf bouquet);
+      members = subst (All (IsMemberOf bouquet)) all (members-are bouquet);
+    }
 
 -- an execution is that of the first of some members; or the last one where there is none
 abbrev pub IsStepAt : List Member → Attempt → Type 0
@@ -85,13 +94,13 @@ first-step (member ∷ more) final state step is at place cost =
       λ i. record { plan = plan i; budget = member.budget; contour = contour i; place = places i; cost = costs i },
     )
 
-pub step-at : (old new : ScheduleState) (step : Attempt) → TakesNext old new → attempt_tree step ≡ attempt_at new → step.place ≡ new.given → step.cost ≡ new.ladder.hand.cost
+step-at : (old new : ScheduleState) (step : Attempt) → TakesNext old new → attempt_tree step ≡ attempt_at new → step.place ≡ new.given → step.cost ≡ new.ladder.hand.cost
     → IsStepAt (members_left old) step
 step-at old new step takes is = first-step (members_left old) (final_plan old.ladder.whole) new step (is ∙ takes.step) takes.first
 
-pub step-of : (bouquet : BouquetTree) (left : List Member) (step : Attempt) → All (IsMemberOf bouquet) left → IsStepAt left step → IsStepOf bouquet step step.budget
-step-of bouquet [] step members at = subst (IsStepOf bouquet step) (sym at) tt
-step-of bouquet (member ∷ more) step members at =
+member-step : (bouquet : BouquetTree) (left : List Member) (step : Attempt) → All (IsMemberOf bouquet) left → IsStepAt left step → IsStepOf bouquet step step.budget
+member-step bouquet [] step members at = subst (IsStepOf bouquet step) (sym at) tt
+member-step bouquet (member ∷ more) step members at =
     subst (IsStepOf bouquet step) (sym at.0) (subst (IsMemberOf bouquet) (sym at.1) (All-head (IsMemberOf bouquet) member more members))
 
 -- its place is one on a contour
@@ -138,104 +147,189 @@ member-skip bouquet member point is is_point =
       point = is_point;
     }
 
-module _ (bouquet : BouquetTree) (work : PlanTree → ℕ) (spent runs : ℕ) (skips : List Skip) (some : Bool) (least : Option (List ℕ)) where
-  -- a member is skipped
-  pub learning-skipped : (left : List Member) (step : Attempt) (learned : Option (List ℕ)) (point : List ℕ) → IsLearning bouquet work spent runs skips some least left → learned ≡ (if some then least else None)
-      → IsStepAt left step → Some point ≡ step_skip bouquet step learned step.budget
-      → IsLearning bouquet work spent runs (skips ++ record { contour = step.contour; plan = step.place; point = point } ∷ []) some least (members_behind left) × (length (members_behind left) < length left)
-  learning-skipped [] step learned point is same at skip =
+module _ (bouquet : BouquetTree) (work : PlanTree → ℕ) (exhausted : List Member) (step : Attempt) where
+  -- the first of some members is skipped
+  record SkipsFirst (skip : Skip) (left : List Member) : Type 0 where
+    pub due : due_among bouquet exhausted left ≡ due_among bouquet exhausted (members_behind left)
+    pub skips : skips_due bouquet work exhausted left ≡ skip ∷ skips_due bouquet work exhausted (members_behind left)
+    pub exists : IsSkipOf bouquet skip
+    pub members : All (IsMemberOf bouquet) (members_behind left)
+    pub fewer : length (members_behind left) < length left
+
+  skips-first : (learned : Option (List ℕ)) (point : List ℕ) (left : List Member) → learned ≡ learned_point bouquet.costing exhausted → (learned ≡ Some point → IsPoint bouquet.costing.grid point)
+      → All (IsMemberOf bouquet) left → IsStepAt left step → Some point ≡ step_skip bouquet step learned step.budget
+      → SkipsFirst (record { contour = step.contour; plan = step.place; point = point }) left
+  skips-first learned point [] same of_grid members at skip =
       let none : Some point ≡ None = skip ∙ ap (step_skip bouquet step learned) at in
       absurd cc
-  learning-skipped (member ∷ more) step learned point is same at skip =
-      let costing = bouquet.costing in
-      let threshold = bouquet.threshold in
-      let learned_is = same ∙ learned-is costing is.exhausted some least is.learned in
-      let skipped : skip_point costing threshold is.exhausted member ≡ Some point = sym (skip ∙ skip-first bouquet is.exhausted member more step learned learned_is at) in
-      let by : skip_by costing threshold member learned ≡ Some point = ap (skip_by costing threshold member) learned_is ∙ skipped in
-      let is_point = learned-point (IsPoint costing.grid) some least point is.learned.of_grid (sym same ∙ skip-by-learned bouquet member learned point by) in
+  skips-first learned point (member ∷ more) same of_grid members at skip =
+      let skipped : skip_point bouquet.costing bouquet.threshold exhausted member ≡ Some point = sym (skip ∙ skip-first bouquet exhausted member more step learned same at) in
+      let by : skip_by bouquet.costing bouquet.threshold member learned ≡ Some point = ap (skip_by bouquet.costing bouquet.threshold member) same ∙ skipped in
       let told : skip_of (member_of step member.budget) point ≡ skip_of member point = ap (λ (one : Member). skip_of one point) at.1 in
-      let behind : skips_among costing threshold work is.exhausted (member ∷ more) ≡ skip_of member point ∷ skips_among costing threshold work is.exhausted more = rw skipped refl in (
+      let here : skips_due bouquet work exhausted (member ∷ more) ≡ skip_of member point ∷ skips_due bouquet work exhausted more = rw skipped refl in
+      record {
+        due = skipped-first (is_skipped bouquet.costing bouquet.threshold) exhausted member more (ap is_some skipped);
+        skips = here ∙ ap (λ (one : Skip). one ∷ skips_due bouquet work exhausted more) (sym told);
+        exists = subst (IsSkipOf bouquet) (sym told)
+            (member-skip bouquet member point (All-head (IsMemberOf bouquet) member more members) (of_grid (skip-by-learned bouquet member learned point by)));
+        members = All-tail (IsMemberOf bouquet) member more members;
+        fewer = omega arith;
+      }
+
+  -- whether the first of some members is done
+  done-so : (member : Member) (more : List Member) (done : Bool) → IsStepAt (member ∷ more) step → is_done step.budget (work (plan_tree step.plan.now)) ≡ done
+      → nat_le (work member.plan) member.budget ≡ done
+  done-so member more done at is =
+      sym (ap₂ (λ (budget : Option ℕ) (p : PlanTree). is_done budget (work p)) at.0 (ap (λ (one : Member). one.plan) at.1)) ∙ is
+
+  none-left : (left : List Member) → IsStepAt left step → IsTriedFirst bouquet.costing bouquet.threshold exhausted left → is_done step.budget (work (plan_tree step.plan.now)) ≡ true
+      → skips_due bouquet work exhausted left ≡ []
+  none-left [] at tried done = refl
+  none-left (member ∷ more) at tried done =
+      none-behind bouquet.costing bouquet.threshold exhausted work member more tried (done-so member more true at done)
+
+  -- it is exhausted
+  record ExhaustsFirst (left : List Member) : Type 0 where
+    pub member : Member
+    pub budget : step.budget ≡ Some member.budget
+    pub plan : plan_tree step.plan.now ≡ member.plan
+    pub due : members_behind (due_among bouquet exhausted left) ≡ due_among bouquet (exhausted ++ member ∷ []) (members_behind left)
+    pub skips : skips_due bouquet work exhausted left ≡ skips_due bouquet work (exhausted ++ member ∷ []) (members_behind left)
+    pub members : All (IsMemberOf bouquet) (members_behind left)
+
+  exhausts-first : (left : List Member) → All (IsMemberOf bouquet) left → IsStepAt left step → IsTriedFirst bouquet.costing bouquet.threshold exhausted left
+      → is_done step.budget (work (plan_tree step.plan.now)) ≡ false → ExhaustsFirst left
+  exhausts-first [] members at tried over =
+      let done : true ≡ false = sym (ap (λ (budget : Option ℕ). is_done budget (work (plan_tree step.plan.now))) at) ∙ over in
+      absurd cc
+  exhausts-first (member ∷ more) members at tried over = record {
+    member = member;
+    budget = at.0;
+    plan = ap (λ (one : Member). one.plan) at.1;
+    due = behind-first bouquet.costing bouquet.threshold exhausted member more tried;
+    skips = none-here bouquet.costing bouquet.threshold exhausted work member more tried (done-so member more false at over);
+    members = All-tail (IsMemberOf bouquet) member more members;
+  }
+
+-- a run that learns comes to its next execution
+module _ (bouquet : BouquetTree) (block : BlockTree) (most : ℕ) (first : MeterState) (empty : Space) (old : RunState) (skips : List Skip) (lesson : Lesson) (next : ScheduleState) (step : Attempt)
+    (is : IsLearning bouquet block most first empty old skips lesson) (takes : TakesNext old.schedule next) (at : attempt_tree step ≡ attempt_at next) (place : step.place ≡ next.given)
+    (cost : step.cost ≡ next.ladder.hand.cost) where
+  abbrev work : PlanTree → ℕ
+  work = works_over first.database block
+
+  abbrev left : List Member
+  left = members_left old.schedule
+
+  stands : IsStepAt left step
+  stands = step-at old.schedule next step takes at place cost
+
+  pub step-of : IsStepOf bouquet step step.budget
+  step-of = member-step bouquet left step is.members stands
+
+  module _ (learned : Option (List ℕ)) (same : learned ≡ (if lesson.some then lesson.least else None)) where
+    learned-so : learned ≡ learned_point bouquet.costing is.exhausted
+    learned-so = same ∙ learned-is bouquet.costing is.exhausted lesson.some lesson.least is.learned
+
+    -- it is skipped
+    pub learning-skipped : (point : List ℕ) → Some point ≡ step_skip bouquet step learned step.budget
+        → IsLearning bouquet block most first empty (record { schedule = next; meter = old.meter; space = old.space; runs = old.runs })
+        (skips ++ record { contour = step.contour; plan = step.place; point = point } ∷ []) lesson
+    learning-skipped point skip =
+        let one : Skip = record { contour = step.contour; plan = step.place; point = point } in
+        let so = skips-first bouquet work is.exhausted step learned point left learned-so
+        (λ told. learned-point (IsPoint bouquet.costing.grid) lesson.some lesson.least point is.learned.of_grid (sym same ∙ told)) is.members stands skip in
         record {
           exhausted = is.exhausted;
           learned = is.learned;
-          end = is.end ∙ ap (run_from work (final_plan bouquet) spent runs) (skipped-first (is_skipped costing threshold) is.exhausted member more (ap is_some skipped));
-          told = is.told ∙ ap (λ (others : List Skip). skips ++ others) (behind ∙ ap (λ (one : Skip). one ∷ skips_among costing threshold work is.exhausted more) (sym told))
-              ∙ sym (append_assoc skips (skip_of (member_of step member.budget) point ∷ []) (skips_among costing threshold work is.exhausted more));
-          exist = All-push (IsSkipOf bouquet) skips (skip_of (member_of step member.budget) point) is.exist (
-              subst (IsSkipOf bouquet) (sym told) (member-skip bouquet member point (All-head (IsMemberOf bouquet) member more is.members) is_point)
-              );
-          members = All-tail (IsMemberOf bouquet) member more is.members;
-        },
-        omega arith,
-      )
+          running = record {
+            end = is.running.end
+                ∙ ap (run_from work (final_plan bouquet) old.meter.account.spent old.runs) (so.due ∙ ap (due_among bouquet is.exhausted) (sym takes.left));
+            few = omega (arith, is.running.few, so.fewer, ap length takes.left);
+            is = takes.at.is;
+            of = takes.whole ∙ is.running.of;
+            within = is.running.within;
+            leaves = is.running.leaves;
+            rows = is.running.rows;
+          };
+          told = is.told ∙ ap (λ (others : List Skip). skips ++ others) (so.skips ∙ ap (λ (members : List Member). one ∷ skips_due bouquet work is.exhausted members) (sym takes.left))
+              ∙ sym (append_assoc skips (one ∷ []) (skips_due bouquet work is.exhausted (members_left next)));
+          exist = All-push (IsSkipOf bouquet) skips one is.exist so.exists;
+          members = subst (All (IsMemberOf bouquet)) (sym takes.left) so.members;
+        }
 
-  -- a member is exhausted
-  goes-on : (most : ℕ) (left : List Member) (step : Attempt) (is : IsLearning bouquet work spent runs skips some least left) → IsStepAt left step → (spent' : ℕ) (some' : Bool) (after : Option (List ℕ))
-      → IsGrid bouquet.costing.grid → GoesBehind bouquet.costing bouquet.threshold work (final_plan bouquet) most spent runs is.exhausted left spent'
-      → IfSome step.budget (λ _. some' ≡ true) → IfSome step.budget (λ budget. RulesOut bouquet.costing (plan_tree step.plan.now) budget least after) → IfSome after (IsPoint bouquet.costing.grid)
-      → IsLearning bouquet work spent' (runs + 1) skips some' after (members_behind left) × (length (members_behind left) < length left)
-  goes-on most [] step is at spent' some' after is_grid behind learns rules of_grid = absurd behind
-  goes-on most (member ∷ more) step is at spent' some' after is_grid behind learns rules of_grid =
-      let costing = bouquet.costing in
-      let more_exhausted = is.exhausted ++ member ∷ [] in
-      let plan : plan_tree step.plan.now ≡ member.plan = ap (λ (one : Member). one.plan) at.1 in
-      let some_is : some' ≡ true = subst (λ (budget : Option ℕ). IfSome budget (λ _. some' ≡ true)) at.0 learns in
-      let ruled : RulesOut costing (plan_tree step.plan.now) member.budget least after =
-      subst (λ (budget : Option ℕ). IfSome budget (λ b. RulesOut costing (plan_tree step.plan.now) b least after)) at.0 rules in
-      let learned = learned-more costing is.exhausted member some least after is_grid is.learned (subst (λ p. RulesOut costing p member.budget least after) plan ruled) of_grid in (
-        record {
-          exhausted = more_exhausted;
-          learned = subst (λ (one : Bool). IsLearned costing more_exhausted one after) (sym some_is) learned;
-          end = is.end ∙ behind.0;
-          told = is.told ∙ ap (λ (others : List Skip). skips ++ others) behind.1;
-          exist = is.exist;
-          members = All-tail (IsMemberOf bouquet) member more is.members;
-        },
-        omega arith,
-      )
+    -- it is executed
+    module _ (none : None ≡ step_skip bouquet step learned step.budget) (after : MeterState) (last : Space) (leaves : OnlyRunsWithin most old.meter after old.space last) where
+      tried : IsTriedFirst bouquet.costing bouquet.threshold is.exhausted left
+      tried = tried-first bouquet is.exhausted left step learned learned-so stands none
 
-  -- what comes of an execution that isn't skipped: of its plan's work, where these members are left
-  abbrev pub comes_of : (most : ℕ) → AttemptTree → Coming
-  comes_of most step = coming most spent (runs + 1) (work step.plan) step
+      abbrev due : List Member
+      due = due_among bouquet is.exhausted left
 
-  module _ (most : ℕ) (left : List Member) (step : Attempt) (learned : Option (List ℕ)) (is : IsLearning bouquet work spent runs skips some least left)
-      (same : learned ≡ (if some then least else None)) (at : IsStepAt left step) (first : attempt_tree step ≡ first_attempt left (final_plan bouquet))
-      (none : None ≡ step_skip bouquet step learned step.budget) where
-    tried : IsTriedFirst bouquet.costing bouquet.threshold is.exhausted left
-    tried = tried-first bouquet is.exhausted left step learned (same ∙ learned-is bouquet.costing is.exhausted some least is.learned) at none
+      abbrev ending : RunEnd
+      ending = learned_end bouquet work
 
-    comes-so : (comes : Coming) → comes_of most (attempt_tree step) ≡ comes → coming_next work (final_plan bouquet) most spent runs left ≡ comes
-    comes-so comes so = sym (ap (comes_of most) first) ∙ so
+      same-attempt : first_attempt left (final_plan bouquet) ≡ first_attempt due (final_plan bouquet)
+      same-attempt = same-first bouquet.costing bouquet.threshold is.exhausted left (final_plan bouquet) tried
 
-    pub learning-passed : comes_of most (attempt_tree step) ≡ Passes → most < (learned_end bouquet work).total
-    learning-passed so =
-        let past = passes-so bouquet.costing bouquet.threshold work (final_plan bouquet) most spent runs is.exhausted left tried (comes-so Passes so) in
-        omega (arith, past, ap (λ (end : RunEnd). end.total) is.end)
+      abbrev Tells : Result (Option Report) RunFault → Type 0
+      Tells told =
+          TellsStep old.meter.database block most (coming most old.meter.account.spent (old.runs + 1) (works_over old.meter.database block (plan_tree step.plan.now)) (attempt_tree step))
+          after.account.spent last.result.rows told
 
-    pub learning-ended : (end : RunEnd) → comes_of most (attempt_tree step) ≡ Ends end → (end ≡ learned_end bouquet work) × (skips ≡ skips_of bouquet work)
-    learning-ended end so =
-        let ends = ends-so bouquet.costing bouquet.threshold work (final_plan bouquet) most spent runs is.exhausted left end tried (comes-so (Ends end) so) in (
-          ends.0 ∙ sym is.end,
-          sym (is.told ∙ ap (λ (others : List Skip). skips ++ others) ends.1 ∙ append-nil skips),
-        )
+      tells-so : (told : Result (Option Report) RunFault) → Tells told
+          → TellsStep first.database block most (coming most old.meter.account.spent (old.runs + 1) (work (plan_tree step.plan.now)) (attempt_tree step)) after.account.spent last.result.rows told
+      tells-so = tells-first bouquet block most ending first empty due old next (attempt_tree step) is.running takes at same-attempt after last leaves
 
-    pub learning-on : (spent' : ℕ) (some' : Bool) (after : Option (List ℕ)) → IsGrid bouquet.costing.grid → comes_of most (attempt_tree step) ≡ GoesOn spent'
-        → IfSome step.budget (λ _. some' ≡ true) → IfSome step.budget (λ budget. RulesOut bouquet.costing (plan_tree step.plan.now) budget least after) → IfSome after (IsPoint bouquet.costing.grid)
-        → IsLearning bouquet work spent' (runs + 1) skips some' after (members_behind left) × (length (members_behind left) < length left)
-    learning-on spent' some' after is_grid so =
-        goes-on most left step is at spent' some' after is_grid
-        (goes-so bouquet.costing bouquet.threshold work (final_plan bouquet) most spent runs is.exhausted left spent' tried (comes-so (GoesOn spent') so))
+      stepped : (told : Result (Option Report) RunFault) → Tells told
+          → Steps bouquet block most ending first empty due (record { schedule = next; meter = after; space = last; runs = old.runs + 1 }) told
+      stepped told tells = steps bouquet block most ending first empty due old next (attempt_tree step) is.running takes at same-attempt after last leaves told (tells-so told tells)
 
--- a plan of a bouquet's block is one of the block with values put in
-pub plan-of-put : (block put : BlockTree) (p : PlanTree) → IsPutOf block put → IsPlan block p → IsPlan put p
-plan-of-put block put p is plan = subst (λ b. IsPlan b p) (sym is.is) ((put-plan is.values block p).1 plan)
+      pub learning-refused : (fault : RunFault) → Tells (Err fault) → AnswersLearned bouquet block first.database most after.account.spent last.result.rows (Err fault)
+      learning-refused fault = stepped (Err fault)
 
--- why a step that isn't skipped is refused, so the run is
-pub refused-so : (bouquet : BouquetTree) (block : BlockTree) (database : DatabaseState) (most spent : ℕ) (comes : Coming) (results : List (List ℤ)) (fault : RunFault)
-    → (comes ≡ Passes → most < (learned_end bouquet (work_of database.tables block)).total) → TellsStep database block most comes spent results (Err fault)
-    → RefusesLearned bouquet block database most spent fault × (results ≡ [])
-refused-so bouquet block database most spent comes results (WorkLimit told) past tells = ((past tells.0, tells.1, tells.2), tells.3)
-refused-so bouquet block database most spent comes results NoMemory past tells = (tt, tells)
+      pub learning-answered : (report : Report) (noted : Vec Skip Global) → noted.items ≡ skips → IsCosting bouquet.costing → All (λ contour. All (IsPlan bouquet.costing.block) contour.plans) bouquet.contours
+          → Tells (Ok (Some report)) → AnswersLearned bouquet block first.database most after.account.spent last.result.rows (Ok (record { report = report; skips = noted }))
+      learning-answered report noted same_skips costing plans tells =
+          let so = stepped (Ok (Some report)) tells in
+          let done = done-ends most old.meter.account.spent (old.runs + 1) (work (plan_tree step.plan.now)) (attempt_tree step) (told_end report) (tells-so (Ok (Some report)) tells).0 in
+          let total : ending.total ≡ report.work = sym (ap (λ (one : RunEnd). one.total) so.0.end) in (
+            record {
+              rows = so.0.rows;
+              end = so.0.end;
+              skips = same_skips ∙ sym (is.told ∙ ap (λ (others : List Skip). skips ++ others) (none-left bouquet work is.exhausted step left stands tried done) ∙ append-nil skips);
+              exist = subst (All (IsSkipOf bouquet)) (sym same_skips) is.exist;
+              paid = so.0.paid;
+              fits = so.0.fits;
+              bound = λ compiled. subst (IsWithinBound bouquet work) total (learned-bound bouquet work costing plans compiled);
+            },
+            so.1,
+          )
+
+      -- it is exhausted, and this lesson is drawn
+      pub learning-on : (after_it : Lesson) → IsGrid bouquet.costing.grid → IfSome step.budget (λ _. after_it.some ≡ true)
+          → IfSome step.budget (λ budget. RulesOut bouquet.costing (plan_tree step.plan.now) budget lesson.least after_it.least) → IfSome after_it.least (IsPoint bouquet.costing.grid) → Tells (Ok None)
+          → IsLearning bouquet block most first empty (record { schedule = next; meter = after; space = last; runs = old.runs + 1 }) skips after_it
+      learning-on after_it is_grid learns rules of_grid tells =
+          let costing = bouquet.costing in
+          let on = stepped (Ok None) tells in
+          let over = over-goes most old.meter.account.spent (old.runs + 1) (work (plan_tree step.plan.now)) (attempt_tree step) after.account.spent (tells-so (Ok None) tells).0 in
+          let so = exhausts-first bouquet work is.exhausted step left is.members stands tried over in
+          let more = is.exhausted ++ so.member ∷ [] in
+          let some : after_it.some ≡ true = subst (λ (budget : Option ℕ). IfSome budget (λ _. after_it.some ≡ true)) so.budget learns in
+          let ruled : RulesOut costing (plan_tree step.plan.now) so.member.budget lesson.least after_it.least =
+          subst (λ (budget : Option ℕ). IfSome budget (λ b. RulesOut costing (plan_tree step.plan.now) b lesson.least after_it.least)) so.budget rules in
+          let learned_more = learned-more costing is.exhausted so.member lesson.some lesson.least after_it.least is_grid is.learned
+          (subst (λ p. RulesOut costing p so.member.budget lesson.least after_it.least) so.plan ruled) of_grid in
+          let run : RunState = record { schedule = next; meter = after; space = last; runs = old.runs + 1 } in
+          record {
+            exhausted = more;
+            learned = subst (λ (one : Bool). IsLearned costing more one after_it.least) (sym some) learned_more;
+            running = subst (λ (members : List Member). IsRunning bouquet block most ending first empty members run) (so.due ∙ ap (due_among bouquet more) (sym takes.left)) on;
+            told = is.told ∙ ap (λ (others : List Skip). skips ++ others) (so.skips ∙ ap (skips_due bouquet work more) (sym takes.left));
+            exist = is.exist;
+            members = subst (All (IsMemberOf bouquet)) (sym takes.left) so.members;
+          }
 
 -- why a run is refused is handed on
 pub refused-told : (Answers : Report → Type 0) (Refuses : RunFault → Type 0) (told : Result Report RunFault) (fault : RunFault) → IsErrAnd told (λ one. one ≡ fault) → Refuses fault → MatchResult told Answers Refuses
@@ -243,21 +337,7 @@ refused-told Answers Refuses (Ok report) fault is refused = absurd is
 refused-told Answers Refuses (Err one) fault is refused = subst Refuses (sym is) refused
 
 pub refused-answer : (bouquet : BouquetTree) (block : BlockTree) (database : DatabaseState) (most spent : ℕ) (results : List (List ℤ)) (answer : Result Learned RunFault) (fault : RunFault)
-    → IsErrAnd answer (λ told. told ≡ fault) → RefusesLearned bouquet block database most spent fault × (results ≡ []) → AnswersLearned bouquet block database most spent results answer
+    → IsErrAnd answer (λ told. told ≡ fault) → AnswersLearned bouquet block database most spent results (Err fault) → AnswersLearned bouquet block database most spent results answer
 refused-answer bouquet block database most spent results (Ok learned) fault is refused = absurd is
 refused-answer bouquet block database most spent results (Err told) fault is refused =
-    subst (λ (one : RunFault). RefusesLearned bouquet block database most spent one × (results ≡ [])) (sym is) refused
-
--- what a step leaves alone, and the steps before it
-pub leaves-on : (first middle last : MeterState) (space between after : Space) → OnlyRuns first middle space between → OnlyRuns middle last between after → OnlyRuns first last space after
-leaves-on first middle last space between after before then_so = record {
-  never_falls = omega (arith, before.never_falls, then_so.never_falls);
-  database = then_so.database ∙ before.database;
-  work = record {
-    rows = then_so.work.rows ∙ before.work.rows;
-    width = then_so.work.width ∙ before.work.width;
-    room = omega (arith, before.work.room, then_so.work.room);
-  };
-  width = then_so.width ∙ before.width;
-  room = omega (arith, before.room, then_so.room);
-}
+    subst (λ (one : RunFault). AnswersLearned bouquet block database most spent results (Err one)) (sym is) refused

@@ -1,5 +1,5 @@
 -- How a run of a bouquet ends that learns, over a database.
-use Rattle.std.specs.Prelude.{◌≡◌, ℕ, ℤ, ◌<◌, ◌≤◌, ⊤, All, List, [], length, Result, Ok, Err}
+use Rattle.std.specs.Prelude.{◌≡◌, ℕ, ℤ, ◌≤◌, All, List, [], length, Result, Ok, Err}
 use Rattle.query_block.specs.Blocks.{BlockTree}
 use Rattle.query_block.specs.Meaning.{meaning_of}
 use Rattle.plan_tree.specs.Work.{work_of}
@@ -10,7 +10,7 @@ use Rattle.bouquet_type.specs.Compiled.{IsCompiled}
 use Rattle.bouquet_type.specs.Bounded.{IsWithinBound}
 use Rattle.bouquet_type.specs.Reports.{told_end}
 use Rattle.bouquet_type.specs.declared.report.RunFault.{RunFault}
-use Rattle.bouquet_type.specs.declared.report.RunFault.TheVariants.{WorkLimit, NoMemory}
+use Rattle.bouquet_run.specs.Outcomes.{RefusesRun}
 use Rattle.learned_run.specs.declared.learned.Learned.{Learned}
 use Rattle.learned_run.specs.Skips.{IsSkipOf, learned_end, skips_of}
 
@@ -25,15 +25,10 @@ pub record ReportsLearned (bouquet : BouquetTree) (block : BlockTree) (database 
   pub fits : learned.report.work ≤ most
   pub bound : IsCompiled bouquet → IsWithinBound bouquet (work_of database.tables block) learned.report.work
 
--- it is refused where the work of all its executions is more than this at the most, and so much was paid; or out of memory
-abbrev pub RefusesLearned : BouquetTree → BlockTree → DatabaseState → (most spent : ℕ) → RunFault → Type 0
-RefusesLearned bouquet block database most spent (WorkLimit told) =
-    (most < (learned_end bouquet (work_of database.tables block)).total) × (told ≡ most) × (spent ≡ most)
-RefusesLearned bouquet block database most spent NoMemory = ⊤
-
--- it is answered: its rows are those of the block that it executes, and this is told of it; or it is refused, without a row
+-- it is answered: its rows are those of the block that it executes, and this is told of it; or it is refused as any run that
+-- ends so, without a row
 abbrev pub AnswersLearned : BouquetTree → BlockTree → DatabaseState → (most spent : ℕ) → (results : List (List ℤ)) → Result Learned RunFault → Type 0
 AnswersLearned bouquet block database most spent results (Ok learned) =
     ReportsLearned bouquet block database most spent learned × AreRowsOf database block results
 AnswersLearned bouquet block database most spent results (Err fault) =
-    RefusesLearned bouquet block database most spent fault × (results ≡ [])
+    RefusesRun most (learned_end bouquet (work_of database.tables block)) spent fault × (results ≡ [])

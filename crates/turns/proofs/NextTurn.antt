@@ -1,6 +1,6 @@
 -- What a turn makes of a job that runs.
-use Rattle.std.proofs.Common.{◌≡◌, ◌∙◌, ℕ, ◌+◌, sym, subst}
-use Rattle.std.specs.Prelude.{All, Option, Some, None, Result, Ok, Err}
+use Rattle.std.proofs.Common.{◌≡◌, ◌∙◌, ℕ, ◌+◌, List, refl, sym, subst}
+use Rattle.std.specs.Prelude.{Option, Some, None, Result, Ok, Err}
 use Rattle.row_stack.specs.declared.space.Space.{Space}
 use Rattle.query_block.specs.Blocks.{BlockTree, width_of}
 use Rattle.plan_tree.specs.Plans.{PlanTree}
@@ -11,13 +11,16 @@ use Rattle.db_catalog.specs.Meter.{MeterState}
 use Rattle.exec_pipe.specs.Runs.{OnlyRunsWithin}
 use Rattle.exec_pipe.specs.Scenes.{IsEmptyContext}
 use Rattle.bouquet_type.specs.Trees.{BouquetTree}
-use Rattle.bouquet_type.specs.Cursor.{AttemptTree, ScheduleState, TakesNext, attempt_at}
+use Rattle.bouquet_type.specs.Schedule.{Member}
+use Rattle.bouquet_type.specs.Runs.{run_end}
+use Rattle.bouquet_type.specs.Cursor.{AttemptTree, ScheduleState, TakesNext, attempt_at, members_left}
 use Rattle.bouquet_type.specs.declared.report.Report.{Report}
 use Rattle.bouquet_type.specs.declared.report.RunFault.{RunFault}
 use Rattle.bouquet_type.specs.declared.report.RunFault.TheVariants.{WorkLimit, NoMemory}
 use Rattle.bouquet_run.specs.Coming.{Coming, TellsStep, coming}
 use Rattle.bouquet_run.specs.Outcomes.{AnswersRun, works_over}
-use Rattle.bouquet_run.proofs.Between.{answered, between, plan-of-put, refused, stays-on}
+use Rattle.bouquet_run.specs.Running.{IsRunning, Steps}
+use Rattle.bouquet_run.proofs.Stepping.{bounded, plan-of-put, stays-on, steps}
 use Rattle.turns.specs.Standing.{JobTask}
 use Rattle.turns.specs.Jobs.{HasRun, IsJobOf, fresh_meter, fresh_space, progress_by, task_at}
 use Rattle.turns.specs.declared.progress.Progress.TheVariants.{Running}
@@ -35,23 +38,34 @@ module _ (meter : MeterState) (schedule : ScheduleState) (space : Space) (block 
     record { context = is.context; work = is.leaves.leaves.work.rows; result = is.has_run.rows },
   )
 
+  abbrev work : PlanTree → ℕ
+  work = works_over meter.database block
+
   abbrev comes : Coming
-  comes = coming most meter.account.spent (place + 1) (works_over meter.database block step.plan) step
+  comes = coming most meter.account.spent (place + 1) (work step.plan) step
 
   module _ (after : MeterState) (last : Space) (leaves : OnlyRunsWithin most meter after space last) where
     abbrev Tells : Result (Option Report) RunFault → Type 0
     Tells made = TellsStep meter.database block most comes after.account.spent last.result.rows made
 
     -- what its executions have come to
+    stepped : (made : Result (Option Report) RunFault) → Tells made
+        → Steps task.bouquet block most (run_end task.bouquet work) (fresh_meter meter.database) (fresh_space (width_of block)) (members_left schedule)
+        (record { schedule = next; meter = after; space = last; runs = place + 1 }) made
+    stepped made =
+        steps task.bouquet block most (run_end task.bouquet work) (fresh_meter meter.database) (fresh_space (width_of block)) (members_left schedule)
+        (record { schedule = schedule; meter = meter; space = space; runs = place }) next step is.has_run takes at refl after last leaves made
+
     has-run : (made : Result (Option Report) RunFault) → Tells made → HasRun task after next last (progress_by made (place + 1))
     has-run (Ok None) tells =
-        between task.bouquet block (fresh_meter meter.database) meter most place schedule next (fresh_space (width_of block)) space step is.has_run takes at after last leaves tells
+        subst (λ (members : List Member). IsRunning task.bouquet block most (run_end task.bouquet work) (fresh_meter meter.database) (fresh_space (width_of block)) members
+        (record { schedule = next; meter = after; space = last; runs = place + 1 })) (sym takes.left) (stepped (Ok None) tells)
     has-run (Ok (Some report)) tells =
-        let plans = subst (λ (whole : BouquetTree). All (λ contour. All (IsPlan whole.costing.block) contour.plans) whole.contours) is.has_run.of is.has_run.is.ladder.plans in
-        answered task.bouquet block (fresh_meter meter.database) meter most place schedule next (fresh_space (width_of block)) space step is.has_run takes at after last leaves report plans tells
+        let so = stepped (Ok (Some report)) tells in
+        (so.0, so.1, bounded task.bouquet work report is.has_run.is.ladder.plans so.0.end)
     has-run (Err (WorkLimit told)) tells =
         subst (λ spent. AnswersRun task.bouquet block meter.database most after.account.spent last.result.rows (Err (WorkLimit spent))) tells.1
-        (refused task.bouquet block (fresh_meter meter.database) meter most place schedule next (fresh_space (width_of block)) space step is.has_run takes at after last leaves told tells)
+        (stepped (Err (WorkLimit told)) tells)
     has-run (Err NoMemory) tells = (tt, tells)
 
     -- what it is asked stays

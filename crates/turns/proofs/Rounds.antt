@@ -12,7 +12,7 @@ use Rattle.bouquet_run.proofs.Onward.{LeadsOn, leads-on}
 use Rattle.bouquet_run.specs.Outcomes.{works_over}
 use Rattle.turns.specs.Standing.{JobTask, Standing, Runs, Ended, Past, Lost, next_coming, stands_by, turn_of}
 use Rattle.turns.specs.Jobs.{JobShape, JobTree, job_tree}
-use Rattle.turns.specs.Taking.{HasEnded, StopsAmong, TakesAll, TakesRunning, is_running, job_turned, jobs_turned, named, number_of, numbers_at, numbers_of_rounds, numbers_running, numbers_to_end, numbers_told, rounds_left, turn_told, turn_told_of, turns_left, turns_told}
+use Rattle.turns.specs.Taking.{HasEnded, StopsAmong, TakesAll, TakesRunning, is_running, job_turned, jobs_turned, named, number_of, running_at, numbers_of_rounds, numbers_running, numbers_to_end, numbers_told, rounds_left, turn_told, turn_told_of, turns_left, turns_told}
 use Rattle.turns.specs.declared.turn.Turn.{Turn}
 use Rattle.turns.proofs.JobsTurned.{turned-at, turned-none, turned-turned, unnamed}
 use Rattle.turns.proofs.TurnsTaken.{job-at, stops-on, takes-none, takes-on}
@@ -147,12 +147,12 @@ untouched jobs place job at numbers none =
     turned-at numbers 0 place jobs job at ∙ ap (λ n. Some (job_turned (named n numbers) job)) here ∙ ap (λ n. Some (job_turned n job)) none
 
 pub numbers-at : (number : ℕ) (jobs : List JobTree) (job : JobTree) (runs : Bool) → slice_get jobs number ≡ Some job → is_running job.standing ≡ runs
-    → numbers_at number jobs ≡ put_first number runs []
+    → running_at number jobs ≡ put_first number runs []
 numbers-at number jobs job runs there is = ap (number_of number) there ∙ ap (λ runs. put_first number runs []) is
 
 -- the numbers of a round up to the next job
 pub next-numbers : (old at : List JobTree) (place : ℕ) → place < length old → at ≡ jobs_turned (numbers_running 0 (take place old)) 0 old
-    → numbers_running 0 (take (place + 1) old) ≡ numbers_running 0 (take place old) ++ numbers_at place at
+    → numbers_running 0 (take (place + 1) old) ≡ numbers_running 0 (take place old) ++ running_at place at
 next-numbers old at place there turned =
     let found = job-at old place there in
     let job = found.0 in

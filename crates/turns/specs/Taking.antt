@@ -126,8 +126,8 @@ abbrev pub number_of : (number : ℕ) → Option JobTree → List ℕ
 number_of number None = []
 number_of number (Some job) = numbers_running number (job ∷ [])
 
-abbrev pub numbers_at : (number : ℕ) → List JobTree → List ℕ
-numbers_at number jobs = number_of number (slice_get jobs number)
+abbrev pub running_at : (number : ℕ) → List JobTree → List ℕ
+running_at number jobs = number_of number (slice_get jobs number)
 
 -- the numbers of so many rounds: in each, every job that runs takes a turn, in order
 abbrev pub numbers_of_rounds : (count : ℕ) → List JobTree → List ℕ

@@ -3,7 +3,7 @@ ghost use Rattle.std.specs.Prelude.{◌≡◌, ◌^◌, ◌<◌, ◌≤◌, ◌+
 ghost use Rattle.std.specs.Vec.{vec_capacity};
 ghost use Rattle.turns.specs.Jobs.{job_tree, task_of};
 ghost use Rattle.turns.specs.Taking.{EachStands, HasEnded, NamesNoLost, StopsAmong, TakesAll, TakesRunning};
-ghost use Rattle.turns.specs.Taking.{jobs_turned, numbers_at, numbers_running, numbers_told, numbers_to_end, rounds_left, turns_told};
+ghost use Rattle.turns.specs.Taking.{jobs_turned, running_at, numbers_running, numbers_told, numbers_to_end, rounds_left, turns_told};
 
 use crate::job::Job;
 use crate::turn::Turn;
@@ -99,9 +99,9 @@ fn take_turn_of_round(
     taken: &mut Vec<Turn>,
 ) -> Result<(), AllocError>
     requires { number < length jobs.old }
-    ensures takes { OnOk result (TakesRunning (numbers_at number (map job_tree jobs.old))
+    ensures takes { OnOk result (TakesRunning (running_at number (map job_tree jobs.old))
         (map job_tree jobs.old) (map job_tree jobs.new) taken.old.items taken.new.items) }
-    ensures stops { OnErr result (StopsAmong (numbers_at number (map job_tree jobs.old))
+    ensures stops { OnErr result (StopsAmong (running_at number (map job_tree jobs.old))
         (map job_tree jobs.old) (map job_tree jobs.new)) }
 {
     let job = &jobs[number as usize];

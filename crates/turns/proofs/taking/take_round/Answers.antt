@@ -2,7 +2,7 @@ use Rattle.std.proofs.Common.{◌≡◌, ◌∙◌, ◌++◌, ap, arith, length,
 use Rattle.std.specs.Prelude.{List, ℕ, ◌<◌, ◌+◌}
 use Rattle.std.proofs.lemmas.List.{append_assoc, length-map}
 use Rattle.turns.specs.Jobs.{job_tree}
-use Rattle.turns.specs.Taking.{StopsAmong, TakesRunning, numbers_at, numbers_running}
+use Rattle.turns.specs.Taking.{StopsAmong, TakesRunning, running_at, numbers_running}
 use Rattle.turns.proofs.TurnsTaken.{on-err, stops-on}
 use Rattle.turns.proofs.Rounds.{next-numbers, numbers-behind, told-none, told-on}
 use Rattle.turns.proofs.taking.take_round.Goals as goal
@@ -17,7 +17,7 @@ returns-in_err-take_turn_of_round-clause-stops c =
     let new = map job_tree c.take_turn_of_round.new.jobs in
     let place = c.loop-number.number in
     let before = numbers_running 0 (take place old) in
-    let here = numbers_at place at in
+    let here = running_at place at in
     let there : place < length old = omega (arith, c.loop-number-test.true, c.loop-number.auto.number-end, length-map c.args.jobs.now job_tree) in
     let turned = c.loop-number.invariant.takes.turned in
     let behind = numbers-behind old (place + 1) in
@@ -36,5 +36,5 @@ loop-number-preserved c =
     let told'' = c.take_turn_of_round.new.taken.items in
     let before = numbers_running 0 (take place old) in
     let there : place < length old = omega (arith, c.loop-number-test.true, c.loop-number.auto.number-end, length-map c.args.jobs.now job_tree) in
-    let on = told-on before (numbers_at place at) old at new told c.loop-number.taken.items told'' c.loop-number.invariant c.in_ok-take_turn_of_round.ensures.takes in
+    let on = told-on before (running_at place at) old at new told c.loop-number.taken.items told'' c.loop-number.invariant c.in_ok-take_turn_of_round.ensures.takes in
     subst (λ (numbers : List ℕ). TakesRunning numbers old new told told'') (sym (next-numbers old at place there c.loop-number.invariant.takes.turned)) on

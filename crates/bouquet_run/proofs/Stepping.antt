@@ -1,0 +1,138 @@
+-- From one execution of a run to the next.
+use Rattle.std.proofs.Common.{◌≡◌, ◌∙◌, ℕ, ◌+◌, ◌≤◌, List, [], length, refl, ap, subst, sym, arith}
+use Rattle.std.specs.Prelude.{All, Option, None, Some, Result, Ok, Err}
+use Rattle.row_stack.specs.declared.space.Space.{Space}
+use Rattle.query_block.specs.Blocks.{BlockTree, IsPutOf}
+use Rattle.plan_tree.specs.Plans.{PlanTree}
+use Rattle.plan_tree.specs.Enumerated.{IsPlan}
+use Rattle.plan_tree.proofs.PutPlans.{put-plan}
+use Rattle.db_catalog.specs.Database.{DatabaseState}
+use Rattle.db_catalog.specs.Meter.{MeterState}
+use Rattle.exec_pipe.specs.Runs.{OnlyRuns, OnlyRunsWithin}
+use Rattle.bouquet_type.specs.Trees.{BouquetTree}
+use Rattle.bouquet_type.specs.Schedule.{Member, final_plan}
+use Rattle.bouquet_type.specs.Cursor.{AttemptTree, IsWholeSchedule, ScheduleState, TakesNext, attempt_at, first_attempt, members_left}
+use Rattle.bouquet_type.specs.Bounded.{MeetsBound}
+use Rattle.bouquet_type.specs.Reports.{told_end}
+use Rattle.bouquet_type.specs.Runs.{RunEnd, end_behind, end_of, run_end}
+use Rattle.bouquet_type.specs.declared.report.Report.{Report}
+use Rattle.bouquet_type.specs.declared.report.RunFault.{RunFault}
+use Rattle.bouquet_type.specs.declared.report.RunFault.TheVariants.{WorkLimit, NoMemory}
+use Rattle.bouquet_type.proofs.Bound.{bound}
+use Rattle.bouquet_run.specs.Coming.{Coming, Passes, Ends, GoesOn, TellsStep, coming}
+use Rattle.bouquet_run.specs.Outcomes.{works_over}
+use Rattle.bouquet_run.specs.Running.{IsRunning, RunState, Steps, run_from}
+use Rattle.bouquet_run.proofs.Onward.{LeadsOn, leads-on}
+
+-- a plan of a bouquet's block is one of the block with values put in
+pub plan-of-put : (block put : BlockTree) (p : PlanTree) → IsPutOf block put → IsPlan block p → IsPlan put p
+plan-of-put block put p is plan = subst (λ b. IsPlan b p) (sym is.is) ((put-plan is.values block p).1 plan)
+
+-- what is left alone stays so
+pub stays-on : (one other another : MeterState) (space next last : Space) → OnlyRuns one other space next → OnlyRuns other another next last → OnlyRuns one another space last
+stays-on one other another space next last before after = record {
+  never_falls = omega (arith, before.never_falls, after.never_falls);
+  database = after.database ∙ before.database;
+  work = record {
+    rows = after.work.rows ∙ before.work.rows;
+    width = after.work.width ∙ before.work.width;
+    room = omega (arith, before.work.room, after.work.room);
+  };
+  width = after.width ∙ before.width;
+  room = omega (arith, before.room, after.room);
+}
+
+-- an end behind no execution
+behind-none : (end : RunEnd) → end ≡ end_behind 0 0 end
+behind-none end =
+    let total : end.total ≡ 0 + end.total = omega arith in
+    let runs : end.runs ≡ 0 + end.runs = omega arith in
+    λ i. record { plan = end.plan; total = total i; runs = runs i; contour = end.contour }
+
+-- before the first execution
+pub begun : (bouquet : BouquetTree) (block : BlockTree) (most : ℕ) (ending : RunEnd) (first : MeterState) (empty : Space) (due : List Member) (schedule : ScheduleState)
+    → ending ≡ end_of (works_over first.database block) due (final_plan bouquet) → first.account.spent ≡ 0 → empty.result.rows ≡ [] → IsWholeSchedule bouquet schedule
+    → IsRunning bouquet block most ending first empty due (record { schedule = schedule; meter = first; space = empty; runs = 0 })
+begun bouquet block most ending first empty due schedule ends unspent rows whole =
+    let work = works_over first.database block in
+    let final = final_plan bouquet in
+    record {
+      end = ends ∙ behind-none (end_of work due final) ∙ ap (λ spent. run_from work final spent 0 due) (sym unspent);
+      few = omega (arith, whole.few);
+      is = whole.is;
+      of = whole.whole;
+      within = omega (arith, unspent);
+      leaves = record { never_falls = omega arith; database = refl; work = record { rows = refl; width = refl; room = omega arith }; width = refl; room = omega arith };
+      rows = rows;
+    }
+
+-- a run that ends as its bouquet's does is within the bound
+pub bounded : (bouquet : BouquetTree) (work : PlanTree → ℕ) (report : Report) → All (λ contour. All (IsPlan bouquet.costing.block) contour.plans) bouquet.contours
+    → told_end report ≡ run_end bouquet work → MeetsBound bouquet work report.work
+bounded bouquet work report plans end = subst (MeetsBound bouquet work) (sym (ap (λ (one : RunEnd). one.total) end)) (bound bouquet work plans)
+
+-- a run that ends so takes the next execution of its schedule, which is the first that is due
+module _ (bouquet : BouquetTree) (block : BlockTree) (most : ℕ) (ending : RunEnd) (first : MeterState) (empty : Space) (due : List Member) (old : RunState) (next : ScheduleState) (attempt : AttemptTree)
+    (is : IsRunning bouquet block most ending first empty due old) (takes : TakesNext old.schedule next) (at : attempt ≡ attempt_at next)
+    (same : first_attempt (members_left old.schedule) (final_plan bouquet) ≡ first_attempt due (final_plan bouquet)) where
+  abbrev work : PlanTree → ℕ
+  work = works_over first.database block
+
+  abbrev spent : ℕ
+  spent = old.meter.account.spent
+
+  abbrev left : List Member
+  left = members_left old.schedule
+
+  -- what comes of it, over the run's database and over that at hand, which is the same
+  abbrev comes_over : DatabaseState → Coming
+  comes_over database = coming most spent (old.runs + 1) (works_over database block attempt.plan) attempt
+
+  abbrev pub comes : Coming
+  comes = comes_over first.database
+
+  first-left : attempt ≡ first_attempt left (final_plan bouquet)
+  first-left = at ∙ takes.step ∙ ap (λ (whole : BouquetTree). first_attempt left (final_plan whole)) is.of
+
+  abbrev comes_by : AttemptTree → Coming
+  comes_by one = coming most spent (old.runs + 1) (work one.plan) one
+
+  -- it is told of the end over any members whose first it is
+  leads-over : (members : List Member) → attempt ≡ first_attempt members (final_plan bouquet) → (so_comes : Coming) → comes ≡ so_comes
+      → LeadsOn work (final_plan bouquet) most spent old.runs members so_comes
+  leads-over members first-of so_comes so =
+      subst (LeadsOn work (final_plan bouquet) most spent old.runs members) (sym (ap comes_by first-of) ∙ so)
+      (leads-on work (final_plan bouquet) most spent old.runs members)
+
+  leads : (so_comes : Coming) → comes ≡ so_comes → LeadsOn work (final_plan bouquet) most spent old.runs due so_comes
+  leads = leads-over due (first-left ∙ same)
+
+  module _ (after : MeterState) (last : Space) (leaves : OnlyRunsWithin most old.meter after old.space last) where
+    abbrev pub run : RunState
+    run = record { schedule = next; meter = after; space = last; runs = old.runs + 1 }
+
+    abbrev pub Tells : DatabaseState → Result (Option Report) RunFault → Type 0
+    Tells database told = TellsStep database block most (comes_over database) after.account.spent last.result.rows told
+
+    -- the database at hand is the run's
+    pub tells-first : (told : Result (Option Report) RunFault) → Tells old.meter.database told → Tells first.database told
+    tells-first told = subst (λ (database : DatabaseState). Tells database told) is.leaves.database
+
+    pub steps : (told : Result (Option Report) RunFault) → Tells first.database told → Steps bouquet block most ending first empty due run told
+    steps (Ok None) tells =
+        let on = leads (GoesOn after.account.spent) tells.0 in
+        let fewer = leads-over left first-left (GoesOn after.account.spent) tells.0 in
+        record {
+          end = is.end ∙ on.0;
+          few = omega (arith, is.few, fewer.1, ap length takes.left);
+          is = takes.at.is;
+          of = takes.whole ∙ is.of;
+          within = leaves.within;
+          leaves = stays-on first old.meter after empty old.space last is.leaves leaves.leaves;
+          rows = tells.1;
+        }
+    steps (Ok (Some report)) tells =
+        (record { rows = tells.2; end = leads (Ends (told_end report)) tells.0 ∙ sym is.end; paid = tells.1; fits = subst (λ n. n ≤ most) tells.1 leaves.within }, tells.3)
+    steps (Err (WorkLimit spent)) tells =
+        ((omega (arith, leads Passes tells.0, ap (λ (one : RunEnd). one.total) is.end), tells.1, tells.2), tells.3)
+    steps (Err NoMemory) tells = (tt, tells)

@@ -1,0 +1,45 @@
+-- What lies between two executions of a run, and what comes of an execution.
+use Rattle.std.specs.Prelude.{◌≡◌, ℕ, ◌+◌, ◌≤◌, ◌^◌, List, [], length, Option, None, Some, Result, Ok, Err}
+use Rattle.row_stack.specs.declared.space.Space.{Space}
+use Rattle.query_block.specs.Blocks.{BlockTree}
+use Rattle.plan_tree.specs.Plans.{PlanTree}
+use Rattle.db_catalog.specs.Meter.{MeterState}
+use Rattle.exec_pipe.specs.Executions.{AreRowsOf}
+use Rattle.exec_pipe.specs.Runs.{OnlyRuns}
+use Rattle.bouquet_type.specs.Trees.{BouquetTree}
+use Rattle.bouquet_type.specs.Schedule.{Member, final_plan}
+use Rattle.bouquet_type.specs.Cursor.{ScheduleState, IsSchedule, members_behind, members_left}
+use Rattle.bouquet_type.specs.Runs.{RunEnd, end_behind, end_of}
+use Rattle.bouquet_type.specs.declared.report.Report.{Report}
+use Rattle.bouquet_type.specs.declared.report.RunFault.{RunFault}
+use Rattle.bouquet_run.specs.Outcomes.{ReportsRun, RefusesRun, works_over}
+
+-- the end of a run of which these executions are due, where so many before spent so much
+abbrev pub run_from : (work : PlanTree → ℕ) → (final : PlanTree) → (spent runs : ℕ) → List Member → RunEnd
+run_from work final spent runs due = end_behind spent runs (end_of work due final)
+
+-- how far a run is: its schedule, its meter and its stacks, and how many executions it made
+pub record RunState : Type 0 where
+  pub schedule : ScheduleState
+  pub meter : MeterState
+  pub space : Space
+  pub runs : ℕ
+
+-- a run that ends so began with this meter and these stacks, and these executions are due: those before weren't done and spent
+-- what the meter says, and no row stands on the stacks
+pub record IsRunning (bouquet : BouquetTree) (block : BlockTree) (most : ℕ) (ending : RunEnd) (first : MeterState) (empty : Space) (due : List Member) (run : RunState) : Type 0 where
+  pub end : ending ≡ run_from (works_over first.database block) (final_plan bouquet) run.meter.account.spent run.runs due
+  pub few : run.runs + length (members_left run.schedule) ≤ 2 ^ 19
+  pub is : IsSchedule run.schedule
+  pub of : run.schedule.ladder.whole ≡ bouquet
+  pub within : run.meter.account.spent ≤ most
+  pub leaves : OnlyRuns first run.meter empty run.space
+  pub rows : run.space.result.rows ≡ []
+
+-- an execution more was made: it wasn't done, and the run goes on behind it; or the run is answered, or refused
+abbrev pub Steps : BouquetTree → BlockTree → (most : ℕ) → (ending : RunEnd) → (first : MeterState) → (empty : Space) → (due : List Member) → RunState → Result (Option Report) RunFault → Type 0
+Steps bouquet block most ending first empty due run (Ok None) = IsRunning bouquet block most ending first empty (members_behind due) run
+Steps bouquet block most ending first empty due run (Ok (Some report)) =
+    ReportsRun block first.database most ending run.meter.account.spent report × AreRowsOf first.database block run.space.result.rows
+Steps bouquet block most ending first empty due run (Err fault) =
+    RefusesRun most ending run.meter.account.spent fault × (run.space.result.rows ≡ [])
