@@ -15,15 +15,15 @@ use Rattle.audit_run.specs.Measures.{measure_of}
 use Rattle.audit_run.specs.declared.told.Audit.{Audit}
 use Rattle.audit_run.specs.declared.told.AuditFault.{AuditFault}
 use Rattle.audit_run.specs.declared.told.AuditFault.TheVariants as audits
-use Rattle.session.specs.Audit.{audit_answer, bouquet_audit, point_refusal}
-use Rattle.session.specs.Bouquets.{unless_misfit}
-use Rattle.session.specs.Outcome.{Outcome, Prints, Refuses, RefusesFree}
+use Rattle.workspace.specs.Outcome.{Outcome, Prints, Refuses, RefusesFree}
+use Rattle.workspace.specs.Stop.{StopsAt}
+use Rattle.workspace.specs.World.{World}
+use Rattle.workspace.specs.declared.refusal.Refusal.{Refusal}
+use Rattle.workspace.specs.declared.refusal.Refusal.TheVariants as refusal
+use Rattle.workspace.specs.declared.stop.Stop.TheVariants as stop
+use Rattle.session.specs.Audit.{audit_answer, bouquet_audit, point_refusal, stop_of_audit}
+use Rattle.session.specs.Answered.{unless_misfit}
 use Rattle.session.specs.Printed.{audit_line}
-use Rattle.session.specs.Stop.{StopsAt, stop_of_audit}
-use Rattle.session.specs.World.{World}
-use Rattle.session.specs.declared.refusal.Refusal.{Refusal}
-use Rattle.session.specs.declared.refusal.Refusal.TheVariants as refusal
-use Rattle.session.specs.declared.stop.Stop.TheVariants as stop
 
 module _ (max_work : ℕ) (world : World) (bouquet : BouquetTree) (values : List Value) (levels : List ℕ) where
   -- its block, with the values put in

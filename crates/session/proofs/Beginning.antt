@@ -1,32 +1,21 @@
 -- What the calls of statements say of what they returned, as a statement begins.
-use Rattle.std.proofs.Common.{◌≡◌, ◌≢◌, ◌∙◌, ℕ, ◌+◌, List, Option, sym, ap, subst, arith}
+use Rattle.std.proofs.Common.{◌≡◌, refl, ℕ, ◌+◌, List, Option, arith}
 use Rattle.std.specs.Prelude.{Result, Ok, Err, Vec}
 use Rattle.std.specs.declared.alloc.Global.{Global}
 use Rattle.sql_parse.specs.Trees.{StatementTree}
+use Rattle.workspace.specs.Begins.{BeginsFree}
+use Rattle.workspace.specs.declared.begun.Begun.{Begun}
+use Rattle.workspace.specs.declared.begun.Begun.TheVariants as begun
+use Rattle.workspace.specs.Outcome.{Outcome, refused_work}
+use Rattle.workspace.specs.Returns.{ReturnsFree}
+use Rattle.workspace.specs.Stop.{StopsAt}
+use Rattle.workspace.specs.World.{World}
+use Rattle.workspace.specs.declared.stop.Stop.{Stop}
+use Rattle.workspace.specs.declared.stop.Stop.TheVariants as stop
 use Rattle.session.specs.Begins.{BeginsAsDue, begun_with}
 use Rattle.session.specs.Bounds.{Answers}
-use Rattle.session.specs.Outcome.{Outcome, refused_work}
-use Rattle.session.specs.Returns.{ReturnsDue, ReturnsFree}
+use Rattle.session.specs.Returns.{ReturnsDue}
 use Rattle.session.specs.Statements.{statement_outcome}
-use Rattle.session.specs.Stop.{StopsAt, StopsWhere, TellsFault}
-use Rattle.session.specs.World.{World}
-use Rattle.session.specs.declared.refusal.Refusal.{Refusal}
-use Rattle.session.specs.declared.stop.Stop.{Stop}
-use Rattle.session.specs.declared.stop.Stop.TheVariants as stop
-
--- a fault that a call ended with is told
-pub told_free : {F : Type 0} (holds : Refusal → Type 0) (none : F) (told : F → Refusal) (fault : F) (why : Stop) → TellsFault none told fault why → (fault ≢ none → holds (told fault))
-    → refused_work (told fault) ≡ 0 → StopsWhere holds why
-told_free holds none told fault stop.NoMemory tells is free = tt
-told_free holds none told fault (stop.Refused why) tells is free =
-    let other : fault ≢ none = λ memory. cc (tells.memory memory) in
-    let same : why ≡ told fault = cc (tells.refused other) in
-    (subst holds (sym same) (is other), ap refused_work same ∙ free)
-
--- a refusal leads to another
-pub stops_so : (P Q : Refusal → Type 0) → ((found : Refusal) → P found → Q found) → (why : Stop) → StopsWhere P why → StopsWhere Q why
-stops_so P Q leads (stop.Refused why) stops = (leads why stops.0, stops.1)
-stops_so P Q leads stop.NoMemory stops = tt
 
 -- what costs nothing is paid
 pub returns_free : (next : World) (due : Outcome) (result : Result (Vec ℕ Global) Stop) (paid : ℕ) → ReturnsFree due result next → ReturnsDue due result next paid paid
@@ -58,3 +47,10 @@ module _ (max_work : ℕ) (world : World) (statement : StatementTree) where
   pub begins_free : (next : World) (result : Result (Vec ℕ Global) Stop) (paid : ℕ) → ((file : Option (List ℕ)) → ReturnsFree (outcome file) result next)
       → BeginsAsDue max_work world statement (begun_with result) next paid paid
   begins_free next result paid returns = begins_due next result paid paid (λ file. returns_free next (outcome file) result paid (returns file))
+
+  -- a statement costs nothing
+  pub begins_so : (result : Result Begun Stop) (paid : ℕ) → BeginsFree world statement outcome result → BeginsAsDue max_work world statement result world paid paid
+  begins_so (Ok (begun.Prints text)) paid begins = λ file. returns_free world (outcome file) (Ok text) paid (begins file)
+  begins_so (Ok (begun.Saves name bytes)) paid begins = (begins, refl, refl)
+  begins_so (Ok (begun.Asks asked)) paid begins = (begins, refl, refl)
+  begins_so (Err why) paid begins = λ file. returns_free world (outcome file) (Err why) paid (begins file)

@@ -1,5 +1,5 @@
 -- The turns that jobs take, and what they print.
-use Rattle.std.proofs.Common.{◌≡◌, ◌∙◌, ℕ, zero, suc, ◌+◌, ◌<◌, ◌≤◌, ◌++◌, Bool, true, false, List, [], ◌∷◌, Option, Some, None, length, map, refl, sym, ap, subst, arith}
+use Rattle.std.proofs.Common.{◌≡◌, ◌∙◌, ℕ, suc, ◌+◌, ◌<◌, List, [], ◌∷◌, Option, Some, None, length, map, refl, sym, ap, subst, arith}
 use Rattle.std.specs.Prelude.{All, slice_get}
 use Rattle.std.proofs.lemmas.List.{length-map}
 use Rattle.std.proofs.lemmas.List.Elements.{All-nil, All-cons, All-append}
@@ -9,7 +9,6 @@ use Rattle.bouquet_type.specs.Trees.{bouquet_tree}
 use Rattle.turns.specs.Standing.{JobTask, Standing, Runs, Ended, Past, Lost}
 use Rattle.turns.specs.Jobs.{JobShape, JobTree, job_tree, task_of}
 use Rattle.turns.specs.Taking.{jobs_turned, turn_told, turn_told_of, turns_told}
-use Rattle.turns.specs.declared.turn.Turn.{Turn}
 use Rattle.session.specs.Turns.{fresh_jobs}
 use Rattle.session.specs.Uses.{IsTurnOf, bouquets_of, task_of_use}
 use Rattle.session.specs.declared.uses.Used.{Used}

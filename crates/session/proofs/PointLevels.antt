@@ -3,8 +3,8 @@ use Rattle.std.proofs.Common.{◌≡◌, ℕ, ◌<◌, Bool, true, false, List, 
 use Rattle.std.proofs.lemmas.Bool.{ltb-true}
 use Rattle.std.proofs.lemmas.List.Elements.{All-nil, All-cons}
 use Rattle.sql_values.specs.declared.limit.LimitName.TheVariants as limit
+use Rattle.workspace.specs.declared.refusal.Refusal.TheVariants as refusal
 use Rattle.session.specs.Audit.{level_refusal}
-use Rattle.session.specs.declared.refusal.Refusal.TheVariants as refusal
 
 abbrev pub AreBelow : (count : ℕ) → List ℕ → Type 0
 AreBelow count levels = All (λ level. level < count) levels

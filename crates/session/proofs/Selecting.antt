@@ -14,14 +14,15 @@ use Rattle.bouquet_type.specs.Compiled.{compiled}
 use Rattle.bouquet_type.specs.Sound.{IsSound}
 use Rattle.bouquet_type.proofs.Bound.{bound}
 use Rattle.bouquet_run.specs.Outcomes.{works_over}
-use Rattle.session.specs.Bouquets.{answer_with, block_answer, block_due, compiled_over, costing_over, size_refusal, unless_misfit, with_due}
+use Rattle.workspace.specs.Bouquets.{block_due, compiled_over, costing_over, size_refusal, with_due}
+use Rattle.workspace.specs.Counted.{HasCountsOf}
+use Rattle.workspace.specs.Outcome.{Outcome, Refuses}
+use Rattle.workspace.specs.World.{World}
+use Rattle.workspace.specs.declared.refusal.Refusal.{Refusal}
+use Rattle.workspace.specs.declared.refusal.Refusal.TheVariants as refusal
+use Rattle.session.specs.Answered.{answer_with, block_answer, unless_misfit}
 use Rattle.session.specs.Bounds.{RunsWithinBound}
-use Rattle.session.specs.Counted.{HasCountsOf}
-use Rattle.session.specs.Outcome.{Outcome, Refuses}
 use Rattle.session.specs.Select.{select_outcome, selected}
-use Rattle.session.specs.World.{World}
-use Rattle.session.specs.declared.refusal.Refusal.{Refusal}
-use Rattle.session.specs.declared.refusal.Refusal.TheVariants as refusal
 
 module _ (max_work : ℕ) (world : World) (query : QueryTree) (block : BlockTree) (has : block_due world.database query ≡ Ok block) where
   -- what comes of its bouquet, by what refuses its size

@@ -10,13 +10,17 @@ use Rattle.query_block.specs.Values.{value_fault}
 use Rattle.plan_tree.specs.AllPlans.{plans_of}
 use Rattle.bouquet_type.specs.Trees.{BouquetTree}
 use Rattle.audit_run.specs.Audits.{audit_of, work_of_all}
+use Rattle.audit_run.specs.declared.told.AuditFault.{AuditFault}
+use Rattle.audit_run.specs.declared.told.AuditFault.TheVariants as audits
+use Rattle.workspace.specs.declared.stop.Stop.{Stop}
+use Rattle.workspace.specs.declared.stop.Stop.TheVariants as stop
+use Rattle.workspace.specs.declared.refusal.Refusal.{Refusal}
+use Rattle.workspace.specs.declared.refusal.Refusal.TheVariants as refusal
+use Rattle.workspace.specs.Outcome.{Outcome, Prints, Refuses}
+use Rattle.workspace.specs.Present.{at_present}
+use Rattle.workspace.specs.World.{World}
 use Rattle.session.specs.Printed.{audit_line}
-use Rattle.session.specs.declared.refusal.Refusal.{Refusal}
-use Rattle.session.specs.declared.refusal.Refusal.TheVariants as refusal
-use Rattle.session.specs.Bouquets.{unless_misfit}
-use Rattle.session.specs.Outcome.{Outcome, Prints, Refuses}
-use Rattle.session.specs.Present.{at_present}
-use Rattle.session.specs.World.{World}
+use Rattle.session.specs.Answered.{unless_misfit}
 
 -- the first of these levels that an axis of so many hasn't
 abbrev pub level_refusal : (count : ℕ) → (levels : List ℕ) → Option Refusal
@@ -49,3 +53,9 @@ bouquet_audit max_work world values levels bouquet =
 abbrev pub audit_outcome : (max_work : ℕ) → World → AuditDef → Outcome
 audit_outcome max_work world audit =
     at_present world audit.name (bouquet_audit max_work world audit.values audit.levels)
+
+-- why an audit stops that ends with a fault: its work is in no book
+abbrev pub stop_of_audit : AuditFault → Stop
+stop_of_audit audits.PlanLimit = stop.Refused (refusal.PastLimit limit.Plans (max_plans + 1))
+stop_of_audit (audits.WorkLimit spent) = stop.Refused (refusal.PastWork spent false)
+stop_of_audit audits.NoMemory = stop.NoMemory

@@ -1,10 +1,9 @@
--- The answer of a query, and the bound on the work that it prints, of a run that learns too; the verdict on a bouquet.
-use Rattle.std.specs.Prelude.{◌≡◌, ⊤, ℕ, List, [], None, Option, Result, Vec, All, IfOk, IfSome, OnOk}
+-- The answer of a query, and the bound on the work that it prints, of a run that learns too.
+use Rattle.std.specs.Prelude.{⊤, ℕ, List, [], None, Option, Result, Vec, All, IfOk, IfSome, OnOk}
 use Rattle.std.specs.declared.alloc.Global.{Global}
 use Rattle.sql_values.specs.Limits.{default_threshold}
 use Rattle.sql_values.specs.declared.value.Value.{Value}
 use Rattle.query_block.specs.Blocks.{put_of}
-use Rattle.plan_tree.specs.Plans.{PlanTree}
 use Rattle.sql_parse.specs.Trees.{StatementTree, Select, Run, Check, Learn, Turns}
 use Rattle.db_catalog.specs.Database.{DatabaseState}
 use Rattle.bouquet_type.specs.Trees.{BouquetTree}
@@ -12,16 +11,15 @@ use Rattle.bouquet_type.specs.Compiled.{IsCompiled}
 use Rattle.bouquet_type.specs.Sound.{IsSound}
 use Rattle.bouquet_type.specs.Runs.{total_work}
 use Rattle.bouquet_type.specs.Bounded.{IsWithinBound, MeetsBound}
-use Rattle.bouquet_check.specs.Verdicts.{Sound, verdict_of}
-use Rattle.bouquet_check.specs.Evidence.{IsEvidence}
 use Rattle.bouquet_run.specs.Outcomes.{works_over}
 use Rattle.learned_run.specs.Skips.{learned_end}
-use Rattle.session.specs.Bouquets.{bouquet_due}
-use Rattle.session.specs.Counted.{HasCountsOf}
+use Rattle.workspace.specs.Bouquets.{bouquet_due}
+use Rattle.workspace.specs.Check.{VerdictHolds}
+use Rattle.workspace.specs.Counted.{HasCountsOf}
+use Rattle.workspace.specs.World.{World, bouquet_in}
+use Rattle.workspace.specs.declared.stop.Stop.{Stop}
 use Rattle.session.specs.Returns.{PaysAtMost, ReturnsDue}
 use Rattle.session.specs.Statements.{statement_outcome}
-use Rattle.session.specs.World.{World, bouquet_in}
-use Rattle.session.specs.declared.stop.Stop.{Stop}
 
 -- its counts are those of the tables, and the work of its run over them with these values meets the bound, which holds of sound bouquets; it is
 -- sound where it is compiled, though it were opened from a file
@@ -34,11 +32,6 @@ pub record RunsWithinBound (database : DatabaseState) (values : List Value) (bou
 pub record LearnsWithinBound (database : DatabaseState) (values : List Value) (bouquet : BouquetTree) : Type 0 where
   pub counts : HasCountsOf database.tables bouquet
   pub bound : let work = works_over database (put_of values bouquet.costing.block) in IsCompiled bouquet → IsWithinBound bouquet work (learned_end bouquet work).total
-
--- it is as its verdict says, and where that is sound the work of each of its runs is within the bound, whatever its plans work
-pub record VerdictHolds (bouquet : BouquetTree) : Type 0 where
-  pub shown : IsEvidence bouquet (verdict_of bouquet)
-  pub bound : verdict_of bouquet ≡ Sound → (work : PlanTree → ℕ) → IsWithinBound bouquet work (total_work bouquet work)
 
 -- so it is for each bouquet by which a query is answered, with the statement's values; that of a SELECT is sound. Of a bouquet that
 -- is checked the verdict holds

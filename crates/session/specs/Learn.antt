@@ -7,12 +7,12 @@ use Rattle.query_block.specs.Values.{value_fault}
 use Rattle.bouquet_type.specs.Trees.{BouquetTree}
 use Rattle.bouquet_run.specs.Outcomes.{works_over}
 use Rattle.learned_run.specs.Skips.{learned_end, skips_of}
-use Rattle.session.specs.Bouquets.{unless_misfit}
-use Rattle.session.specs.Outcome.{Outcome, Prints, Refuses}
-use Rattle.session.specs.Present.{at_present}
+use Rattle.workspace.specs.Outcome.{Outcome, Prints, Refuses}
+use Rattle.workspace.specs.Present.{at_present}
+use Rattle.workspace.specs.World.{World}
+use Rattle.workspace.specs.declared.refusal.Refusal.TheVariants as refusal
+use Rattle.session.specs.Answered.{unless_misfit}
 use Rattle.session.specs.Printed.{learned_text}
-use Rattle.session.specs.World.{World}
-use Rattle.session.specs.declared.refusal.Refusal.TheVariants as refusal
 
 -- the answer on a block, by a run of a bouquet that learns: the block's rows, what the run skipped, and how it ends. It costs
 -- nothing: no book has its work. Where that is more than may be spent it is refused

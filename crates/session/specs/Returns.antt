@@ -1,16 +1,10 @@
--- What statements return, held against what is due to them.
+-- What statements return and pay, held against what is due to them.
 use Rattle.std.specs.Prelude.{◌≡◌, ℕ, ◌+◌, ◌≤◌, ⊤, Result, Ok, Err, Vec}
 use Rattle.std.specs.declared.alloc.Global.{Global}
-use Rattle.session.specs.declared.stop.Stop.{Stop}
-use Rattle.session.specs.declared.stop.Stop.TheVariants as stop
-use Rattle.session.specs.Outcome.{Outcome, Prints, Refuses, refused_work}
-use Rattle.session.specs.Stop.{StopsAt}
-use Rattle.session.specs.World.{World}
-
--- what is returned is what is due, and costs no work: a text and the state after it, or a refusal
-abbrev pub ReturnsFree : Outcome → Result (Vec ℕ Global) Stop → World → Type 0
-ReturnsFree due (Ok text) world = due ≡ Prints text.items 0 world
-ReturnsFree due (Err why) world = StopsAt due why
+use Rattle.workspace.specs.declared.stop.Stop.{Stop}
+use Rattle.workspace.specs.declared.stop.Stop.TheVariants as stop
+use Rattle.workspace.specs.Outcome.{Outcome, Prints, Refuses, refused_work}
+use Rattle.workspace.specs.World.{World}
 
 -- what is returned is what is due: a text, whose work was paid, and the state after it; or a refusal, for which the work
 -- that it prints was paid

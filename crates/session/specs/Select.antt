@@ -4,9 +4,10 @@ use Rattle.sql_values.specs.Limits.{default_threshold}
 use Rattle.query_block.specs.Blocks.{BlockTree}
 use Rattle.query_block.specs.Values.{value_fault}
 use Rattle.sql_parse.specs.Trees.{QueryTree}
-use Rattle.session.specs.Bouquets.{answer_with, block_due, compiled_due, unless_misfit, with_due}
-use Rattle.session.specs.Outcome.{Outcome}
-use Rattle.session.specs.World.{World}
+use Rattle.workspace.specs.Bouquets.{block_due, compiled_due, with_due}
+use Rattle.workspace.specs.Outcome.{Outcome}
+use Rattle.workspace.specs.World.{World}
+use Rattle.session.specs.Answered.{answer_with, unless_misfit}
 
 -- on a block: the answer of its bouquet, by as many levels as none given say and the threshold that holds where none is given. A SELECT
 -- has no values, so it is refused before where the block has a parameter

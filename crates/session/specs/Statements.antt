@@ -1,22 +1,21 @@
 -- What comes of each statement.
-use Rattle.std.specs.Prelude.{◌≡◌, ℕ, List, Option, Some, None, IsSome}
+use Rattle.std.specs.Prelude.{ℕ, List, Option}
 use Rattle.sql_parse.specs.Trees.{StatementTree, CreateTable, CreateIndex, Load, Select, Compile, Run, Explain, SaveFile, OpenFile, Audit, Check, Learn, Turns}
-use Rattle.db_catalog.specs.Database.{table_number}
+use Rattle.workspace.specs.Check.{check_outcome}
+use Rattle.workspace.specs.Compile.{compile_outcome}
+use Rattle.workspace.specs.CreateIndex.{create_index_outcome}
+use Rattle.workspace.specs.CreateTable.{create_table_outcome}
+use Rattle.workspace.specs.Explain.{explain_outcome}
+use Rattle.workspace.specs.Load.{load_outcome}
+use Rattle.workspace.specs.Outcome.{Outcome}
+use Rattle.workspace.specs.Save.{save_outcome}
+use Rattle.workspace.specs.Open.{open_outcome}
+use Rattle.workspace.specs.World.{World}
 use Rattle.session.specs.Audit.{audit_outcome}
-use Rattle.session.specs.Check.{check_outcome}
-use Rattle.session.specs.Compile.{compile_outcome}
-use Rattle.session.specs.CreateIndex.{create_index_outcome}
-use Rattle.session.specs.CreateTable.{create_table_outcome}
-use Rattle.session.specs.Explain.{explain_outcome}
 use Rattle.session.specs.Learn.{learn_outcome}
-use Rattle.session.specs.Load.{load_outcome}
-use Rattle.session.specs.Outcome.{Outcome}
 use Rattle.session.specs.Run.{run_outcome}
 use Rattle.session.specs.Select.{select_outcome}
-use Rattle.session.specs.Save.{save_outcome}
-use Rattle.session.specs.Open.{open_outcome, open_refusal}
 use Rattle.session.specs.Turns.{turns_outcome}
-use Rattle.session.specs.World.{World, named_in}
 
 -- what comes of a statement, with the file that the folder gives for it
 abbrev pub statement_outcome : (max_work : ℕ) → World → StatementTree → (file : Option (List ℕ)) → Outcome
@@ -33,20 +32,3 @@ statement_outcome max_work world (Audit audit) file = audit_outcome max_work wor
 statement_outcome max_work world (Check name) file = check_outcome world name
 statement_outcome max_work world (Learn run) file = learn_outcome max_work world run
 statement_outcome max_work world (Turns turns) file = turns_outcome max_work world turns
-
--- the name of the file that a statement may ask for: only LOAD and OPEN ask for one
-abbrev pub asked_name : StatementTree → Option (List ℕ)
-asked_name (Load load) = Some load.file
-asked_name (OpenFile name file_name query) = Some file_name
-asked_name other = None
-
--- a statement asks for a file: a LOAD into a table that is there, and an OPEN that isn't refused before; no other
-abbrev pub AsksForFile : World → StatementTree → Type 0
-AsksForFile world (Load load) = IsSome (table_number world.database load.table)
-AsksForFile world (OpenFile name file_name query) = open_refusal world name query ≡ None
-AsksForFile world other = ⊥
-
--- a statement writes the file of this name: a SAVE of a bouquet that is there, and no other
-abbrev pub WritesFile : World → StatementTree → (name : List ℕ) → Type 0
-WritesFile world (SaveFile save) name = (name ≡ save.file) × IsSome (named_in save.name world.bouquets)
-WritesFile world other name = ⊥

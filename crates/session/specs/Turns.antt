@@ -11,14 +11,14 @@ use Rattle.turns.specs.Standing.{JobTask, Standing, Runs, Ended, Past, Lost, fre
 use Rattle.turns.specs.Jobs.{JobTree}
 use Rattle.turns.specs.Taking.{jobs_turned, numbers_to_end, turns_told}
 use Rattle.turns.specs.declared.turn.Turn.{Turn}
-use Rattle.session.specs.Bouquets.{unless_misfit}
-use Rattle.session.specs.Compile.{unless_refused}
-use Rattle.session.specs.Outcome.{Outcome, Prints, Refuses}
-use Rattle.session.specs.Present.{at_present}
+use Rattle.workspace.specs.Compile.{unless_refused}
+use Rattle.workspace.specs.Outcome.{Outcome, Prints, Refuses}
+use Rattle.workspace.specs.Present.{at_present}
+use Rattle.workspace.specs.World.{World}
+use Rattle.workspace.specs.declared.refusal.Refusal.{Refusal}
+use Rattle.workspace.specs.declared.refusal.Refusal.TheVariants as refusal
+use Rattle.session.specs.Answered.{unless_misfit}
 use Rattle.session.specs.Printed.{job_text, turn_line}
-use Rattle.session.specs.World.{World}
-use Rattle.session.specs.declared.refusal.Refusal.{Refusal}
-use Rattle.session.specs.declared.refusal.Refusal.TheVariants as refusal
 
 -- so many bouquets at the most take turns side by side
 abbrev pub max_jobs : ℕ

@@ -7,12 +7,12 @@ use Rattle.db_catalog.specs.Fits.{Fits}
 use Rattle.bouquet_type.specs.Trees.{BouquetTree, bouquet_tree}
 use Rattle.turns.specs.Standing.{JobTask}
 use Rattle.turns.specs.declared.turn.Turn.{Turn}
+use Rattle.workspace.specs.Outcome.{Outcome}
+use Rattle.workspace.specs.Stop.{StopsAt}
+use Rattle.workspace.specs.World.{World, bouquet_in}
+use Rattle.workspace.specs.declared.stop.Stop.{Stop}
 use Rattle.session.specs.Bounds.{RunsWithinBound}
-use Rattle.session.specs.Outcome.{Outcome}
-use Rattle.session.specs.Stop.{StopsAt}
 use Rattle.session.specs.Turns.{at_tasks}
-use Rattle.session.specs.World.{World, bouquet_in}
-use Rattle.session.specs.declared.stop.Stop.{Stop}
 use Rattle.session.specs.declared.uses.Used.{Used}
 
 -- what is asked of its job

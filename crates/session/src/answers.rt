@@ -12,17 +12,15 @@ ghost use Rattle.bouquet_type.specs.Trees.{bouquet_tree};
 ghost use Rattle.bouquet_type.specs.Ladders.{StandsAtFoot};
 ghost use Rattle.bouquet_type.specs.Reports.{told_end};
 ghost use Rattle.result_text.specs.Combined.{printed};
-ghost use Rattle.session.specs.Bouquets.{answer_with, block_answer, bouquet_answer};
+ghost use Rattle.workspace.specs.Counted.{HasCountsOf};
+ghost use Rattle.workspace.specs.Printed.{header_of};
+ghost use Rattle.workspace.specs.World.{World};
+ghost use Rattle.session.specs.Answered.{answer_with, block_answer, bouquet_answer};
 ghost use Rattle.session.specs.Bounds.{RunsWithinBound};
-ghost use Rattle.session.specs.Counted.{HasCountsOf};
-ghost use Rattle.session.specs.Printed.{answer_text, header_of};
+ghost use Rattle.session.specs.Printed.{answer_text};
 ghost use Rattle.session.specs.Returns.{PaysAtMost, ReturnsDue};
-ghost use Rattle.session.specs.World.{World};
 
-use crate::columns::header_of;
 use crate::lines;
-use crate::refusal::Refusal;
-use crate::stop::Stop;
 use bouquet_run::{Book, run_ladder};
 use bouquet_type::{Bouquet, Kept, Ladder, Report, RunFault};
 use db_catalog::{Database, Metered};
@@ -31,6 +29,7 @@ use result_text::print_rows;
 use row_stack::{RowStack, Space};
 use sql_values::{Text, Value};
 use std::alloc::{AllocError, Global};
+use workspace::{Refusal, Stop, header_of};
 
 /// The rows of a block under these names, as a run left them.
 pub(crate) fn rows_text(

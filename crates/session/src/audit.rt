@@ -2,19 +2,19 @@
 // spends.
 ghost use Rattle.std.specs.Prelude.{◌≡◌, IfOk};
 ghost use Rattle.ess_grid.specs.Points.{IsPoint};
-ghost use Rattle.session.specs.Audit.{audit_outcome, level_refusal, point_refusal};
-ghost use Rattle.session.specs.Outcome.{RefusesFound};
-ghost use Rattle.session.specs.Returns.{ReturnsFree};
-ghost use Rattle.session.specs.States.{world_of};
+ghost use Rattle.workspace.specs.Outcome.{RefusesFound};
+ghost use Rattle.workspace.specs.Returns.{ReturnsFree};
+ghost use Rattle.workspace.specs.States.{world_of};
+ghost use Rattle.session.specs.Audit.{audit_outcome, level_refusal, point_refusal, stop_of_audit};
 
 use crate::lines::audit_line;
-use crate::refusal::Refusal;
 use crate::session::Session;
-use crate::stop::Stop;
+use audit_run::AuditFault;
 use ess_grid::{Grid, Point};
 use sql_parse::AuditDef;
-use sql_values::{LimitName, MAX_AXES};
+use sql_values::{LimitName, MAX_AXES, MAX_PLANS};
 use std::alloc::Global;
+use workspace::{Refusal, Stop};
 
 // Refuses the first of these levels that an axis of so many hasn't.
 fn check_point(count: usize, levels: &[u64]) -> Result<(), Refusal>
@@ -45,6 +45,22 @@ fn point_of(grid: &Grid, levels: &[u64]) -> Result<Point, Refusal>
     Ok(Point::new(&point[..levels.len()]))
 }
 
+// Why an audit stops that ends with this fault.
+fn stop_of(fault: AuditFault) -> Stop
+    ensures { result ≡ stop_of_audit fault }
+{
+    match fault {
+        AuditFault::PlanLimit => {
+            Stop::Refused(Refusal::PastLimit(LimitName::Plans, u128::from(MAX_PLANS) + 1))
+        }
+        AuditFault::WorkLimit { spent } => Stop::Refused(Refusal::PastWork {
+            spent,
+            entered: false,
+        }),
+        AuditFault::NoMemory => Stop::NoMemory,
+    }
+}
+
 impl Session {
     /// Tells of the bouquet of this name how its plans' works with the statement's values are to their costs at a point. It is
     /// refused where the values don't fit, then where the levels are no point of the bouquet's grid.
@@ -57,11 +73,14 @@ impl Session {
         ensures { ReturnsFree (audit_outcome max_work (world_of self.now) audit.now)
             result (world_of self.now) }
     {
-        let bouquet = self.present(&audit.name)?;
+        let bouquet = self.workspace.present(&audit.name)?;
         let values = audit.values.as_slice();
         bouquet.block().fits_values(values)?;
         let point = point_of(bouquet.grid(), audit.levels.as_slice())?;
-        let told = audit_run::audit(alloc, &self.database, bouquet, values, &point, max_work)?;
-        Ok(audit_line(alloc, &told)?)
+        let database = self.workspace.database();
+        match audit_run::audit(alloc, database, bouquet, values, &point, max_work) {
+            Ok(told) => Ok(audit_line(alloc, &told)?),
+            Err(fault) => Err(stop_of(fault)),
+        }
     }
 }

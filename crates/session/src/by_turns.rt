@@ -3,23 +3,22 @@ ghost use Rattle.std.specs.Prelude.{◌≡◌, ◌<◌, ◌≤◌, ℕ, List, No
 ghost use Rattle.std.specs.List.{list_any};
 ghost use Rattle.sql_parse.specs.Trees.{Turns};
 ghost use Rattle.turns.specs.Jobs.{job_tree};
+ghost use Rattle.workspace.specs.Outcome.{RefusesFound};
+ghost use Rattle.workspace.specs.Returns.{ReturnsFree};
+ghost use Rattle.workspace.specs.States.{world_of};
+ghost use Rattle.workspace.specs.World.{World};
 ghost use Rattle.session.specs.Bounds.{IsAnsweredWithin};
-ghost use Rattle.session.specs.Outcome.{RefusesFound};
-ghost use Rattle.session.specs.Returns.{ReturnsFree};
-ghost use Rattle.session.specs.States.{world_of};
 ghost use Rattle.session.specs.Turns.{fresh_jobs, is_past, jobs_refusal, max_jobs, numbers_from_0, turn_refusal, turns_answer, turns_outcome};
 ghost use Rattle.session.specs.Uses.{IsExecutable, task_of_use};
-ghost use Rattle.session.specs.World.{World};
 
-use crate::refusal::Refusal;
 use crate::session::Session;
-use crate::stop::Stop;
 use crate::turn_lines::turns_text;
 use crate::uses::Used;
 use db_catalog::Database;
 use sql_parse::TurnsDef;
 use std::alloc::{AllocError, Global};
 use turns::{Job, JobState, finish_turns, take_turns};
+use workspace::{Refusal, Stop};
 
 // So many bouquets at the most take turns side by side.
 const MAX_JOBS: usize = 64;
@@ -158,6 +157,6 @@ impl Session {
         check_jobs(runs.len())?;
         let all = self.all_used(alloc, runs)?;
         check_turns(runs.len(), by)?;
-        turns_answer(alloc, max_work, &self.database, &all, by)
+        turns_answer(alloc, max_work, self.workspace.database(), &all, by)
     }
 }

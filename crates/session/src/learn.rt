@@ -11,20 +11,18 @@ ghost use Rattle.bouquet_type.specs.Trees.{bouquet_tree};
 ghost use Rattle.bouquet_type.specs.Reports.{told_end};
 ghost use Rattle.learned_run.specs.Skips.{IsSkipOf};
 ghost use Rattle.sql_parse.specs.Trees.{Learn};
+ghost use Rattle.workspace.specs.Counted.{HasCountsOf};
+ghost use Rattle.workspace.specs.Printed.{header_of};
+ghost use Rattle.workspace.specs.Returns.{ReturnsFree};
+ghost use Rattle.workspace.specs.States.{world_of};
+ghost use Rattle.workspace.specs.World.{World};
 ghost use Rattle.session.specs.Bounds.{IsAnsweredWithin, LearnsWithinBound};
-ghost use Rattle.session.specs.Counted.{HasCountsOf};
 ghost use Rattle.session.specs.Learn.{learn_outcome, learned_answer, learned_block_answer, learned_with};
-ghost use Rattle.session.specs.Printed.{header_of, learned_text};
-ghost use Rattle.session.specs.Returns.{ReturnsFree};
-ghost use Rattle.session.specs.States.{world_of};
-ghost use Rattle.session.specs.World.{World};
+ghost use Rattle.session.specs.Printed.{learned_text};
 
 use crate::answers::rows_text;
-use crate::columns::header_of;
 use crate::lines;
-use crate::refusal::Refusal;
 use crate::session::Session;
-use crate::stop::Stop;
 use bouquet_type::{Bouquet, RunFault};
 use db_catalog::{Database, Metered};
 use learned_run::{Learned, learn};
@@ -33,6 +31,7 @@ use row_stack::{RowStack, Space};
 use sql_parse::RunDef;
 use sql_values::{Text, Value};
 use std::alloc::{AllocError, Global};
+use workspace::{Refusal, Stop, header_of};
 
 // What a block prints under these names, whose rows a run of a bouquet left, which learned and of which this is told.
 fn print_learned(
@@ -163,11 +162,11 @@ impl Session {
             result (world_of self.now) }
         ensures bounded { OnOk result (IsAnsweredWithin (world_of self.now) (Learn run.now)) }
     {
-        let bouquet = self.present(&run.name)?;
+        let bouquet = self.workspace.present(&run.name)?;
         learned_answer(
             alloc,
             max_work,
-            &self.database,
+            self.workspace.database(),
             bouquet,
             run.values.as_slice(),
         )

@@ -2,15 +2,15 @@
 ghost use Rattle.std.specs.Prelude.{◌+◌, ◌≤◌};
 ghost use Rattle.work_ledger.specs.Account.{max_account};
 ghost use Rattle.sql_parse.specs.Trees.{Run};
+ghost use Rattle.workspace.specs.States.{world_of};
 ghost use Rattle.session.specs.Bounds.{Answers};
-ghost use Rattle.session.specs.States.{world_of};
 
 use crate::answers::answer;
 use crate::session::Session;
-use crate::stop::Stop;
 use bouquet_run::Book;
 use sql_parse::RunDef;
 use std::alloc::Global;
+use workspace::Stop;
 
 impl Session {
     /// Answers the query of the bouquet of this name with the statement's values. What it paid is entered in the book, whatever
@@ -25,8 +25,15 @@ impl Session {
         requires room { book.old + max_work ≤ max_account }
         ensures { Answers max_work (world_of self.now) (Run run.now) result book.old book.new }
     {
-        let bouquet = self.present(&run.name)?;
+        let bouquet = self.workspace.present(&run.name)?;
         let values = run.values.as_slice();
-        answer(alloc, max_work, &self.database, bouquet, values, book)
+        answer(
+            alloc,
+            max_work,
+            self.workspace.database(),
+            bouquet,
+            values,
+            book,
+        )
     }
 }

@@ -3,14 +3,12 @@
 ghost use Rattle.std.specs.Prelude.{◌+◌, ◌≤◌};
 ghost use Rattle.work_ledger.specs.Account.{max_account};
 ghost use Rattle.sql_parse.specs.Trees.{Select, query_tree};
-ghost use Rattle.session.specs.Bouquets.{IsScriptQuery};
+ghost use Rattle.workspace.specs.Bouquets.{IsScriptQuery};
+ghost use Rattle.workspace.specs.States.{world_of};
 ghost use Rattle.session.specs.Bounds.{Answers};
-ghost use Rattle.session.specs.States.{world_of};
 
 use crate::answers::block_answer;
-use crate::bouquets::{block_of, sizes_of};
 use crate::session::Session;
-use crate::stop::Stop;
 use bouquet_run::Book;
 use contours::Lazy;
 use cost_model::Costing;
@@ -18,6 +16,7 @@ use plan_space::Outlook;
 use sql_parse::Query;
 use sql_values::DEFAULT_THRESHOLD;
 use std::alloc::Global;
+use workspace::{Stop, block_of, sizes_of};
 
 impl Session {
     /// Answers a query. What it paid is entered in the book, whatever the answer.
@@ -33,12 +32,13 @@ impl Session {
         ensures { Answers max_work (world_of self.now) (Select (query_tree query.now))
             result book.old book.new }
     {
-        let block = block_of(alloc, &self.database, query)?;
+        let database = self.workspace.database();
+        let block = block_of(alloc, database, query)?;
         block.fits_values(&[])?;
-        let (grid, stats) = sizes_of(alloc, &self.database, &block, None)?;
+        let (grid, stats) = sizes_of(alloc, database, &block, None)?;
         let costing = Costing::new(&block, &stats, &grid);
         let outlook = Outlook::new(alloc, &costing)?;
         let ladder = Lazy::new(&outlook, DEFAULT_THRESHOLD as u32);
-        block_answer(alloc, max_work, &self.database, ladder, &block, book)
+        block_answer(alloc, max_work, database, ladder, &block, book)
     }
 }

@@ -5,42 +5,37 @@ ghost use Rattle.sql_parse.specs.Trees.{statement_tree};
 ghost use Rattle.sql_parse.specs.WellFormed.{IsWellFormed};
 ghost use Rattle.sql_parse.specs.Counts.{HasUpTo};
 ghost use Rattle.sql_values.specs.Limits.{max_script_bytes};
+ghost use Rattle.workspace.specs.Begins.{BelongsTo, FinishesAsDue};
+ghost use Rattle.workspace.specs.States.{world_of};
+ghost use Rattle.workspace.specs.World.{nothing_made};
 ghost use Rattle.session.specs.Begins.{BeginsAsDue, begun_with};
 ghost use Rattle.session.specs.Bounds.{IsAnsweredWithin};
 ghost use Rattle.session.specs.Returns.{PaysAtMost};
-ghost use Rattle.session.specs.States.{world_of};
-ghost use Rattle.session.specs.World.{nothing_made};
 
-use crate::begun::Begun;
-use crate::named_bouquets::NamedBouquets;
-use crate::stop::Stop;
 use bouquet_run::Book;
-use db_catalog::Database;
 use sql_parse::Statement;
 use std::alloc::Global;
 use std::hash::RandomState;
 use std::marker::Model;
+use workspace::{Asked, Begun, GivenFile, Stop, Workspace};
 
 /// What the statements of a script so far have made.
 #[derive(Drop)]
 pub struct Session {
-    pub(crate) database: Database,
-    pub(crate) bouquets: NamedBouquets,
+    pub(crate) workspace: Workspace,
 }
 
 impl Model for Session {
     ghost use Rattle.query_block.specs.contracts.condition.Condition as condition;
     ghost use Rattle.plan_tree.specs.contracts.plan.Plan as plan;
     ghost use Rattle.std.specs.Coded.{codes};
-    ghost use Rattle.session.specs.States.{SessionState, IsSession};
+    ghost use Rattle.workspace.specs.States.{WorkspaceState};
 
-    ghost Value = { SessionState };
+    ghost Value = { WorkspaceState };
 
     ghost coded = { Prim.hlevel (codes, condition.the_row.coded, plan.the_row.coded) };
 
-    ghost view = { λ s. record { database = s.database; bouquets = s.bouquets } };
-
-    ghost invariant = { λ s. IsSession (record { database = s.database; bouquets = s.bouquets }) };
+    ghost view = { λ s. s.workspace };
 }
 
 // What a statement prints, as it begins.
@@ -59,8 +54,7 @@ impl Session {
         ensures { world_of result ≡ nothing_made }
     {
         Session {
-            database: Database::new(alloc, key),
-            bouquets: NamedBouquets::new(alloc, key),
+            workspace: Workspace::new(alloc, key),
         }
     }
 
@@ -85,19 +79,28 @@ impl Session {
         ensures pays { PaysAtMost max_work book.old book.new }
     {
         match statement {
-            Statement::CreateTable(table) => prints(self.create_table(alloc, table)),
-            Statement::CreateIndex(index) => prints(self.create_index(alloc, index)),
-            Statement::Load(load) => self.load(load),
+            Statement::CreateTable(table) => prints(self.workspace.create_table(alloc, table)),
+            Statement::CreateIndex(index) => prints(self.workspace.create_index(alloc, index)),
+            Statement::Load(load) => self.workspace.load(load),
             Statement::Select(query) => prints(self.select(alloc, max_work, query, book)),
-            Statement::Compile(compile) => prints(self.compile(alloc, compile)),
+            Statement::Compile(compile) => prints(self.workspace.compile(alloc, compile)),
             Statement::Run(run) => prints(self.run(alloc, max_work, run, book)),
-            Statement::Explain(name) => prints(self.explain(alloc, name)),
-            Statement::SaveFile(save) => self.save_file(alloc, save),
-            Statement::OpenFile(opened) => self.open_file(alloc, opened),
+            Statement::Explain(name) => prints(self.workspace.explain(alloc, name)),
+            Statement::SaveFile(save) => self.workspace.save_file(alloc, save),
+            Statement::OpenFile(opened) => self.workspace.open_file(alloc, opened),
             Statement::Audit(audit) => prints(self.audit(alloc, max_work, audit)),
-            Statement::Check(name) => prints(self.check(alloc, name)),
+            Statement::Check(name) => prints(self.workspace.check(alloc, name)),
             Statement::Learn(run) => prints(self.learn(alloc, max_work, run)),
             Statement::Turns(turns) => prints(self.turns(alloc, max_work, turns)),
         }
+    }
+    /// Carries a statement out to its end, with the file that it asked for in this state, and returns what it prints. One that
+    /// stops changes nothing.
+    pub fn finish(&mut self, alloc: Global, asked: Asked, given: GivenFile) -> Result<Vec<u8>, Stop>
+        requires { BelongsTo (world_of self.old) asked.pending }
+        ensures due { FinishesAsDue (world_of self.old) asked given result (world_of self.new) }
+        ensures unchanged { OnErr result (self.new ≡ self.old) }
+    {
+        self.workspace.finish(alloc, asked, given)
     }
 }

@@ -8,14 +8,13 @@ ghost use Rattle.session.specs.Printed.{executed_plan, job_text, turn_line};
 ghost use Rattle.session.specs.Uses.{IsTurnOf, IsExecutable, bouquets_of, task_of_use};
 
 use crate::answers::print_answer;
-use crate::columns::header_of;
-use crate::lines::{push_labelled, push_plan};
 use crate::uses::Used;
 use bouquet_type::Bouquet;
 use db_catalog::Database;
 use plan_tree::Plan;
 use std::alloc::{AllocError, Global};
 use turns::{Job, Turn};
+use workspace::{header_of, push_labelled, push_plan};
 
 // The plan of the execution at this place of a bouquet's schedule, from 1.
 fn executed_plan(b: &Bouquet, place: u32) -> &Plan

@@ -1,14 +1,14 @@
 // The bouquets of a statement that names several: each is looked up with its values before the next.
 ghost use Rattle.std.specs.Prelude.{◌++◌, ◌∷◌, [], IfErr, IfOk, OnOk, ◌≡◌};
-ghost use Rattle.session.specs.States.{world_of};
+ghost use Rattle.workspace.specs.States.{world_of};
 ghost use Rattle.session.specs.Uses.{AreUsedOf, IsUsedOf, RefusesUse, RefusesUses};
 
 use crate::session::Session;
-use crate::stop::Stop;
 use bouquet_type::Bouquet;
 use query_block::Block;
 use sql_parse::RunDef;
 use std::alloc::{AllocError, Global};
+use workspace::Stop;
 
 /// A bouquet, and the block that is executed: its own, with some values in place of its parameters.
 #[derive(Drop)]
@@ -31,7 +31,7 @@ impl Session {
         ensures used { IfOk result (IsUsedOf (world_of self.now) run.now) }
         ensures refused { IfErr result (RefusesUse (world_of self.now) run.now) }
     {
-        let bouquet = self.present(&run.name)?;
+        let bouquet = self.workspace.present(&run.name)?;
         let values = run.values.as_slice();
         bouquet.block().fits_values(values)?;
         let block = bouquet.block().put(alloc, values)?;

@@ -7,17 +7,18 @@ use Rattle.outside_io.specs.Files.{FolderState, KeepsOthers, OnlyWrites}
 use Rattle.outside_io.specs.declared.fault.FileFault.{FileFault}
 use Rattle.outside_io.specs.declared.fault.FileFault.TheVariants as fault
 use Rattle.sql_parse.specs.Trees.{StatementTree}
-use Rattle.session.specs.Begins.{BeginsAsDue, pending_outcome}
-use Rattle.session.specs.Given.{at_file}
-use Rattle.session.specs.Outcome.{Outcome, refused_work}
-use Rattle.session.specs.Returns.{ReturnsFree}
+use Rattle.workspace.specs.Begins.{pending_outcome}
+use Rattle.session.specs.Begins.{BeginsAsDue}
+use Rattle.workspace.specs.Given.{at_file}
+use Rattle.workspace.specs.Outcome.{Outcome, refused_work}
+use Rattle.workspace.specs.Returns.{ReturnsFree}
 use Rattle.session.specs.Statements.{statement_outcome}
-use Rattle.session.specs.World.{World}
-use Rattle.session.specs.declared.begun.Asked.{Asked}
-use Rattle.session.specs.declared.begun.Begun.TheVariants as begun
-use Rattle.session.specs.declared.begun.GivenFile.{GivenFile}
-use Rattle.session.specs.declared.stop.Stop.{Stop}
-use Rattle.session.specs.declared.stop.Stop.TheVariants as stop
+use Rattle.workspace.specs.World.{World}
+use Rattle.workspace.specs.declared.begun.Asked.{Asked}
+use Rattle.workspace.specs.declared.begun.Begun.TheVariants as begun
+use Rattle.workspace.specs.declared.begun.GivenFile.{GivenFile}
+use Rattle.workspace.specs.declared.stop.Stop.{Stop}
+use Rattle.workspace.specs.declared.stop.Stop.TheVariants as stop
 use Rattle.shell.specs.Due.{CarriesDue, GivesFile, IsCarriedOut, state_of}
 use Rattle.shell.specs.Script.{IsGiven, IsGivenFor, IsGivenStep, IsMissing, Step, with_saved, printed_by, left_by}
 use Rattle.shell.specs.Serve.{AsksNext, BreaksBefore, NeverFalls, NoneFailed, ReadFailed}

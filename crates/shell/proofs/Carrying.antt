@@ -11,11 +11,11 @@ use Rattle.outside_io.specs.Files.{FolderState}
 use Rattle.sql_parse.specs.Trees.{StatementTree}
 use Rattle.session.specs.Bounds.{IsAnsweredWithin}
 use Rattle.shell.specs.Script.{IsGivenStep, Answer, AreAnsweredWithin, AreGiven, ScriptState, Step, and_then, at_start, files_after, left_by, printed_by, script_answer, state_after}
-use Rattle.session.specs.Outcome.{Outcome, Refuses, refused_work}
-use Rattle.session.specs.Refusal.{line_of}
+use Rattle.workspace.specs.Outcome.{Outcome, Refuses, refused_work}
+use Rattle.workspace.specs.Refusal.{line_of}
 use Rattle.session.specs.Statements.{statement_outcome}
-use Rattle.session.specs.World.{World, nothing_made}
-use Rattle.session.specs.declared.refusal.Refusal.{Refusal}
+use Rattle.workspace.specs.World.{World, nothing_made}
+use Rattle.workspace.specs.declared.refusal.Refusal.{Refusal}
 use Rattle.shell.specs.declared.status.Status.{Status}
 use Rattle.shell.specs.declared.status.Status.TheVariants as status
 use Rattle.shell.specs.Due.{CarriesAll, EndsAt, HasCauses, LeadsOn, state_of}

@@ -8,13 +8,13 @@ use Rattle.std.proofs.lemmas.List.{append-nil, length-map}
 use Rattle.outside_io.specs.Files.{FolderState}
 use Rattle.sql_parse.specs.declared.statement.Statement.{Statement}
 use Rattle.sql_parse.specs.Trees.{StatementTree, statement_tree}
-use Rattle.session.specs.declared.stop.Stop.{Stop}
-use Rattle.session.specs.declared.refusal.Refusal.{Refusal}
-use Rattle.session.specs.Refusal.{line_of}
+use Rattle.workspace.specs.declared.stop.Stop.{Stop}
+use Rattle.workspace.specs.declared.refusal.Refusal.{Refusal}
+use Rattle.workspace.specs.Refusal.{line_of}
 use Rattle.session.specs.Bounds.{IsAnsweredWithin}
-use Rattle.session.specs.Outcome.{Outcome, Refuses, refused_work}
+use Rattle.workspace.specs.Outcome.{Outcome, Refuses, refused_work}
 use Rattle.session.specs.Statements.{statement_outcome}
-use Rattle.session.specs.World.{World}
+use Rattle.workspace.specs.World.{World}
 use Rattle.shell.specs.declared.status.Status.{Status}
 use Rattle.shell.specs.declared.status.Status.TheVariants as status
 use Rattle.shell.specs.Due.{IsCarriedOut, state_of, CarriesAll, CarriesOne, EndsAt}

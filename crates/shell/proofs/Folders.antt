@@ -8,9 +8,9 @@ use Rattle.outside_io.specs.declared.fault.FileFault.{FileFault}
 use Rattle.outside_io.specs.declared.fault.FileFault.TheVariants as fault
 use Rattle.sql_values.specs.Limits.{max_file_bytes}
 use Rattle.sql_parse.specs.Trees.{StatementTree}
-use Rattle.session.specs.Statements.{asked_name}
-use Rattle.session.specs.declared.begun.GivenFile.{GivenFile}
-use Rattle.session.specs.declared.begun.GivenFile.TheVariants as given
+use Rattle.workspace.specs.Files.{asked_name}
+use Rattle.workspace.specs.declared.begun.GivenFile.{GivenFile}
+use Rattle.workspace.specs.declared.begun.GivenFile.TheVariants as given
 use Rattle.shell.specs.Due.{GivesFile, ReadsFile}
 use Rattle.shell.specs.Script.{IsGiven, IsGivenFor, IsMissing}
 use Rattle.shell.specs.declared.status.Status.{Status}

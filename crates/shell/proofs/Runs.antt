@@ -7,8 +7,8 @@ use Rattle.std.proofs.lemmas.List.{drop_all, length-take}
 use Rattle.outside_io.specs.Files.{FolderState}
 use Rattle.sql_values.specs.Limits.{max_script_bytes}
 use Rattle.sql_parse.specs.Trees.{StatementTree}
-use Rattle.session.specs.declared.refusal.Refusal.{Refusal}
-use Rattle.session.specs.Refusal.{line_of}
+use Rattle.workspace.specs.declared.refusal.Refusal.{Refusal}
+use Rattle.workspace.specs.Refusal.{line_of}
 use Rattle.shell.specs.declared.status.Status.{Status}
 use Rattle.shell.specs.declared.status.Status.TheVariants as status
 use Rattle.shell.specs.Script.{Answer, AreGiven, Step, answer_of, at_start}

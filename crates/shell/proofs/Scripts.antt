@@ -12,8 +12,8 @@ use Rattle.sql_parse.specs.Trees.{StatementTree}
 use Rattle.sql_values.specs.declared.limit.LimitName.TheVariants as limit
 use Rattle.sql_parse.specs.Script.{IsParsing}
 use Rattle.sql_parse.proofs.Scripts.{some_parsing, parsing_once}
-use Rattle.session.specs.declared.refusal.Refusal.{Refusal}
-use Rattle.session.specs.declared.refusal.Refusal.TheVariants as refusal
+use Rattle.workspace.specs.declared.refusal.Refusal.{Refusal}
+use Rattle.workspace.specs.declared.refusal.Refusal.TheVariants as refusal
 use Rattle.shell.specs.Serve.{IsScript}
 use Rattle.shell.specs.Serve.IsScript.{too_long, no_token, no_statement, has_statements}
 

@@ -4,7 +4,7 @@ use Rattle.std.specs.Prelude.{IfSome, IsSome, MatchOption}
 use Rattle.outside_io.specs.Count.{Rose}
 use Rattle.outside_io.specs.Files.{Files}
 use Rattle.sql_parse.specs.Trees.{StatementTree}
-use Rattle.session.specs.Outcome.{Outcome, Prints, Saves, Refuses}
+use Rattle.workspace.specs.Outcome.{Outcome, Prints, Saves, Refuses}
 use Rattle.shell.specs.Script.{IsGivenFor, IsGivenStep, Answer, AreGiven, ScriptState, Step, and_then, left_by, printed_by, script_answer, step_outcome, with_saved}
 use Rattle.shell.specs.Serve.{statements_of_steps}
 use Rattle.shell.proofs.Folders.{any_given_for, one_file_for}

@@ -5,11 +5,11 @@ use Rattle.outside_io.specs.Count.{Rose, raised}
 use Rattle.outside_io.specs.Files.{FolderState}
 use Rattle.sql_parse.specs.Trees.{StatementTree}
 use Rattle.session.specs.Bounds.{IsAnsweredWithin}
-use Rattle.session.specs.Outcome.{Outcome, Refuses, refused_work}
-use Rattle.session.specs.Refusal.{line_of}
+use Rattle.workspace.specs.Outcome.{Outcome, Refuses, refused_work}
+use Rattle.workspace.specs.Refusal.{line_of}
 use Rattle.session.specs.Statements.{statement_outcome}
-use Rattle.session.specs.World.{World}
-use Rattle.session.specs.declared.refusal.Refusal.{Refusal}
+use Rattle.workspace.specs.World.{World}
+use Rattle.workspace.specs.declared.refusal.Refusal.{Refusal}
 use Rattle.shell.specs.declared.script.ScriptFault.{ScriptFault}
 use Rattle.shell.specs.declared.script.ScriptFault.TheVariants as script_fault
 use Rattle.shell.specs.declared.status.Status.{Status}
@@ -17,10 +17,10 @@ use Rattle.shell.specs.declared.status.Status.TheVariants as status
 use Rattle.shell.specs.Script.{AreGiven, IsGivenStep, ScriptState, Step, at_start, left_by, printed_by, script_answer, step_outcome, IsGiven, IsMissing}
 use Rattle.shell.specs.Serve.{BreaksBefore, BreaksOff, Carries, EndsAsDue, EndsWhole, IsScript, NeverFalls, NoneFailed, ReadFailed, Serves, statements_of_steps}
 use Rattle.std.specs.declared.alloc.Global.{Global}
-use Rattle.session.specs.Given.{IsFileGiven}
-use Rattle.session.specs.declared.begun.GivenFile.{GivenFile}
-use Rattle.session.specs.declared.stop.Stop.{Stop}
-use Rattle.session.specs.declared.stop.Stop.TheVariants as stop
+use Rattle.workspace.specs.Given.{IsFileGiven}
+use Rattle.workspace.specs.declared.begun.GivenFile.{GivenFile}
+use Rattle.workspace.specs.declared.stop.Stop.{Stop}
+use Rattle.workspace.specs.declared.stop.Stop.TheVariants as stop
 
 -- what a read gave stands for the file, and nothing failed; or the run ends
 abbrev pub ReadsFile : (file : Option (List ℕ)) → (before after : FolderState) → Result GivenFile Status → Type 0

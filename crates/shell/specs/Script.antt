@@ -5,11 +5,12 @@ use Rattle.outside_io.specs.Count.{Rose, raised}
 use Rattle.outside_io.specs.Files.{Files, with_file, held_file}
 use Rattle.sql_parse.specs.Trees.{StatementTree}
 use Rattle.session.specs.Bounds.{IsAnsweredWithin}
-use Rattle.session.specs.Outcome.{Outcome, Prints, Saves, Refuses, refused_work}
-use Rattle.session.specs.Refusal.{line_of}
-use Rattle.session.specs.Statements.{AsksForFile, statement_outcome, asked_name}
-use Rattle.session.specs.World.{World, nothing_made}
-use Rattle.session.specs.declared.refusal.Refusal.{Refusal}
+use Rattle.workspace.specs.Outcome.{Outcome, Prints, Saves, Refuses, refused_work}
+use Rattle.workspace.specs.Refusal.{line_of}
+use Rattle.workspace.specs.Files.{AsksForFile, asked_name}
+use Rattle.session.specs.Statements.{statement_outcome}
+use Rattle.workspace.specs.World.{World, nothing_made}
+use Rattle.workspace.specs.declared.refusal.Refusal.{Refusal}
 use Rattle.sql_values.specs.Limits.{max_file_bytes}
 
 -- the file that a folder of these files gives under a name: what it holds there; where its files are unknown, a file that a

@@ -10,12 +10,12 @@ use Rattle.sql_parse.specs.Trees.{StatementTree}
 use Rattle.sql_parse.specs.Script.{AreStatements, IsFirstRefused}
 use Rattle.sql_values.specs.Limits.{max_script_bytes}
 use Rattle.sql_values.specs.declared.limit.LimitName.TheVariants as limit
-use Rattle.session.specs.Refusal.{line_of}
-use Rattle.session.specs.Statements.{AsksForFile, WritesFile}
-use Rattle.session.specs.World.{World}
-use Rattle.session.specs.declared.refusal.Refusal.{Refusal}
-use Rattle.session.specs.declared.refusal.Refusal.TheVariants as refusal
 use Rattle.command_line.specs.Words.{options_of}
+use Rattle.workspace.specs.Refusal.{line_of}
+use Rattle.workspace.specs.Files.{AsksForFile, WritesFile}
+use Rattle.workspace.specs.World.{World}
+use Rattle.workspace.specs.declared.refusal.Refusal.{Refusal}
+use Rattle.workspace.specs.declared.refusal.Refusal.TheVariants as refusal
 use Rattle.demo_data.specs.Demo.{demo_files, demo_script}
 use Rattle.shell.specs.Script.{Answer, AreAnsweredWithin, AreGiven, ScriptState, Step, answer_of, at_start, files_after, printed_by, script_answer, state_after, step_outcome}
 use Rattle.shell.specs.declared.status.Status.{Status}

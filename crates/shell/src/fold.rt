@@ -11,8 +11,8 @@ ghost use Rattle.sql_parse.specs.WellFormed.{IsWellFormed};
 ghost use Rattle.sql_parse.specs.Counts.{HasUpTo, HaveUpTo};
 ghost use Rattle.session.specs.Bounds.{IsAnsweredWithin};
 ghost use Rattle.session.specs.Returns.{PaysAtMost};
-ghost use Rattle.session.specs.States.{world_of};
-ghost use Rattle.session.specs.World.{nothing_made};
+ghost use Rattle.workspace.specs.States.{world_of};
+ghost use Rattle.workspace.specs.World.{nothing_made};
 ghost use Rattle.shell.specs.Due.{GivesFile, IsCarriedOut, CarriesAll, CarriesOne};
 
 use crate::Status;

@@ -3,8 +3,8 @@ ghost use Rattle.std.specs.Prelude.{◌≡◌, ◌⊎◌, ℕ, ◌+◌, ◌≤�
 ghost use Rattle.outside_io.specs.Count.{Rose, HasCause};
 ghost use Rattle.outside_io.specs.Files.{FolderState};
 ghost use Rattle.sql_values.specs.Limits.{max_script_bytes};
-ghost use Rattle.session.specs.declared.refusal.Refusal.{Refusal};
 ghost use Rattle.command_line.specs.Words.{options_of, word_texts};
+ghost use Rattle.workspace.specs.declared.refusal.Refusal.{Refusal};
 ghost use Rattle.shell.specs.Script.{Answer};
 ghost use Rattle.shell.specs.Serve.{IsScript, IsAnswer, RunsSource, Serves, Demonstrates, RefusesWords, NeverFalls, usage_line};
 ghost use Rattle.shell.specs.Source.{TakesAtMost};

@@ -2,7 +2,7 @@
 ghost use Rattle.std.specs.Prelude.{◌≡◌, ◌≢◌, ◌⊎◌, ℕ, [], take, OnOk, OnErr, IfErr, IsErrOf};
 ghost use Rattle.std.specs.Io.KnownBytes.{Appends, Keeps};
 ghost use Rattle.outside_io.specs.Count.{HasCause};
-ghost use Rattle.session.specs.Refusal.{line_of};
+ghost use Rattle.workspace.specs.Refusal.{line_of};
 
 use crate::Status;
 use outside_io::{PutFault, Sink};

@@ -3,8 +3,8 @@ use Rattle.std.proofs.Common.{◌≡◌, Option, None, ap, subst, sym}
 use Rattle.query_block.specs.Values.{value_fault}
 use Rattle.query_block.specs.declared.values.ValueFault.{ValueFault}
 use Rattle.bouquet_type.specs.Trees.{bouquet_tree}
-use Rattle.session.specs.Bouquets.{answer_with, unless_misfit}
-use Rattle.session.specs.Outcome.{Outcome}
+use Rattle.workspace.specs.Outcome.{Outcome}
+use Rattle.session.specs.Answered.{answer_with, unless_misfit}
 use Rattle.session.specs.Returns.{ReturnsDue}
 use Rattle.session.proofs.Misfits.{fitting}
 use Rattle.session.proofs.answers.answer.Goals as goal

@@ -9,8 +9,8 @@ use Rattle.bouquet_run.specs.Outcomes.{works_over}
 use Rattle.exec_pipe.proofs.Joins.{on-ok}
 use Rattle.db_catalog.specs.Fits.{Fits}
 use Rattle.db_catalog.proofs.PutBlocks.{put-fits-tables}
-use Rattle.session.specs.Bouquets.{block_answer}
-use Rattle.session.specs.Outcome.{Outcome}
+use Rattle.workspace.specs.Outcome.{Outcome}
+use Rattle.session.specs.Answered.{block_answer}
 use Rattle.session.specs.Returns.{ReturnsDue}
 use Rattle.session.proofs.answers.answer_with.Goals as goal
 

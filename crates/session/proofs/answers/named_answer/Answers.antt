@@ -7,9 +7,9 @@ use Rattle.db_catalog.specs.Meter.{MeterState}
 use Rattle.bouquet_type.specs.Runs.{RunEnd, run_end}
 use Rattle.bouquet_type.specs.Reports.{told_end}
 use Rattle.bouquet_run.specs.Outcomes.{works_over}
-use Rattle.session.specs.Outcome.{Outcome, Prints, Refuses}
+use Rattle.workspace.specs.Outcome.{Outcome, Prints, Refuses}
+use Rattle.workspace.specs.declared.refusal.Refusal.TheVariants as refusal
 use Rattle.session.specs.Printed.{answer_text}
-use Rattle.session.specs.declared.refusal.Refusal.TheVariants as refusal
 use Rattle.session.proofs.answers.named_answer.Goals as goal
 
 pub returns-in_ok-print_answer-in-Ok-clause-due : goal.returns-in_ok-print_answer-in-Ok-clause-due

@@ -1,5 +1,5 @@
 -- The rows are followed by the line below them.
-use Rattle.std.proofs.Common.{◌≡◌, ◌∙◌, ◌++◌}
+use Rattle.std.proofs.Common.{◌∙◌, ◌++◌}
 use Rattle.bouquet_type.specs.Reports.{told_end}
 use Rattle.session.specs.Printed.{report_line}
 use Rattle.session.proofs.answers.print_answer.Goals as goal

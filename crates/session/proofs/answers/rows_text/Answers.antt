@@ -3,7 +3,7 @@ use Rattle.std.proofs.Common.{◌≡◌, ◌∙◌, ℕ, List, ap}
 use Rattle.query_block.specs.Blocks.{block_tree}
 use Rattle.result_text.specs.Combined.{printed, printed_rows}
 use Rattle.result_text.specs.Printed.{table_text}
-use Rattle.session.specs.Printed.{header_of}
+use Rattle.workspace.specs.Printed.{header_of}
 use Rattle.session.proofs.RowsPrinted.{printed_meaning}
 use Rattle.session.proofs.answers.rows_text.Goals as goal
 

@@ -7,11 +7,11 @@ use Rattle.turns.specs.Jobs.{JobShape, job_tree}
 use Rattle.turns.specs.Standing.{JobTask}
 use Rattle.turns.specs.Taking.{jobs_turned, numbers_to_end, turns_told}
 use Rattle.turns.specs.declared.turn.Turn.{Turn}
-use Rattle.session.specs.Outcome.{Prints, Refuses}
+use Rattle.workspace.specs.Outcome.{Prints, Refuses}
+use Rattle.workspace.specs.declared.refusal.Refusal.TheVariants as refusal
 use Rattle.session.specs.Printed.{job_text, turn_line}
 use Rattle.session.specs.Turns.{fresh_jobs, is_past, jobs_by, jobs_ended, numbers_from_0, turns_answer, turns_taken}
 use Rattle.session.specs.Uses.{IsTurnOf, bouquets_of, task_of_use}
-use Rattle.session.specs.declared.refusal.Refusal.TheVariants as refusal
 use Rattle.session.specs.declared.uses.Used.{Used}
 use Rattle.session.proofs.JobTurns.{bouquets-asked, fresh-count, fresh-tasks, told-are, turned-length}
 use Rattle.session.proofs.by_turns.jobs_answer.Goals as goal

@@ -3,10 +3,10 @@ use Rattle.std.proofs.Common.{◌≡◌, Option, None, ap, subst, sym}
 use Rattle.query_block.specs.Values.{value_fault}
 use Rattle.query_block.specs.declared.values.ValueFault.{ValueFault}
 use Rattle.bouquet_type.specs.Trees.{bouquet_tree}
-use Rattle.session.specs.Bouquets.{unless_misfit}
+use Rattle.workspace.specs.Outcome.{Outcome}
+use Rattle.workspace.specs.Returns.{ReturnsFree}
+use Rattle.session.specs.Answered.{unless_misfit}
 use Rattle.session.specs.Learn.{learned_with}
-use Rattle.session.specs.Outcome.{Outcome}
-use Rattle.session.specs.Returns.{ReturnsFree}
 use Rattle.session.proofs.Misfits.{fitting}
 use Rattle.session.proofs.learn.learned_answer.Goals as goal
 

@@ -9,9 +9,9 @@ use Rattle.learned_run.proofs.Unskipped.{learned-bound}
 use Rattle.exec_pipe.proofs.Joins.{on-ok}
 use Rattle.db_catalog.specs.Fits.{Fits}
 use Rattle.db_catalog.proofs.PutBlocks.{put-fits-tables}
+use Rattle.workspace.specs.Outcome.{Outcome}
+use Rattle.workspace.specs.Returns.{ReturnsFree}
 use Rattle.session.specs.Learn.{learned_block_answer}
-use Rattle.session.specs.Outcome.{Outcome}
-use Rattle.session.specs.Returns.{ReturnsFree}
 use Rattle.session.proofs.learn.learned_with.Goals as goal
 
 pub learned_block_answer-requires-clause-fits : goal.learned_block_answer-requires-clause-fits

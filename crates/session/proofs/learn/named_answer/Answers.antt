@@ -10,9 +10,9 @@ use Rattle.bouquet_type.specs.Trees.{bouquet_tree}
 use Rattle.bouquet_run.specs.Outcomes.{works_over}
 use Rattle.learned_run.specs.Skips.{learned_end, skips_of}
 use Rattle.learned_run.specs.declared.learned.Skip.{Skip}
-use Rattle.session.specs.Outcome.{Outcome, Prints, Refuses}
+use Rattle.workspace.specs.Outcome.{Outcome, Prints, Refuses}
+use Rattle.workspace.specs.declared.refusal.Refusal.TheVariants as refusal
 use Rattle.session.specs.Printed.{learned_text}
-use Rattle.session.specs.declared.refusal.Refusal.TheVariants as refusal
 use Rattle.session.proofs.learn.named_answer.Goals as goal
 
 pub returns-in_ok-print_learned-in-Ok : goal.returns-in_ok-print_learned-in-Ok

@@ -1,11 +1,12 @@
 -- The rows, then the lines of skips, then the line below them.
-use Rattle.std.proofs.Common.{◌≡◌, ◌∙◌, ◌++◌, List, ap, append_assoc}
+use Rattle.std.proofs.Common.{◌≡◌, ◌∙◌, ◌++◌, append_assoc}
 use Rattle.std.specs.List.{flat_map}
 use Rattle.query_block.specs.Blocks.{block_tree}
 use Rattle.bouquet_type.specs.Trees.{bouquet_tree}
 use Rattle.bouquet_type.specs.Reports.{told_end}
 use Rattle.result_text.specs.Combined.{printed}
-use Rattle.session.specs.Printed.{header_of, report_line, skip_line}
+use Rattle.workspace.specs.Printed.{header_of}
+use Rattle.session.specs.Printed.{report_line, skip_line}
 use Rattle.session.proofs.learn.print_learned.Goals as goal
 
 pub returns : goal.returns

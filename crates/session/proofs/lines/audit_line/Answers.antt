@@ -1,7 +1,8 @@
 -- The parts of the line, one behind the other.
 use Rattle.std.proofs.Common.{◌≡◌, ◌∙◌, ℕ, List, ◌++◌, ap, append_assoc}
 use Rattle.std.specs.Prelude.{codes, decimal}
-use Rattle.session.specs.Printed.{point_text, yes_or_no}
+use Rattle.workspace.specs.Printed.{point_text}
+use Rattle.session.specs.Printed.{yes_or_no}
 use Rattle.session.proofs.lines.audit_line.Goals as goal
 
 in_turn : (l0 point l1 plans l2 below l3 a l4 b l5 cheapest l6 r l7 work end : List ℕ)

@@ -8,7 +8,8 @@ use Rattle.plan_tree.specs.Plans.{Scan, plan_tree}
 use Rattle.plan_tree.specs.Text.{plan_text_of}
 use Rattle.bouquet_type.specs.Trees.{ContourTree, bouquet_tree, contour_tree}
 use Rattle.bouquet_type.specs.declared.contour.Contour.{Contour}
-use Rattle.session.specs.Printed.{plan_on, point_text}
+use Rattle.workspace.specs.Printed.{point_text}
+use Rattle.session.specs.Printed.{plan_on}
 use Rattle.session.proofs.lines.push_skip.Goals as goal
 
 in_turn : (text l0 number l1 plan l2 point end : List ℕ) → (((((text ++ (l0 ++ number)) ++ l1) ++ plan) ++ l2) ++ point) ++ end ≡ text ++ (l0 ++ (number ++ (l1 ++ (plan ++ (l2 ++ (point ++ end))))))

@@ -1,11 +1,11 @@
 -- The contour has the plan, or it is behind it, or it is the last one.
-use Rattle.std.proofs.Common.{◌≡◌, ◌∙◌, ℕ, ◌+◌, ◌-◌, ◌<◌, ◌≤◌, ◌++◌, List, [], ◌∷◌, drop, length, map, get_or, slice_index_or, sym, ap, subst, arith}
+use Rattle.std.proofs.Common.{◌≡◌, ◌∙◌, ℕ, ◌+◌, ◌-◌, ◌<◌, ◌≤◌, ◌++◌, List, [], ◌∷◌, drop, length, map, get_or, sym, ap, subst, arith}
 use Rattle.std.proofs.lemmas.List.{drop_more, drop_all, get_or-map, length-map}
-use Rattle.plan_tree.specs.Plans.{PlanTree, Scan, plan_tree}
+use Rattle.plan_tree.specs.Plans.{Scan, plan_tree}
 use Rattle.bouquet_type.specs.Budgets.{budget_of}
 use Rattle.bouquet_type.specs.Cursor.{first_attempt}
-use Rattle.bouquet_type.specs.Schedule.{Member, final_of, final_plan, last_plan, members_from, members_on, schedule}
-use Rattle.bouquet_type.specs.Trees.{BouquetTree, ContourTree, bouquet_tree, contour_tree}
+use Rattle.bouquet_type.specs.Schedule.{final_of, final_plan, last_plan, members_from, members_on, schedule}
+use Rattle.bouquet_type.specs.Trees.{ContourTree, bouquet_tree, contour_tree}
 use Rattle.bouquet_type.specs.declared.contour.Contour.{Contour}
 use Rattle.session.proofs.Executed.{behind-contour, final-placed, last-placed, on-contour}
 use Rattle.session.proofs.turn_lines.executed_plan.Goals as goal

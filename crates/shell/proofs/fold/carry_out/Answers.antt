@@ -1,7 +1,7 @@
 -- The statement is done, or its file is written, or it is finished with the file that it asks for.
 use Rattle.std.proofs.Common.{refl}
 use Rattle.sql_parse.specs.Trees.{statement_tree}
-use Rattle.session.specs.States.{world_of}
+use Rattle.workspace.specs.States.{world_of}
 use Rattle.shell.proofs.Carried.{carried_no_room, carried_prints, carried_saves, carried_stops, carried_unread, carried_unsaved, carried_with_file}
 use Rattle.shell.proofs.fold.carry_out.Goals as goal
 

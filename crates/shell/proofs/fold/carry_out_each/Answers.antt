@@ -2,7 +2,7 @@
 use Rattle.std.proofs.Common.{◌+◌, ◌≤◌, map, arith}
 use Rattle.std.proofs.lemmas.List.{length-map}
 use Rattle.sql_parse.specs.Trees.{statement_tree}
-use Rattle.session.specs.States.{world_of}
+use Rattle.workspace.specs.States.{world_of}
 use Rattle.shell.proofs.Carrying.{carried_none, carried_all}
 use Rattle.shell.proofs.Folders.{rose_in}
 use Rattle.shell.proofs.Ends.{ended_at, on_at}

@@ -1,6 +1,6 @@
 use Rattle.std.proofs.Common.{◌*◌, ◌^◌, ◌≤◌, map}
 use Rattle.sql_parse.specs.Trees.{statement_tree}
-use Rattle.session.specs.States.{world_of}
+use Rattle.workspace.specs.States.{world_of}
 use Rattle.shell.proofs.Carrying.{IsCarried}
 use Rattle.shell.proofs.fold.carry_out_each.Given as goal
 

@@ -3,8 +3,8 @@ use Rattle.std.proofs.Common.{◌≡◌, ◌+◌, [], arith}
 use Rattle.std.specs.Prelude.{Ok, Err}
 use Rattle.std.proofs.KnownBytes.{Appends-nil}
 use Rattle.sql_parse.specs.Trees.{statement_tree}
-use Rattle.session.specs.States.{world_of}
-use Rattle.session.specs.declared.stop.Stop.TheVariants as stop
+use Rattle.workspace.specs.States.{world_of}
+use Rattle.workspace.specs.declared.stop.Stop.TheVariants as stop
 use Rattle.shell.specs.Due.{IsCarriedOut}
 use Rattle.shell.specs.declared.status.Status.TheVariants as status
 use Rattle.shell.specs.Due.EndsAt.{breaks}

@@ -6,12 +6,12 @@ use Rattle.std.proofs.lemmas.List.Elements.{All-nil, All-cons, All-append}
 use Rattle.std.proofs.lemmas.Result.{err_from_is_err_and}
 use Rattle.sql_parse.specs.declared.tree.RunDef.{RunDef}
 use Rattle.turns.specs.Standing.{JobTask}
-use Rattle.session.specs.Outcome.{Outcome}
-use Rattle.session.specs.States.{world_of}
-use Rattle.session.specs.Stop.{StopsAt}
+use Rattle.workspace.specs.Outcome.{Outcome}
+use Rattle.workspace.specs.States.{world_of}
+use Rattle.workspace.specs.Stop.{StopsAt}
+use Rattle.workspace.specs.World.{World}
 use Rattle.session.specs.Turns.{at_tasks}
 use Rattle.session.specs.Uses.{IsExecutable, IsUsedWithin, task_of_use}
-use Rattle.session.specs.World.{World}
 use Rattle.session.specs.declared.uses.Used.{Used}
 use Rattle.session.proofs.session.Session.all_used.Goals as goal
 

@@ -1,8 +1,8 @@
 use Rattle.std.proofs.Common.{◌≡◌, ◌++◌, List, drop, length, map, take}
 use Rattle.std.specs.Prelude.{All, ℕ}
 use Rattle.turns.specs.Standing.{JobTask}
-use Rattle.session.specs.Outcome.{Outcome}
-use Rattle.session.specs.States.{world_of}
+use Rattle.workspace.specs.Outcome.{Outcome}
+use Rattle.workspace.specs.States.{world_of}
 use Rattle.session.specs.Turns.{at_tasks}
 use Rattle.session.specs.Uses.{IsExecutable, IsUsedWithin, task_of_use}
 use Rattle.session.proofs.session.Session.all_used.Given as goal

@@ -1,20 +1,19 @@
 -- There are too many, or one isn't present, or a number is none of theirs, or the answer is due.
-use Rattle.std.proofs.Common.{◌≡◌, ◌∙◌, ◌≤◌, ℕ, nat_lt, Bool, true, false, if◌then◌else◌, List, Option, Some, None, length, map, ap, refl, subst, sym, arith}
+use Rattle.std.proofs.Common.{◌≡◌, ◌∙◌, ◌≤◌, ℕ, nat_lt, Bool, true, false, if◌then◌else◌, List, Some, None, length, map, ap, refl, subst, sym, arith}
 use Rattle.std.proofs.lemmas.Bool.{ltb-false}
 use Rattle.std.proofs.lemmas.Option.{none-some}
 use Rattle.std.proofs.lemmas.Result.{err_from_is_err_and}
 use Rattle.sql_parse.specs.declared.tree.RunDef.{RunDef}
 use Rattle.turns.specs.Standing.{JobTask}
-use Rattle.session.specs.Compile.{unless_refused}
-use Rattle.session.specs.Outcome.{Outcome}
-use Rattle.session.specs.States.{world_of}
-use Rattle.session.specs.Returns.{ReturnsFree}
-use Rattle.session.specs.Stop.{StopsAt}
+use Rattle.workspace.specs.Compile.{unless_refused}
+use Rattle.workspace.specs.Outcome.{Outcome}
+use Rattle.workspace.specs.States.{world_of}
+use Rattle.workspace.specs.Returns.{ReturnsFree}
+use Rattle.workspace.specs.Stop.{StopsAt}
+use Rattle.workspace.specs.World.{World}
+use Rattle.workspace.specs.declared.refusal.Refusal.TheVariants as refusal
 use Rattle.session.specs.Turns.{at_tasks, jobs_refusal, max_jobs, turn_refusal, turns_answer, turns_outcome}
 use Rattle.session.specs.Uses.{task_of_use}
-use Rattle.session.specs.World.{World}
-use Rattle.session.specs.declared.refusal.Refusal.{Refusal}
-use Rattle.session.specs.declared.refusal.Refusal.TheVariants as refusal
 use Rattle.session.specs.declared.uses.Used.{Used}
 use Rattle.session.proofs.session.Session.turns.Goals as goal
 
@@ -68,7 +67,7 @@ returns-clause-due c =
     ∙ ap (λ runs. at_tasks max_work world runs go) (sym c.as_slice-runs.ensures)
     ∙ c.in_ok-all.ensures.used.due max_work go
     ∙ ap (λ found. unless_refused found (turns_answer max_work world turns.by (map ask all))) right in
-    let database : world.database ≡ c.self.inside.database = ap (λ one. one.database) (sym c.self.view_is) in
+    let database : world.database ≡ c.database.result.now = ap (λ one. one.database) (sym c.self.view_is) ∙ sym c.database.ensures in
     let same : turns_answer max_work world c.as_slice-by.result.now (map ask c.deref.result.now) ≡ turns_outcome max_work world turns =
     (λ i. turns_answer max_work world (c.as_slice-by.ensures i) (map ask (c.deref.ensures.value i))) ∙ sym due in
     subst (λ due. ReturnsFree due c.turns_answer.result world) same (c.turns_answer.ensures world database)

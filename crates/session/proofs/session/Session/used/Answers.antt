@@ -1,11 +1,8 @@
 -- The bouquet isn't present, or its values don't fit, or it is used with them.
-use Rattle.std.proofs.Common.{◌≡◌, ◌∙◌, ℕ, List, ◌∷◌, Option, Some, None, ap, subst, sym, refl}
+use Rattle.std.proofs.Common.{◌≡◌, ◌∙◌, ℕ, List, ◌∷◌, Some, None, ap, subst, sym, refl}
 use Rattle.std.proofs.lemmas.Result.{err_from_is_err_and}
-use Rattle.std.specs.Prelude.{IfSome}
-use Rattle.query_block.specs.Shape.{BlockShape}
 use Rattle.query_block.specs.Blocks.{BlockTree, block_tree, put_of}
 use Rattle.query_block.specs.Values.{value_fault}
-use Rattle.query_block.specs.declared.values.ValueFault.{ValueFault}
 use Rattle.sql_parse.specs.declared.tree.RunDef.{RunDef}
 use Rattle.db_catalog.specs.Fits.{Fits}
 use Rattle.db_catalog.proofs.PutBlocks.{put-fits-tables}
@@ -14,13 +11,12 @@ use Rattle.bouquet_type.proofs.CompiledSound.{are-sound}
 use Rattle.bouquet_type.proofs.Meets.{bouquet-bound}
 use Rattle.bouquet_run.specs.Outcomes.{works_over}
 use Rattle.turns.specs.Standing.{JobTask}
+use Rattle.workspace.specs.Outcome.{Outcome}
+use Rattle.workspace.specs.States.{world_of}
+use Rattle.workspace.specs.World.{World}
 use Rattle.session.specs.Bounds.{RunsWithinBound}
-use Rattle.session.specs.Bouquets.{unless_misfit}
-use Rattle.session.specs.Outcome.{Outcome}
-use Rattle.session.specs.States.{world_of}
+use Rattle.session.specs.Answered.{unless_misfit}
 use Rattle.session.specs.Turns.{at_tasks, task_with}
-use Rattle.session.specs.Uses.{IsUsedOf}
-use Rattle.session.specs.World.{World}
 use Rattle.session.proofs.Misfits.{fitting, misfitting}
 use Rattle.session.proofs.session.Session.used.Goals as goal
 
@@ -33,11 +29,11 @@ asked max_work world run more go bouquet =
 pub returns-in_err-bouquet-clause-refused : goal.returns-in_err-bouquet-clause-refused
 returns-in_err-bouquet-clause-refused c =
     let stop = err_from_is_err_and c.from_residual.result c.from_residual.ensures.1 in
-    rw (stop.1, stop.2) (λ max_work more go. c.in_err-bouquet.ensures.refused (asked max_work (world_of c.args.self.now) c.args.run.now more go))
+    rw (← c.self.view_is, stop.1, stop.2) (λ max_work more go. c.in_err-bouquet.ensures.refused (asked max_work (world_of c.self.inside.workspace) c.args.run.now more go))
 
 pub returns-in_err-fits_values-clause-refused : goal.returns-in_err-fits_values-clause-refused
 returns-in_err-fits_values-clause-refused c =
-    let world : World = world_of c.args.self.now in
+    let world : World = world_of c.self.inside.workspace in
     let run = c.args.run.now in
     let present = c.in_ok-bouquet.ensures.present in
     let bouquet : BouquetTree = bouquet_tree c.in_ok-bouquet.bouquet.now in
@@ -45,7 +41,7 @@ returns-in_err-fits_values-clause-refused c =
     let misfit : value_fault bouquet.costing.block.parameters run.values ≡ Some fault =
     rw c.as_slice-values.ensures at (misfitting c.as_slice-values.result.now c.in_ok-bouquet.bouquet.now.block c.block.result.now c.block.ensures.block fault c.in_err-fits_values.ensures) in
     let stop = err_from_is_err_and c.from_residual-in_err-fits_values.result c.from_residual-in_err-fits_values.ensures.1 in
-    rw (stop.1, stop.2) (λ max_work more go. (
+    rw (← c.self.view_is, stop.1, stop.2) (λ max_work more go. (
       present.due (asked max_work world run more go)
           ∙ ap (λ found. unless_misfit found (at_tasks max_work world more (λ tasks. go (task_with max_work world run.values bouquet ∷ tasks)))) misfit,
       refl,
@@ -53,7 +49,7 @@ returns-in_err-fits_values-clause-refused c =
 
 pub returns-clause-used : goal.returns-clause-used
 returns-clause-used c =
-    let world : World = world_of c.args.self.now in
+    let world : World = world_of c.self.inside.workspace in
     let run = c.args.run.now in
     let present = c.in_ok-bouquet.ensures.present in
     let shape = c.in_ok-bouquet.bouquet.now in
@@ -70,7 +66,7 @@ returns-clause-used c =
       bound = bouquet-bound shape c.block.ensures.bouquet work;
       sound = are-sound bouquet c.block.ensures.bouquet.costing;
     } in
-    record {
+    rw (← c.self.view_is) (record {
       due = λ max_work more go.
           present.due (asked max_work world run more go)
           ∙ ap (λ found. unless_misfit found (at_tasks max_work world more (λ tasks. go (task_with max_work world run.values bouquet ∷ tasks)))) fit
@@ -80,4 +76,4 @@ returns-clause-used c =
         fits = subst (Fits world.database) (sym put) (put-fits-tables world.database run.values bouquet.costing.block c.in_ok-bouquet.ensures.fits);
       };
       within = rw present.named within;
-    }
+    })

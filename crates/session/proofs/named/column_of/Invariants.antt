@@ -1,6 +1,0 @@
-use Rattle.std.proofs.Common.{take}
-use Rattle.session.proofs.NamedColumns.{AreOthers}
-use Rattle.session.proofs.named.column_of.Given as goal
-
-abbrev pub invariant-loop-number : goal.invariant-loop-number
-invariant-loop-number l = AreOthers l.name (take l.number l.columns)

@@ -1,7 +1,0 @@
--- A database with rows more is grown.
-use Rattle.session.proofs.Growing.{is_loaded}
-use Rattle.session.proofs.session.Session.load_bytes.Goals as goal
-
-pub invariant_of-self-2 : goal.invariant_of-self-2
-invariant_of-self-2 c =
-    is_loaded c.self.inside.database c.load_file.new.db c.args.table c.in_ok-rows.rows c.self.inside.bouquets _ c.in_ok-rows.ensures.loaded c.self.invariant

@@ -1,0 +1,35 @@
+-- What a bouquet answers.
+use Rattle.std.specs.Prelude.{ℕ, nat_le, true, List, Option, Some, None, if◌then◌else◌}
+use Rattle.sql_values.specs.declared.value.Value.{Value}
+use Rattle.query_block.specs.Blocks.{BlockTree, put_of}
+use Rattle.query_block.specs.Values.{value_fault}
+use Rattle.query_block.specs.declared.values.ValueFault.{ValueFault}
+use Rattle.bouquet_type.specs.Trees.{BouquetTree}
+use Rattle.bouquet_type.specs.Runs.{run_end}
+use Rattle.bouquet_run.specs.Outcomes.{works_over}
+use Rattle.workspace.specs.declared.refusal.Refusal.TheVariants as refusal
+use Rattle.workspace.specs.Outcome.{Outcome, Prints, Refuses}
+use Rattle.workspace.specs.World.{World}
+use Rattle.session.specs.Printed.{answer_text}
+
+-- what is due to a statement that puts values in, unless they don't fit the parameters
+abbrev pub unless_misfit : Option ValueFault → Outcome → Outcome
+unless_misfit (Some fault) due = Refuses (refusal.NotFitting fault)
+unless_misfit None due = due
+
+-- the answer on a block, by a run of a bouquet: the block's rows and how the run ends, for the work of the whole run; where that
+-- is more than may be spent it is refused, when so much is spent
+abbrev pub block_answer : (max_work : ℕ) → World → BouquetTree → BlockTree → Outcome
+block_answer max_work world bouquet block =
+    let end = run_end bouquet (works_over world.database block) in
+    if nat_le end.total max_work then Prints (answer_text world.database block end) end.total world
+    else Refuses (refusal.PastWork max_work true)
+
+-- the answer of a bouquet with values that fit: that on its block with them in place of its parameters
+abbrev pub answer_with : (max_work : ℕ) → World → List Value → BouquetTree → Outcome
+answer_with max_work world values bouquet = block_answer max_work world bouquet (put_of values bouquet.costing.block)
+
+-- the answer of a bouquet with values, unless they don't fit
+abbrev pub bouquet_answer : (max_work : ℕ) → World → List Value → BouquetTree → Outcome
+bouquet_answer max_work world values bouquet =
+    unless_misfit (value_fault bouquet.costing.block.parameters values) (answer_with max_work world values bouquet)

@@ -1,0 +1,12 @@
+pub mod Compiling
+pub mod ContourTexts
+pub mod Counting
+pub mod Given
+pub mod Growing
+pub mod LoadLine
+pub mod NamedColumns
+pub mod NamedLists
+pub mod Opening
+pub mod PointTexts
+pub mod Sizes
+pub mod Stopping

@@ -1,0 +1,61 @@
+-- A database with an index more is grown; or the fault is told.
+use Rattle.std.proofs.Common.{◌≡◌, ◌≢◌, ◌∙◌, Some, ap, refl, subst, sym}
+use Rattle.std.specs.Prelude.{⊤}
+use Rattle.std.proofs.lemmas.Result.{err_from_is_err_and}
+use Rattle.db_catalog.specs.Database.{DatabaseState, table_at, table_number, with_index}
+use Rattle.db_catalog.specs.Refused.{index_fault}
+use Rattle.db_catalog.specs.declared.fault.DbFault.{DbFault}
+use Rattle.db_catalog.specs.declared.fault.DbFault.TheVariants as change
+use Rattle.db_catalog.proofs.Growth.{fits_with_index}
+use Rattle.workspace.specs.CreateIndex.{at_column, column_number, create_index_outcome, indexed, make_index}
+use Rattle.workspace.specs.Outcome.{Outcome, Refuses, at_number}
+use Rattle.workspace.specs.States.{world_of}
+use Rattle.workspace.specs.Stop.{StopsAt, stop_of_change}
+use Rattle.workspace.specs.World.{World}
+use Rattle.workspace.specs.contracts.workspace.Workspace.{the_view}
+use Rattle.workspace.specs.declared.refusal.Refusal.TheVariants as refusal
+use Rattle.workspace.proofs.Counting.{grows_with_index}
+use Rattle.workspace.proofs.Growing.{is_grown}
+use Rattle.workspace.proofs.workspace.Workspace.create_index.Goals as goal
+
+pub invariant_of-self-2 : goal.invariant_of-self-2
+invariant_of-self-2 c =
+    let database = c.self.inside.database in
+    let table = c.in-Some.table in
+    let column = c.in-Some-column_of.column in
+    is_grown database c.create_index.new.self (with_index database c.bytes-2.result.now table column) c.self.inside.bouquets c.in_ok-create_index.ensures.created.made
+    (fits_with_index database c.bytes-2.result.now table column) (grows_with_index database c.bytes-2.result.now table column) c.self.invariant
+
+-- want of memory is no other fault
+abbrev TellsOther : DbFault → Type 0
+TellsOther change.NoMemory = ⊥
+TellsOther (change.Limit name value) = ⊤
+TellsOther (change.Duplicate name) = ⊤
+
+other : (fault : DbFault) → TellsOther fault → fault ≢ change.NoMemory
+other fault tells is = subst TellsOther is tells
+
+-- a fault other than of memory is what is due
+stops : (due : Outcome) (fault : DbFault) → (fault ≢ change.NoMemory → due ≡ Refuses (refusal.NotMade fault)) → StopsAt due (stop_of_change fault)
+stops due change.NoMemory refused = tt
+stops due (change.Limit name value) refused = (refused (other (change.Limit name value) tt), refl)
+stops due (change.Duplicate name) refused = (refused (other (change.Duplicate name) tt), refl)
+
+pub returns-in_err-create_index-clause-due : goal.returns-in_err-create_index-clause-due
+returns-in_err-create_index-clause-due c =
+    let index = c.args.index.now in
+    let database : DatabaseState = c.self.inside.database in
+    let world : World = world_of (the_view c.self.inside) in
+    let fault : DbFault = c.in_err-create_index.field-0.0 in
+    let table : table_number database index.table ≡ Some c.in-Some.table =
+    ap (table_number database) (sym c.bytes.ensures) ∙ sym c.table_of.ensures ∙ c.in-Some.is in
+    let column : column_number (table_at database c.in-Some.table).columns index.column ≡ Some c.in-Some-column_of.column =
+    ap (λ columns. column_number columns index.column) (sym c.columns.ensures.columns) ∙ sym c.column_of.ensures.number ∙ c.in-Some-column_of.is in
+    let due : create_index_outcome world index ≡ indexed world index.name c.in-Some.table c.in-Some-column_of.column (index_fault database index.name c.in-Some.table c.in-Some-column_of.column) =
+    ap (at_number index.table (make_index world index)) table
+    ∙ ap (at_column index.column (λ column. indexed world index.name c.in-Some.table column (index_fault database index.name c.in-Some.table column))) column in
+    let refused : fault ≢ change.NoMemory → create_index_outcome world index ≡ Refuses (refusal.NotMade fault) = λ told.
+    due ∙ ap (indexed world index.name c.in-Some.table c.in-Some-column_of.column)
+    (ap (λ name. index_fault database name c.in-Some.table c.in-Some-column_of.column) (sym c.bytes-2.ensures) ∙ c.in_err-create_index.ensures.refuses.refused told) in
+    let stop = err_from_is_err_and c.from_residual.result c.from_residual.ensures.1 in
+    rw (← c.self.view_is, stop.1, stop.2) (stops (create_index_outcome world index) fault refused)
