@@ -12,3 +12,4 @@ pub mod IndexEntries
 pub mod OfRelations
 pub mod Picked
 pub mod PutBlocks
+pub mod ColumnRanges

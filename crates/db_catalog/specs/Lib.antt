@@ -8,3 +8,4 @@ pub mod Recoded
 pub mod Fits
 pub mod Cursors
 pub mod Tables
+pub mod ColumnRanges

@@ -8,6 +8,7 @@
 
 mod batch;
 mod check;
+mod column_range;
 mod columns;
 mod database;
 mod entries;
@@ -22,6 +23,7 @@ mod room;
 mod table;
 
 pub use batch::Batch;
+pub use column_range::{ColumnRange, row_in};
 pub use database::Database;
 pub use fault::DbFault;
 pub use fits::blocks_fit_as_a_database_grows;

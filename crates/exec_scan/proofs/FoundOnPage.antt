@@ -9,7 +9,8 @@ use Rattle.heap_pages.specs.Rows.{row_number, rows_per_page}
 use Rattle.db_catalog.specs.Database.{DatabaseState, table_at}
 use Rattle.db_catalog.specs.Meter.{IsRowIn, page_rows}
 use Rattle.db_catalog.proofs.OfRelations.{relation_values}
-use Rattle.exec_scan.specs.PageRows.{ArePageRows, NonePass, slot_meets, slot_words}
+use Rattle.exec_scan.specs.PageRows.{ArePageRows, NonePass, slot_meets}
+use Rattle.db_catalog.specs.ColumnRanges.{slot_words}
 use Rattle.exec_scan.specs.Reading.{IsFirstRow, IsRelationIn}
 use Rattle.exec_scan.specs.TableReading.{IsTableReader, TableReaderState}
 use Rattle.exec_scan.proofs.Relations.{first-kept, first-of}

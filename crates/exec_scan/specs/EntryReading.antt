@@ -3,8 +3,8 @@ use Rattle.std.specs.Prelude.{◌≡◌, ℕ, ℤ, ◌+◌, ◌*◌, ◌<◌, Li
 use Rattle.sql_values.specs.Stored.{StandsFor}
 use Rattle.work_ledger.specs.Charges.{entry_charge, fetch_charge}
 use Rattle.btree_index.specs.declared.index.Cursor.{Cursor}
-use Rattle.btree_index.specs.Entries.{HaveWords, IndexEntry, IsOn, entries_left, is_within}
-use Rattle.db_catalog.specs.Database.{DatabaseState, StandAsWords, table_at}
+use Rattle.btree_index.specs.Entries.{IndexEntry, IsOn, entries_left, is_within}
+use Rattle.db_catalog.specs.Database.{DatabaseState, table_at}
 use Rattle.db_catalog.specs.Indexes.{index_at, row_of_entry}
 use Rattle.db_catalog.specs.Meter.{MeterState}
 use Rattle.exec_scan.specs.Stepping.{PaysFor}
@@ -35,11 +35,6 @@ abbrev pub ReadsEntry : DatabaseState → (old new : EntryReaderState) → List 
 ReadsEntry database old new words =
     (entry : IndexEntry) × (entries_ahead database old ≡ entry ∷ entries_ahead database new)
     × StandsFor database.texts (table_at database old.table).columns words (row_of_entry database old.table entry)
-
--- the entries of an index have words, and so has each row of the table
-pub record IsIndexOfWords (database : DatabaseState) (table column : ℕ) : Type 0 where
-  pub entries : HaveWords (index_at database table column)
-  pub rows : StandAsWords database table
 
 -- it reads on in its index: only where it is among the entries changes, and once it has descended it stands among them
 pub record ReadsOn (database : DatabaseState) (old new : EntryReaderState) : Type 0 where

@@ -1,16 +1,12 @@
 -- The rows on a page, by their slots, and which of them is the first that passes a test.
-use Rattle.std.specs.Prelude.{◌≡◌, ℕ, ℤ, pos, ◌+◌, ◌*◌, ◌<◌, ◌≤◌, Bool, true, false, List, Option, Some, None, IfSome, FitsSigned, length, take, drop, slice_index_or}
+use Rattle.std.specs.Prelude.{◌≡◌, ℕ, ℤ, pos, ◌+◌, ◌*◌, ◌<◌, ◌≤◌, Bool, true, false, List, Option, Some, None, IfSome, FitsSigned, length, slice_index_or}
 use Rattle.std.specs.Int.{w64}
 use Rattle.sql_values.specs.declared.column.ColumnType.{ColumnType}
 use Rattle.sql_values.specs.Stored.{values_of}
 use Rattle.query_block.specs.Blocks.{RelationTree}
 use Rattle.query_block.specs.Meaning.{meets_filter}
-use Rattle.exec_scan.specs.declared.column_range.ColumnRange.{ColumnRange}
-use Rattle.exec_scan.specs.ColumnRanges.{AreStored, has_word}
-
--- the words of the row in a slot, where rows of so many words follow one another
-abbrev pub slot_words : (page : List ℤ) → (width slot : ℕ) → List ℤ
-slot_words page width slot = take width (drop (slot * width) page)
+use Rattle.db_catalog.specs.declared.column_range.ColumnRange.{ColumnRange}
+use Rattle.db_catalog.specs.ColumnRanges.{AreStored, has_word, slot_words}
 
 -- rows in so many slots, each of which may stand in columns of these kinds
 pub record ArePageRows (texts : List (List ℕ)) (kinds : List ColumnType) (slots : ℕ) (page : List ℤ) : Type 0 where

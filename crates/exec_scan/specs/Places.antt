@@ -1,19 +1,12 @@
 -- Where a relation's rows and words stand among those of all relations of a block.
 use Rattle.std.specs.Prelude.{◌≡◌, ℕ, ℤ, ◌+◌, ◌<◌, List, [], length, map, take, drop, slice_set}
 use Rattle.sql_values.specs.Stored.{ValueRow}
-use Rattle.query_block.specs.Blocks.{RelationTree, BlockTree, IsBlock, IsRelation, relation_at, offset_of}
+use Rattle.query_block.specs.Blocks.{RelationTree, BlockTree, relation_at, offset_of}
 use Rattle.query_block.specs.Meaning.{Combination}
-use Rattle.exec_scan.specs.declared.relation_place.RelationPlace.{RelationPlace}
 
 -- a row in the place of its relation; of the others, the row without values
 abbrev pub placed_row : List RelationTree → (number : ℕ) → ValueRow → Combination
 placed_row relations number row = slice_set (map (λ _. []) relations) number row
-
--- this is the relation of a number in a block, and both are well-formed
-pub record IsRelationOf (tree : BlockTree) (number : ℕ) (own : RelationTree) : Type 0 where
-  pub relation : own ≡ relation_at tree.relations number
-  pub allowed : IsRelation tree.parameters own
-  pub block : IsBlock tree
 
 -- the table, the number of columns and their place are those of a relation of the block
 pub record AreOfRelation (block : BlockTree) (relation table columns offset : ℕ) : Type 0 where
@@ -21,11 +14,6 @@ pub record AreOfRelation (block : BlockTree) (relation table columns offset : �
   pub table_is : table ≡ (relation_at block.relations relation).table
   pub columns_are : columns ≡ length (relation_at block.relations relation).columns
   pub offset_is : offset ≡ offset_of block relation
-
--- so a relation's place says where its words stand
-pub record IsPlaceOf (block : BlockTree) (number : ℕ) (place : RelationPlace) : Type 0 where
-  pub relation : place.relation ≡ number
-  pub numbers : AreOfRelation block number (relation_at block.relations number).table place.columns place.offset
 
 -- the words of the other relations in a row of all stay as they are, and the row is as wide
 pub record KeepsOtherWords (block : BlockTree) (relation : ℕ) (old new : List ℤ) : Type 0 where

@@ -5,7 +5,6 @@ use Rattle.work_ledger.specs.Charges.{entry_charge, fetch_charge, node_charge, o
 use Rattle.sql_values.specs.Stored.{StoredTable, ValueRow, values_of}
 use Rattle.query_block.specs.Blocks.{IsRelation, RelationTree}
 use Rattle.query_block.specs.Meaning.{meets_filter}
-use Rattle.plan_tree.specs.Usable.{is_fixed_usable}
 use Rattle.plan_tree.specs.Work.{index_scan_work, scan_work, table_rows}
 use Rattle.plan_tree.specs.Left.{Left}
 use Rattle.btree_index.specs.declared.index.Cursor.{Cursor}
@@ -14,12 +13,13 @@ use Rattle.db_catalog.specs.Database.{DatabaseState}
 use Rattle.db_catalog.specs.Fits.{FitsTable}
 use Rattle.db_catalog.specs.Indexes.{index_at, index_height, row_of_entry}
 use Rattle.db_catalog.specs.Meter.{MeterState}
-use Rattle.exec_scan.specs.declared.column_range.ColumnRange.{ColumnRange}
+use Rattle.db_catalog.specs.declared.column_range.ColumnRange.{ColumnRange}
+use Rattle.db_catalog.specs.ColumnRanges.{AreStored}
 use Rattle.exec_scan.specs.declared.way.Way.{Way}
 use Rattle.exec_scan.specs.declared.way.Way.TheVariants as way
-use Rattle.exec_scan.specs.ColumnRanges.{AreStored, IsKnownOf}
+use Rattle.exec_scan.specs.ColumnRanges.{IsKnownOf, is_wanted}
 use Rattle.exec_scan.specs.EntryReading.{EntryReaderState, IsReaderOf, entries_at}
-use Rattle.exec_scan.specs.TableReading.{IsTableReader, TableReaderState, table_ahead, table_due}
+use Rattle.exec_scan.specs.TableReading.{IsTableReader, table_ahead, table_due}
 
 -- the table whose rows are read
 abbrev pub table_of : Way → ℕ
@@ -35,10 +35,6 @@ column_of (way.Index reader) = Some reader.column
 abbrev pub known_of : Way → Option ColumnRange
 known_of (way.Table table) = table.known
 known_of (way.Index reader) = None
-
--- whether a row meets every conjunct of the filter that has no parameter and that an index on the column can use
-abbrev pub is_wanted : RelationTree → (column : ℕ) → ValueRow → Bool
-is_wanted own column row = meets_filter (filter (is_fixed_usable own.columns column) own.filter) row
 
 -- of the entries of an index those that are still to be read: before the descent the wanted ones, then those ahead
 abbrev pub entries_to_read : (IndexEntry → Bool) → List IndexEntry → Option Cursor → List IndexEntry
@@ -104,13 +100,6 @@ abbrev pub LendsFirst : {T E : Type 0} → (texts : List (List ℕ)) → Relatio
 LendsFirst texts own old new left result words_of =
     IfOk result (λ found.
     MatchOption found ((old ≡ []) × (new ≡ []) × (left.due ≡ 0)) (λ lent. IsFirstRow texts own old new (words_of lent)))
-
--- a look at the page that is opened last lends the first of the rows of a table that meet the filter; or none of these is on
--- it, and all its rows are looked at
-abbrev pub FindsOnPage : {T : Type 0} → DatabaseState → RelationTree → (old new : TableReaderState) → Option T → (words_of : T → List ℤ) → Type 0
-FindsOnPage database own old new found words_of =
-    let kept = λ (reader : TableReaderState). filter (meets_filter own.filter) (table_ahead database reader) in
-    MatchOption found ((kept new ≡ kept old) × (new.slot ≡ new.slots)) (λ lent. IsFirstRow database.texts own (kept old) (kept new) (words_of lent))
 
 -- so it lends the first of the rows ahead on a way that meet the filter
 abbrev pub LendsKept : {T E : Type 0} → MeterState → RelationTree → (old new : Way) → Result (Option T) E → (words_of : T → List ℤ) → Type 0

@@ -9,16 +9,10 @@ ghost use Rattle.query_block.specs.Blocks.{IsRelation, relation_tree};
 ghost use Rattle.exec_scan.specs.ColumnRanges.{IsFirstUsable, IsKnownOf};
 ghost use Rattle.exec_scan.specs.PageRows.{AreKnownWords, IsFirstSlot, may_meet};
 
-use plan_tree::{WordRange, has_usable, range_of};
+use db_catalog::ColumnRange;
+use plan_tree::{has_usable, range_of};
 use query_block::Relation;
 use sql_values::{NULL_WORD, Texts};
-
-/// A column, and the words that it may have in a row that meets a relation's filter. NULL's is none of them.
-#[derive(Clone, Copy)]
-pub(crate) struct ColumnRange {
-    column: u8,
-    range: WordRange,
-}
 
 // The first column by which an index could find the rows that meet a relation's filter.
 fn usable_column(relation: &Relation) -> Option<u8>
@@ -35,51 +29,51 @@ fn usable_column(relation: &Relation) -> Option<u8>
     None
 }
 
-impl ColumnRange {
-    /// The words of the first column by which an index could find the rows that meet a relation's filter. None where there
-    /// is no such column.
-    pub(crate) fn of(relation: &Relation, texts: &Texts) -> Option<ColumnRange>
-        requires { IsRelation [] (relation_tree relation.now) }
-        ensures known { IsKnownOf texts.now (relation_tree relation.now) result }
-        ensures first { IsFirstUsable (relation_tree relation.now)
-            (option_map (λ found. found.column) result) }
-    {
-        let column = usable_column(relation)?;
-        Some(ColumnRange {
-            column,
-            range: range_of(column, relation.filter.as_slice(), texts),
-        })
-    }
+/// The words of the first column by which an index could find the rows that meet a relation's filter. None where there is no
+/// such column.
+pub(crate) fn known_range(relation: &Relation, texts: &Texts) -> Option<ColumnRange>
+    requires { IsRelation [] (relation_tree relation.now) }
+    ensures known { IsKnownOf texts.now (relation_tree relation.now) result }
+    ensures first { IsFirstUsable (relation_tree relation.now)
+        (option_map (λ found. found.column) result) }
+{
+    let column = usable_column(relation)?;
+    let range = range_of(column, relation.filter.as_slice(), texts);
+    Some(ColumnRange {
+        column,
+        from: range.from,
+        to: range.to,
+    })
+}
 
-    // The least word that may be one of them. NULL's is less than any other.
-    fn least(self) -> i64
-        ensures { (word : ℤ) → FitsSigned w64 word
-            → int_le result word ≡ (not (int_eq word null_word) && int_le self.range.from word) }
-    {
-        self.range.from.max(NULL_WORD + 1)
-    }
+// The least word that may be one of them. NULL's is less than any other.
+fn least(found: ColumnRange) -> i64
+    ensures { (word : ℤ) → FitsSigned w64 word
+        → int_le result word ≡ (not (int_eq word null_word) && int_le found.from word) }
+{
+    found.from.max(NULL_WORD + 1)
+}
 
-    // The first slot from `slot` on whose row has one of these words in the column, or `slots` where none has. Each row has
-    // `width` words.
-    fn next_within(self, page: &[i64], width: usize, slot: usize, slots: usize) -> usize
-        requires column { self.column < width }
-        requires filled { length page.now ≡ slots * width }
-        requires slot { slot ≤ slots }
-        ensures first { IsFirstSlot (may_meet (Some self) page.now width) slot slots result }
-        ensures words { AreKnownWords (Some self) page.now width slot result }
-    {
-        let column = usize::from(self.column);
-        let least = self.least();
-        let greatest = self.range.to;
-        for at in slot..slots {
-            let word = page[at * width + column];
-            // Both tests, then one jump: where few rows pass it is seldom mispredicted.
-            if (least <= word) & (word <= greatest) {
-                return at;
-            }
+// The first slot from `slot` on whose row has one of these words in the column, or `slots` where none has. Each row has
+// `width` words.
+fn next_within(found: ColumnRange, page: &[i64], width: usize, slot: usize, slots: usize) -> usize
+    requires column { found.column < width }
+    requires filled { length page.now ≡ slots * width }
+    requires slot { slot ≤ slots }
+    ensures first { IsFirstSlot (may_meet (Some found) page.now width) slot slots result }
+    ensures words { AreKnownWords (Some found) page.now width slot result }
+{
+    let column = usize::from(found.column);
+    let least = least(found);
+    let greatest = found.to;
+    for at in slot..slots {
+        let word = page[at * width + column];
+        // Both tests, then one jump: where few rows pass it is seldom mispredicted.
+        if (least <= word) & (word <= greatest) {
+            return at;
         }
-        slots
     }
+    slots
 }
 
 /// The first slot from `slot` on whose row may meet a relation's filter, by the words that are known of the rows that do; or
@@ -99,6 +93,6 @@ pub(crate) fn next_candidate(
 {
     match known {
         None => slot,
-        Some(found) => found.next_within(page, width, slot, slots),
+        Some(found) => next_within(found, page, width, slot, slots),
     }
 }

@@ -2,9 +2,11 @@
 // the meter for entries and rows, and fetches the row of an entry once.
 ghost use Rattle.std.specs.Prelude.{◌≡◌, ◌↔◌, ◌*◌, IsSome, IsTrue, None};
 ghost use Rattle.work_ledger.specs.Charges.{node_charge};
-ghost use Rattle.db_catalog.specs.Indexes.{index_height};
+ghost use Rattle.btree_index.specs.Entries.{HaveWords};
+ghost use Rattle.db_catalog.specs.Database.{StandAsWords};
+ghost use Rattle.db_catalog.specs.Indexes.{index_at, index_height};
 ghost use Rattle.db_catalog.specs.Meter.{Reads};
-ghost use Rattle.exec_scan.specs.EntryReading.{Descends, IsIndexOfWords, IsReaderOf, ReadsNext};
+ghost use Rattle.exec_scan.specs.EntryReading.{Descends, IsReaderOf, ReadsNext};
 
 use btree_index::Cursor;
 use db_catalog::Metered;
@@ -64,7 +66,8 @@ impl EntryReader {
     pub fn descend(&mut self, from: i64, to: i64, meter: &mut Metered<'_>) -> Result<(), Exhausted>
         requires { IsReaderOf meter.old.database self.old }
         ensures descends { Descends meter.old.database from to self.old self.new result }
-        ensures words { IsIndexOfWords meter.old.database self.old.table self.old.column }
+        ensures words { HaveWords (index_at meter.old.database self.old.table self.old.column) }
+        ensures rows { StandAsWords meter.old.database self.old.table }
         ensures reads { Reads
             (node_charge * index_height meter.old.database self.old.table self.old.column)
             meter.old meter.new result }

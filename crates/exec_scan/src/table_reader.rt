@@ -1,15 +1,15 @@
 // The rows of a whole table, page after page. It relies on the meter to open each page for pay, that of all rows on it, and
 // never looks at a row twice.
-ghost use Rattle.std.specs.Prelude.{◌≡◌, IfOk};
+ghost use Rattle.std.specs.Prelude.{◌≡◌, IfOk, MatchOption, filter};
 ghost use Rattle.query_block.specs.Blocks.{relation_tree};
+ghost use Rattle.query_block.specs.Meaning.{meets_filter};
 ghost use Rattle.exec_scan.specs.ColumnRanges.{IsKnownOf};
-ghost use Rattle.exec_scan.specs.Reading.{FindsOnPage, IsRelationIn};
+ghost use Rattle.exec_scan.specs.Reading.{IsFirstRow, IsRelationIn};
 ghost use Rattle.exec_scan.specs.Stepping.{PaysFor};
-ghost use Rattle.exec_scan.specs.TableReading.{HasTable, IsTableReader, OpensNext, ReadsTableOn, StartsTable, table_due};
+ghost use Rattle.exec_scan.specs.TableReading.{HasTable, IsTableReader, OpensNext, ReadsTableOn, StartsTable, TableReaderState, table_ahead, table_due};
 
-use crate::column_range::ColumnRange;
-use crate::page_rows::{next_kept, row_in};
-use db_catalog::Metered;
+use crate::page_rows::{Wanted, next_kept};
+use db_catalog::{ColumnRange, Metered, row_in};
 use query_block::Relation;
 use std::marker::Model;
 use work_ledger::Exhausted;
@@ -89,8 +89,12 @@ impl TableReader {
         requires relation { IsRelationIn meter.now.database (relation_tree relation.now) }
         requires table { self.old.table ≡ relation.now.table }
         requires known { IsKnownOf meter.now.database.texts (relation_tree relation.now) known }
-        ensures row { FindsOnPage meter.now.database (relation_tree relation.now)
-            self.old self.new result (λ words. words.now) }
+        ensures row { let own = relation_tree relation.now in
+            let kept = λ (reader : TableReaderState). filter (meets_filter own.filter)
+            (table_ahead meter.now.database reader) in
+            MatchOption result ((kept self.new ≡ kept self.old) × (self.new.slot ≡ self.new.slots))
+            (λ lent. IsFirstRow meter.now.database.texts own (kept self.old) (kept self.new)
+            lent.now) }
         ensures stays { self.new ≡ record self.old { slot = self.new.slot } }
         ensures reader { IsTableReader meter.now.database self.new }
     {
@@ -98,7 +102,13 @@ impl TableReader {
             return None;
         }
         let page = meter.opened_page(self.table, self.page);
-        let found = next_kept(relation, known, meter.texts(), page, self.slot, self.slots);
+        let texts = meter.texts();
+        let wanted = Wanted {
+            relation,
+            known,
+            texts,
+        };
+        let found = next_kept(&wanted, page, self.slot, self.slots);
         if found == self.slots {
             self.slot = found;
             return None;

@@ -9,10 +9,10 @@ ghost use Rattle.exec_scan.specs.Reading.{read_due, wanted_due, wanted_entries, 
 ghost use Rattle.exec_scan.specs.Stepping.{PaysFor};
 ghost use Rattle.exec_scan.specs.declared.way.Way.TheVariants.{Index, Table};
 
-use crate::column_range::ColumnRange;
+use crate::column_range::known_range;
 use crate::entry_reader::EntryReader;
 use crate::table_reader::TableReader;
-use db_catalog::Metered;
+use db_catalog::{ColumnRange, Metered};
 use plan_tree::range_of;
 use query_block::{Relation, meets_filter};
 use work_ledger::Exhausted;
@@ -138,7 +138,7 @@ impl Way {
         match column {
             None => Way::Table(TableWay {
                 reader: TableReader::new(relation.table, meter),
-                known: ColumnRange::of(relation, meter.texts()),
+                known: known_range(relation, meter.texts()),
             }),
             Some(column) => Way::Index(EntryReader::new(relation.table, column)),
         }

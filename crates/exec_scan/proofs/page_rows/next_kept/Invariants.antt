@@ -6,7 +6,7 @@ use Rattle.exec_scan.proofs.page_rows.next_kept.Given as goal
 -- no slot passed has a row that meets the filter
 abbrev pub invariant-loop-at : goal.invariant-loop-at
 invariant-loop-at l = record {
-  before : NonePass (slot_meets l.texts (relation_tree l.relation) l.page) l.slot l.at;
+  before : NonePass (slot_meets l.fn.wanted.texts.now (relation_tree l.fn.wanted.relation.now) l.page) l.slot l.at;
   within : l.at ≤ l.slots;
 }
 

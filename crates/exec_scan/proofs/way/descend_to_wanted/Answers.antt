@@ -15,7 +15,7 @@ returns-clause-entries c =
     let led = simp to_z-of_z at c.in_ok-descend.ensures.descends.entries in
     let finds = rw (c.as_slice.ensures, c.texts.ensures, c.column.ensures) at (c.range_of-range.ensures [] own.columns) in
     descended c.args.meter.now.database own c.requires.way.relation.fits c.args.reader.now c.descend.new.self range c.requires.way.table none c.in_ok-descend.ensures.descends.descended (finds c.requires.way.relation.allowed.filter)
-    c.descend.ensures.words.entries c.descend.ensures.words.rows led
+    c.descend.ensures.words c.descend.ensures.rows led
 
 pub returns-clause-pays : goal.returns-clause-pays
 returns-clause-pays c =

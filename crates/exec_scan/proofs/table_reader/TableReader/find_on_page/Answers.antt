@@ -8,7 +8,7 @@ next_kept-found-requires-clause-rows c =
     let database = c.args.meter.now.database in
     let own = relation_tree c.args.relation.now in
     let some : 0 < c.self.inside.slots = search rules in
-    rw c.texts.ensures
+    rw c.texts-texts.ensures
     (are-rows database own c.requires.relation _ (rw (← c.self.view_is) at c.requires.reader) (rw (← c.self.view_is) at c.requires.table)
     c.opened_page-page.result.now c.opened_page-page.ensures.filled c.opened_page-page.ensures.rows some)
 
@@ -16,7 +16,7 @@ pub returns-then-found-self-clause-row : goal.returns-then-found-self-clause-row
 returns-then-found-self-clause-row c =
     let database = c.args.meter.now.database in
     let own = relation_tree c.args.relation.now in
-    let first = rw c.texts.ensures at c.next_kept-found.ensures in
+    let first = rw c.texts-texts.ensures at c.next_kept-found.ensures in
     rw (← c.self.view_is) (
       passed database own c.requires.relation _ (rw (← c.self.view_is) at c.requires.reader) (rw (← c.self.view_is) at c.requires.table)
           c.opened_page-page.result.now c.opened_page-page.ensures.filled c.opened_page-page.ensures.rows c.self.inside.slot c.next_kept-found.result first.within first.before,
@@ -34,7 +34,7 @@ pub returns-clause-row : goal.returns-clause-row
 returns-clause-row c =
     let database = c.args.meter.now.database in
     let own = relation_tree c.args.relation.now in
-    let first = rw c.texts.ensures at c.next_kept-found.ensures in
+    let first = rw c.texts-texts.ensures at c.next_kept-found.ensures in
     let below : c.next_kept-found.result < c.self.inside.slots = search rules in
     rw (← c.self.view_is, c.row_in.ensures, c.as_slice.ensures)
     (found database own c.requires.relation _ (rw (← c.self.view_is) at c.requires.reader) (rw (← c.self.view_is) at c.requires.table)

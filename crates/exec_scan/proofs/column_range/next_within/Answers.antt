@@ -4,8 +4,8 @@ use Rattle.std.proofs.Math.Nat.{mul-le-mul_right}
 use Rattle.exec_scan.specs.PageRows.{NonePass, may_meet}
 use Rattle.exec_scan.proofs.ColumnRanges.{has-tested}
 use Rattle.exec_scan.proofs.PageRows.{one-fails, one-more}
-use Rattle.exec_scan.proofs.column_range.ColumnRange.next_within.Goals as goal
-use Rattle.exec_scan.proofs.column_range.ColumnRange.next_within.Goals.{In-loop-at, After-loop-at}
+use Rattle.exec_scan.proofs.column_range.next_within.Goals as goal
+use Rattle.exec_scan.proofs.column_range.next_within.Goals.{In-loop-at, After-loop-at}
 
 -- the words of a slot are there
 inside : (c : In-loop-at) → c.loop-at.at * c.args.width + c.args.width ≤ length c.args.page.now
@@ -25,25 +25,25 @@ bounds-page-at c = omega (arith, inside c, c.from-column.ensures, c.requires.col
 pub loop-at-preserved : goal.loop-at-preserved
 loop-at-preserved c =
     let at = c.loop-at.at in
-    let word = slice_index_or c.args.page.now (at * c.args.width + c.args.self.column) (pos 0) in
+    let word = slice_index_or c.args.page.now (at * c.args.width + c.args.found.column) (pos 0) in
     let here : FitsSigned w64 word = search rules in
-    let not_both : (int_le c.least-least.result word && int_le word c.args.self.range.to) ≡ false = search rules in
+    let not_both : (int_le c.least-least.result word && int_le word c.args.found.to) ≡ false = search rules in
     record {
-      before = one-fails (may_meet (Some c.args.self) c.args.page.now c.args.width) c.args.slot at c.loop-at.invariant.before
-          (has-tested c.args.self c.least-least.result word (c.least-least.ensures word here) ∙ not_both);
-      words = one-more (λ slot. FitsSigned w64 (slice_index_or c.args.page.now (slot * c.args.width + c.args.self.column) (pos 0))) c.args.slot at c.loop-at.invariant.words here;
+      before = one-fails (may_meet (Some c.args.found) c.args.page.now c.args.width) c.args.slot at c.loop-at.invariant.before
+          (has-tested c.args.found c.least-least.result word (c.least-least.ensures word here) ∙ not_both);
+      words = one-more (λ slot. FitsSigned w64 (slice_index_or c.args.page.now (slot * c.args.width + c.args.found.column) (pos 0))) c.args.slot at c.loop-at.invariant.words here;
     }
 
 pub returns-then-least-word-clause-first : goal.returns-then-least-word-clause-first
 returns-then-least-word-clause-first c =
     let at = c.loop-at.at in
-    let word = slice_index_or c.args.page.now (at * c.args.width + c.args.self.column) (pos 0) in
+    let word = slice_index_or c.args.page.now (at * c.args.width + c.args.found.column) (pos 0) in
     let here : FitsSigned w64 word = search rules in
-    let both : (int_le c.least-least.result word && int_le word c.args.self.range.to) ≡ true = search rules in
+    let both : (int_le c.least-least.result word && int_le word c.args.found.to) ≡ true = search rules in
     record {
       before = c.loop-at.invariant.before;
       within = omega (arith, c.loop-at-test.true);
-      passes = λ below. has-tested c.args.self c.least-least.result word (c.least-least.ensures word here) ∙ both;
+      passes = λ below. has-tested c.args.found c.least-least.result word (c.least-least.ensures word here) ∙ both;
     }
 
 pub returns-then-least-word-clause-words : goal.returns-then-least-word-clause-words
@@ -55,7 +55,7 @@ ended c = omega (arith, c.loop-at-test.false, c.loop-at.auto.at-end c.requires.s
 
 pub returns-clause-first : goal.returns-clause-first
 returns-clause-first c = record {
-  before = subst (NonePass (may_meet (Some c.args.self) c.args.page.now c.args.width) c.args.slot) (ended c) c.loop-at.invariant.before;
+  before = subst (NonePass (may_meet (Some c.args.found) c.args.page.now c.args.width) c.args.slot) (ended c) c.loop-at.invariant.before;
   within = omega arith;
   passes = λ below. absurd (omega (arith, below));
 }
