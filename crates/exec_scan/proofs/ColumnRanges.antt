@@ -1,6 +1,6 @@
 -- A row that meets a relation's filter has one of the words that are known of these rows; so a slot of a page without one of
 -- them may be passed.
-use Rattle.std.proofs.Common.{◌≡◌, ℕ, ℤ, pos, ◌+◌, ◌*◌, ◌<◌, ◌≤◌, ◌&&◌, Bool, true, false, All, List, [], ◌∷◌, Option, Some, None, drop, filter, length, FitsSigned, w64, refl, sym, ap, subst, ◌∙◌, arith}
+use Rattle.std.proofs.Common.{◌≡◌, ℕ, ℤ, pos, ◌+◌, ◌*◌, ◌≤◌, ◌&&◌, Bool, true, false, All, List, [], ◌∷◌, Option, Some, None, drop, filter, length, FitsSigned, w64, refl, sym, ap, subst, ◌∙◌, arith}
 use Rattle.std.specs.Prelude.{int_le, not, slice_index_or}
 use Rattle.std.specs.List.{list_any}
 use Rattle.std.specs.Ordering.{int_eq}
