@@ -28,15 +28,15 @@ use Rattle.db_catalog.proofs.IndexEntries.{found-rows}
 use Rattle.db_catalog.proofs.OfRelations.{relation_words, relation_values}
 use Rattle.db_catalog.proofs.Picked.{in-range}
 use Rattle.table_stats.specs.Narrow.{uses_some}
-use Rattle.table_stats.specs.Ready.{IsOwnRow}
+use Rattle.db_catalog.specs.ColumnRanges.{AreStored}
 use Rattle.table_stats.proofs.Fixed.{fixed-part}
 
 -- the words of a row of a relation's table may be tried
 pub own-row : (database : DatabaseState) (own : RelationTree) → FitsTable database own → (words : List ℤ) (row : ValueRow)
-    → StandsFor database.texts (table_at database own.table).columns words row → IsOwnRow database.texts own.columns words
+    → StandsFor database.texts (table_at database own.table).columns words row → AreStored database.texts own.columns words
 own-row database own fits words row stands = record {
   allowed = relation_words database own fits words row stands;
-  own = stands.by_value ∙ ap (map (word_of database.texts)) (sym (relation_values database own fits words row stands));
+  by_value = stands.by_value ∙ ap (map (word_of database.texts)) (sym (relation_values database own fits words row stands));
 }
 
 -- ---- one row more

@@ -20,7 +20,7 @@ use Rattle.plan_tree.proofs.MetParts.{meets-some}
 use Rattle.cost_model.specs.declared.stats.IndexStats.{IndexStats}
 use Rattle.cost_model.specs.Counts.{index_stats_of}
 use Rattle.db_catalog.proofs.IndexEntries.{followed}
-use Rattle.table_stats.specs.Narrow.{AreColumns, TellsAll}
+use Rattle.table_stats.specs.Narrow.{TellsAll}
 use Rattle.table_stats.proofs.Fixed.{fixed-usable}
 
 module _ (tables : List StoredTable) (relation : RelationTree) (columns : List IndexStats) (are : columns ≡ map (index_stats_of tables relation) relation.indexes) where
@@ -76,7 +76,7 @@ module _ (tables : List StoredTable) (relation : RelationTree) (columns : List I
 
   -- ---- the columns of the counts
 
-  pub columns-there : All (λ column. column < length relation.columns) relation.indexes → AreColumns relation columns
+  pub columns-there : All (λ column. column < length relation.columns) relation.indexes → All (λ index. index.column < length relation.columns) columns
   columns-there all place d below =
       let is = of-index (get_or columns place d) (place, below, get_or_default columns place (get_or columns place d) d below) in
       All-contains (λ column. column < length relation.columns) relation.indexes (get_or columns place d).column all is.indexed

@@ -1,12 +1,9 @@
 -- Over which database a filter is ready, and the rows that it is tried on.
-use Rattle.std.specs.Prelude.{◌≡◌, ℕ, ◌≤◌, List, drop, length, take}
+use Rattle.std.specs.Prelude.{◌≡◌, ◌≤◌, length}
 use Rattle.sql_values.specs.Limits.{max_rows}
-use Rattle.sql_values.specs.Stored.{ValueRow}
-use Rattle.heap_pages.specs.Rows.{row_number}
 use Rattle.query_block.specs.Blocks.{RelationTree}
 use Rattle.db_catalog.specs.Database.{DatabaseState, table_at}
 use Rattle.db_catalog.specs.Fits.{FitsTable}
-use Rattle.db_catalog.specs.Meter.{page_rows}
 use Rattle.table_stats.specs.declared.filter.ReadyFilter.{ReadyFilter}
 use Rattle.table_stats.specs.Ready.{IsOfBlock, IsReadyFilter, own}
 
@@ -21,9 +18,3 @@ pub record IsOver (database : DatabaseState) (filter : ReadyFilter) : Type 0 whe
   pub fits : FitsTable database (own filter)
   pub texts : filter.texts.now ≡ database.texts
   pub few : length (table_at database (own filter).table).rows ≤ max_rows
-
--- the rows on a page of a table
-abbrev pub rows_on : DatabaseState → (number page : ℕ) → List ValueRow
-rows_on database number page =
-    let table = table_at database number in
-    take (page_rows database number page) (drop (row_number (length table.columns) page 0) table.rows)

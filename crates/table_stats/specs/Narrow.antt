@@ -1,5 +1,5 @@
 -- What the counts of indexes tell of the fixed conjuncts of a filter.
-use Rattle.std.specs.Prelude.{◌≡◌, ◌<◌, ℕ, All, Bool, Contains, IsTrue, List, Some, length}
+use Rattle.std.specs.Prelude.{◌≡◌, ℕ, Bool, Contains, IsTrue, List, Some}
 use Rattle.std.specs.List.{list_all, list_any}
 use Rattle.query_block.specs.Blocks.{RelationTree}
 use Rattle.query_block.specs.Parameters.{fixed_of}
@@ -13,15 +13,6 @@ uses_some relation column = list_any (is_usable relation.columns column) (fixed_
 -- every fixed conjunct is usable on the column
 abbrev pub uses_all : RelationTree → (column : ℕ) → Bool
 uses_all relation column = list_all (is_usable relation.columns column) (fixed_of relation.filter)
-
--- the counts are of columns of the relation
-abbrev pub AreColumns : RelationTree → List IndexStats → Type 0
-AreColumns relation columns = All (λ index. index.column < length relation.columns) columns
-
--- the counts are among these, and some fixed conjunct is usable on the column: the index leads to every kept row
-pub record LeadsToKept (relation : RelationTree) (columns : List IndexStats) (index : IndexStats) : Type 0 where
-  pub there : Contains columns index
-  pub usable : IsTrue (uses_some relation index.column)
 
 -- so many matches has one of these, on whose column every fixed conjunct is usable
 pub record TellsAll (relation : RelationTree) (columns : List IndexStats) (matches : ℕ) : Type 0 where

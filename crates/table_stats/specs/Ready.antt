@@ -1,37 +1,23 @@
 -- A filter whose fixed conjuncts are made ready for many rows: of each the words of a column by which it is true, where an
 -- index could find them.
-use Rattle.std.specs.Prelude.{◌≡◌, ℕ, ℤ, ◌<◌, All, Bool, Contains, IsTrue, List, [], length, map, Option, Some, None}
+use Rattle.std.specs.Prelude.{◌≡◌, ℕ, ℤ, All, Bool, Contains, IfSome, List, [], map, Option, Some, None}
 use Rattle.sql_values.specs.declared.column.ColumnType.{ColumnType}
-use Rattle.sql_values.specs.Words.{word_of}
-use Rattle.sql_values.specs.Stored.{AreWordsOf, ValueRow, values_of}
+use Rattle.sql_values.specs.Stored.{ValueRow, values_of}
 use Rattle.query_block.specs.declared.condition.Condition.{Condition}
 use Rattle.query_block.specs.declared.kind.Kind.{Kind}
 use Rattle.query_block.specs.Conditions.{FilterTree, filter_tree}
 use Rattle.query_block.specs.Blocks.{FitsColumns, IsRelation, RelationTree, relation_tree}
 use Rattle.query_block.specs.Meaning.{is_true, meets_filter}
 use Rattle.query_block.specs.Parameters.{fixed_of}
-use Rattle.query_block.specs.Picked.{Picks}
 use Rattle.query_block.specs.Truth.{truth_of}
-use Rattle.plan_tree.specs.Usable.{is_usable}
-use Rattle.table_stats.specs.declared.filter.ColumnRange.{ColumnRange}
+use Rattle.db_catalog.specs.declared.column_range.ColumnRange.{ColumnRange}
+use Rattle.db_catalog.specs.ColumnRanges.{IsRangeOf}
 use Rattle.table_stats.specs.declared.filter.ReadyConjunct.{ReadyConjunct}
 use Rattle.table_stats.specs.declared.filter.ReadyFilter.{ReadyFilter}
 
--- the words may stand in a row of columns of these kinds, and each is the word of its value
-pub record IsOwnRow (texts : List (List ℕ)) (kinds : List ColumnType) (words : List ℤ) : Type 0 where
-  pub allowed : AreWordsOf texts kinds words
-  pub own : words ≡ map (word_of texts) (values_of texts kinds words)
-
--- an index on the column could use the condition, and its words are those of the rows on which the condition is true
-pub record IsRangeOfConjunct (texts : List (List ℕ)) (kinds : List ColumnType) (tree : FilterTree) (found : ColumnRange) : Type 0 where
-  pub there : found.column < length kinds
-  pub usable : IsTrue (is_usable kinds found.column tree)
-  pub picks : Picks texts kinds found.column found.range.from found.range.to (λ row. is_true (truth_of tree row))
-
--- so it is of what is known of a condition, if anything is
+-- these are the words of a column in the rows on which a condition is true, if they are known
 abbrev pub IsKnown : List (List ℕ) → List ColumnType → FilterTree → Option ColumnRange → Type 0
-IsKnown texts kinds tree None = Unit {0}
-IsKnown texts kinds tree (Some found) = IsRangeOfConjunct texts kinds tree found
+IsKnown texts kinds tree known = IfSome known (IsRangeOf texts kinds (λ row. is_true (truth_of tree row)))
 
 -- the condition of a conjunct
 abbrev pub own_tree : ReadyConjunct → FilterTree
@@ -64,10 +50,6 @@ is_kept filter row = meets_filter (fixed_of (own filter).filter) row
 abbrev pub own_values : ReadyFilter → List ℤ → ValueRow
 own_values filter words = values_of filter.texts.now filter.relation.now.columns words
 
--- the words may stand in such a row
-abbrev pub IsRowFor : ReadyFilter → List ℤ → Type 0
-IsRowFor filter words = IsOwnRow filter.texts.now filter.relation.now.columns words
-
 -- it is of a relation of a block, and its conjuncts are the fixed ones of the relation's filter
 pub record IsReadyFilter (filter : ReadyFilter) : Type 0 where
   pub relation : IsOfBlock (own filter)
@@ -78,4 +60,4 @@ abbrev pub IsOfConjunct : ReadyFilter → Option ColumnRange → Type 0
 IsOfConjunct filter None = Unit {0}
 IsOfConjunct filter (Some found) =
     (tree : FilterTree) × Contains (fixed_of (own filter).filter) tree
-    × IsRangeOfConjunct filter.texts.now filter.relation.now.columns tree found
+    × IsRangeOf filter.texts.now filter.relation.now.columns (λ row. is_true (truth_of tree row)) found

@@ -1,31 +1,23 @@
 // The fixed conjuncts of a relation's filter, made ready to be tried on many rows: one that an index could use becomes a
 // range of words, so that a text is looked up once. What a conjunct with a parameter keeps can't be counted.
-ghost use Rattle.std.specs.Prelude.{◌≡◌, ◌<◌, ◌≤◌, ◌&&◌, not, true, [], IfOk, IfSome, IsTrue, length};
-ghost use Rattle.std.specs.Ordering.{int_eq};
+ghost use Rattle.std.specs.Prelude.{◌≡◌, ◌<◌, ◌≤◌, true, [], IfOk, IfSome, IsTrue, length};
 ghost use Rattle.sql_values.specs.Limits.{max_columns};
-ghost use Rattle.sql_values.specs.Words.{null_word};
 ghost use Rattle.sql_values.specs.Stored.{values_of};
 ghost use Rattle.query_block.specs.Blocks.{FitsColumns, relation_tree};
 ghost use Rattle.query_block.specs.Conditions.{filter_tree};
 ghost use Rattle.query_block.specs.Meaning.{is_true};
 ghost use Rattle.query_block.specs.Truth.{truth_of};
 ghost use Rattle.plan_tree.specs.Usable.{is_usable};
-ghost use Rattle.plan_tree.specs.Ranges.{is_in};
+ghost use Rattle.db_catalog.specs.ColumnRanges.{AreStored, has_word};
 ghost use Rattle.table_stats.specs.Narrow.{uses_all, uses_some};
-ghost use Rattle.table_stats.specs.Ready.{IsKnown, IsOfBlock, IsOfConjunct, IsOwnRow, IsReadyConjunct, IsReadyFilter, IsRowFor, is_kept, own, own_tree, own_values};
+ghost use Rattle.table_stats.specs.Ready.{IsKnown, IsOfBlock, IsOfConjunct, IsReadyConjunct, IsReadyFilter, is_kept, own, own_tree, own_values};
 
-use plan_tree::{WordRange, is_usable, range_of};
+use db_catalog::ColumnRange;
+use plan_tree::{is_usable, range_of};
 use query_block::{Condition, Relation, is_open, truth};
 use sql_values::{ColumnType, NULL_WORD, Texts, Truth};
 use std::alloc::{AllocError, Global};
 use std::slice;
-
-/// The words of a column, other than NULL's, by which a condition is true.
-#[derive(Clone, Copy)]
-pub(crate) struct ColumnRange {
-    column: u8,
-    range: WordRange,
-}
 
 /// A fixed conjunct, and its words, where an index could find them.
 #[derive(Drop)]
@@ -65,35 +57,30 @@ fn known_words(columns: &[ColumnType], conjunct: &Condition, texts: &Texts) -> O
     ensures { IsKnown texts.now columns.now (filter_tree conjunct.now) result }
 {
     let column = usable_column(columns, conjunct)?;
+    let range = range_of(column, slice::from_ref(conjunct), texts);
     Some(ColumnRange {
         column,
-        range: range_of(column, slice::from_ref(conjunct), texts),
+        from: range.from,
+        to: range.to,
     })
 }
 
-// Whether a word is in a range.
-fn is_in(range: WordRange, word: i64) -> bool
-    ensures { result ≡ is_in range word }
+// Whether a word is one of these.
+fn has_word(found: ColumnRange, word: i64) -> bool
+    ensures { result ≡ has_word found word }
 {
-    range.from <= word && word <= range.to
-}
-
-// Whether a word is one of a column's values, other than NULL, and in a range.
-fn is_value_in(range: WordRange, word: i64) -> bool
-    ensures { result ≡ (not (int_eq word null_word) && is_in range word) }
-{
-    word != NULL_WORD && is_in(range, word)
+    word != NULL_WORD && found.from <= word && word <= found.to
 }
 
 // Whether a fixed conjunct is true on a row.
 fn is_met(conjunct: &ReadyConjunct<'_>, columns: &[ColumnType], row: &[i64], texts: &Texts) -> bool
-    requires row { IsOwnRow texts.now columns.now row.now }
+    requires row { AreStored texts.now columns.now row.now }
     requires ready { IsReadyConjunct texts.now columns.now conjunct.now }
     ensures { result ≡ is_true
         (truth_of (own_tree conjunct.now) (values_of texts.now columns.now row.now)) }
 {
     match conjunct.words {
-        Some(found) => is_value_in(found.range, row[found.column as usize]),
+        Some(found) => has_word(found, row[found.column as usize]),
         None => truth(conjunct.condition, columns, row, texts) == Truth::True,
     }
 }
@@ -174,12 +161,12 @@ impl<'b> ReadyFilter<'b> {
     // Whether a row may be kept: it has one of these words.
     fn may_keep(&self, known: Option<ColumnRange>, row: &[i64]) -> bool
         requires known { IsOfConjunct self.now known }
-        requires row { IsRowFor self.now row.now }
+        requires row { AreStored self.now.texts.now self.now.relation.now.columns row.now }
         ensures { is_kept self.now (own_values self.now row.now) ≡ true
             → result ≡ true }
     {
         match known {
-            Some(found) => is_value_in(found.range, row[found.column as usize]),
+            Some(found) => has_word(found, row[found.column as usize]),
             None => true,
         }
     }
@@ -189,7 +176,7 @@ impl<'b> ReadyFilter<'b> {
     pub(crate) fn keeps(&self, known: Option<ColumnRange>, row: &[i64]) -> bool
         requires ready { IsReadyFilter self.now }
         requires known { IsOfConjunct self.now known }
-        requires row { IsRowFor self.now row.now }
+        requires row { AreStored self.now.texts.now self.now.relation.now.columns row.now }
         ensures { result ≡ is_kept self.now (own_values self.now row.now) }
     {
         self.may_keep(known, row) && self.meets_all(row)
@@ -198,7 +185,7 @@ impl<'b> ReadyFilter<'b> {
     // The same, each conjunct tried in written order, up to the first that isn't true.
     fn meets_all(&self, row: &[i64]) -> bool
         requires ready { IsReadyFilter self.now }
-        requires row { IsRowFor self.now row.now }
+        requires row { AreStored self.now.texts.now self.now.relation.now.columns row.now }
         ensures { result ≡ is_kept self.now (own_values self.now row.now) }
     {
         let columns = self.relation.columns.as_slice();

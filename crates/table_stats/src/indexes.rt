@@ -1,9 +1,9 @@
 // The counts of a relation's indexed columns. They lie in the indexes: no row is looked at.
-ghost use Rattle.std.specs.Prelude.{◌≡◌, Contains, IfOk, IfSome};
+ghost use Rattle.std.specs.Prelude.{◌≡◌, ◌<◌, All, Contains, IfOk, IfSome, IsTrue, length};
 ghost use Rattle.query_block.specs.Blocks.{relation_tree};
 ghost use Rattle.cost_model.specs.Counts.{index_stats_of, relation_stats_of};
 ghost use Rattle.table_stats.specs.Kept.{StandsIn};
-ghost use Rattle.table_stats.specs.Narrow.{AreColumns, LeadsToKept, TellsAll};
+ghost use Rattle.table_stats.specs.Narrow.{TellsAll, uses_some};
 ghost use Rattle.table_stats.specs.Ready.{IsReadyFilter, own};
 
 use crate::filter::ReadyFilter;
@@ -64,7 +64,7 @@ pub(crate) fn index_stats(
 /// looked at.
 pub(crate) fn matches_of_all(filter: &ReadyFilter<'_>, columns: &[IndexStats]) -> Option<u64>
     requires ready { IsReadyFilter filter.now }
-    requires there { AreColumns (own filter.now) columns.now }
+    requires there { All (λ index. index.column < length (own filter.now).columns) columns.now }
     ensures { IfSome result (TellsAll (own filter.now) columns.now) }
 {
     for index in columns {
@@ -85,8 +85,9 @@ pub(crate) fn narrowest(
     most: u64,
 ) -> Option<IndexStats>
     requires ready { IsReadyFilter filter.now }
-    requires there { AreColumns (own filter.now) columns.now }
-    ensures { IfSome result (LeadsToKept (own filter.now) columns.now) }
+    requires there { All (λ index. index.column < length (own filter.now).columns) columns.now }
+    ensures { IfSome result (λ index. Contains columns.now index
+        × IsTrue (uses_some (own filter.now) index.column)) }
 {
     let mut found = None;
     let mut least = most;

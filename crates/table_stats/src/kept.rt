@@ -1,30 +1,26 @@
 // How many rows of a relation's table the fixed conjuncts of its filter keep. They are found through a range of an index, or
 // page by page; both ways lead to one number.
-ghost use Rattle.std.specs.Prelude.{◌≡◌, ◌+◌, ◌*◌, ◌<◌, ◌≤◌, Contains, IsTrue, count_by, drop, length, take};
+ghost use Rattle.std.specs.Prelude.{◌≡◌, ◌<◌, Contains, IsTrue, count_by, drop, length, take};
 ghost use Rattle.cost_model.specs.Counts.{relation_stats_of};
-ghost use Rattle.db_catalog.specs.Meter.{table_pages};
-ghost use Rattle.table_stats.specs.Kept.{IsOver, rows_on};
+ghost use Rattle.heap_pages.specs.Rows.{row_number};
+ghost use Rattle.db_catalog.specs.Database.{table_at};
+ghost use Rattle.db_catalog.specs.Meter.{page_rows, table_pages};
+ghost use Rattle.table_stats.specs.Kept.{IsOver};
 ghost use Rattle.table_stats.specs.Narrow.{uses_some};
 ghost use Rattle.table_stats.specs.Ready.{is_kept, own};
 
 use crate::filter::ReadyFilter;
-use db_catalog::Database;
+use db_catalog::{Database, row_in};
 use plan_tree::range_of;
-
-// The words of the row in this slot, from 0, among the rows of a page.
-fn row_in(words: &[i64], slot: usize, width: usize) -> &[i64]
-    requires { slot * width + width ≤ length words.now }
-    ensures { result.now ≡ take width (drop (slot * width) words.now) }
-{
-    &words[slot * width..slot * width + width]
-}
 
 // Among the rows on one page.
 fn kept_on_page(db: &Database, filter: &ReadyFilter<'_>, no: u64) -> u64
     requires over { IsOver db.now filter.now }
     requires page { no < table_pages db.now filter.now.relation.now.table }
-    ensures { result ≡ count_by (is_kept filter.now)
-        (rows_on db.now filter.now.relation.now.table no) }
+    ensures { let table = table_at db.now filter.now.relation.now.table in
+        result ≡ count_by (is_kept filter.now)
+        (take (page_rows db.now filter.now.relation.now.table no)
+        (drop (row_number (length table.columns) no 0) table.rows)) }
 {
     let table = filter.relation.table;
     let width = db.columns(table).len();
@@ -32,7 +28,7 @@ fn kept_on_page(db: &Database, filter: &ReadyFilter<'_>, no: u64) -> u64
     let known = filter.some_range();
     let mut kept = 0;
     for slot in 0..db.rows_on_page(table, no) {
-        kept += u64::from(filter.keeps(known, row_in(words, slot, width)));
+        kept += u64::from(filter.keeps(known, row_in(words, width, slot)));
     }
     kept
 }

@@ -1,7 +1,7 @@
-use Rattle.std.specs.Prelude.{IfSome}
-use Rattle.table_stats.specs.Narrow.{LeadsToKept}
+use Rattle.std.specs.Prelude.{Contains, IfSome, IsTrue}
+use Rattle.table_stats.specs.Narrow.{uses_some}
 use Rattle.table_stats.specs.Ready.{own}
 use Rattle.table_stats.proofs.indexes.narrowest.Given as goal
 
 abbrev pub invariant-loop-index : goal.invariant-loop-index
-invariant-loop-index l = IfSome l.found (LeadsToKept (own l.filter) l.columns)
+invariant-loop-index l = IfSome l.found (λ index. Contains l.columns index × IsTrue (uses_some (own l.filter) index.column))

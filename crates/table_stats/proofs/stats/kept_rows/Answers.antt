@@ -43,7 +43,7 @@ kept_within-requires-clause-over c = record {
 
 pub kept_within-requires-clause-indexed : goal.kept_within-requires-clause-indexed
 kept_within-requires-clause-indexed c =
-    (of-index c.args.db.now.tables (own c.args.filter.now) c.args.columns.now c.requires.columns c.in-Some-narrowest.index c.in-Some-narrowest.ensures.there).indexed
+    (of-index c.args.db.now.tables (own c.args.filter.now) c.args.columns.now c.requires.columns c.in-Some-narrowest.index c.in-Some-narrowest.ensures.0).indexed
 
 pub kept_in_pages-requires : goal.kept_in_pages-requires
 kept_in_pages-requires c = record {
