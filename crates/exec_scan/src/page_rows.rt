@@ -24,7 +24,8 @@ pub(crate) fn next_kept(wanted: &Wanted<'_>, page: &[i64], slot: usize, slots: u
     requires relation { IsRelation [] (relation_tree wanted.now.relation.now) }
     requires known { IsKnownOf wanted.now.texts.now (relation_tree wanted.now.relation.now)
         wanted.now.known }
-    requires rows { ArePageRows wanted.now.texts.now wanted.now.relation.now.columns slots page.now }
+    requires rows { ArePageRows wanted.now.texts.now wanted.now.relation.now.columns slots
+        page.now }
     requires slot { slot ≤ slots }
     ensures { IsFirstSlot (slot_meets wanted.now.texts.now
         (relation_tree wanted.now.relation.now) page.now) slot slots result }
