@@ -36,7 +36,6 @@ index-leads database own column relation (indexed, usable) reader new =
         relation = relation;
         table = refl;
         reading = record { there = relation.fits.there; indexed = is-indexed own.indexes column _ relation.fits.indexes indexed; cursor = tt };
-        known = tt;
       };
       column = refl;
       all = record {

@@ -13,7 +13,6 @@ use Rattle.db_catalog.specs.Database.{DatabaseState}
 use Rattle.db_catalog.specs.Fits.{FitsTable}
 use Rattle.db_catalog.specs.Indexes.{index_at, index_height, row_of_entry}
 use Rattle.db_catalog.specs.Meter.{MeterState}
-use Rattle.db_catalog.specs.declared.column_range.ColumnRange.{ColumnRange}
 use Rattle.db_catalog.specs.ColumnRanges.{AreStored}
 use Rattle.exec_scan.specs.declared.way.Way.{Way}
 use Rattle.exec_scan.specs.declared.way.Way.TheVariants as way
@@ -30,11 +29,6 @@ table_of (way.Index reader) = reader.table
 abbrev pub column_of : Way → Option ℕ
 column_of (way.Table table) = None
 column_of (way.Index reader) = Some reader.column
-
--- the words that are known of the rows that meet the filter, if any are; an index leads to such words by itself
-abbrev pub known_of : Way → Option ColumnRange
-known_of (way.Table table) = table.known
-known_of (way.Index reader) = None
 
 -- of the entries of an index those that are still to be read: before the descent the wanted ones, then those ahead
 abbrev pub entries_to_read : (IndexEntry → Bool) → List IndexEntry → Option Cursor → List IndexEntry
@@ -73,10 +67,11 @@ abbrev pub kept_rows : DatabaseState → RelationTree → Way → List ValueRow
 kept_rows database own (way.Table table) = filter (meets_filter own.filter) (table_ahead database table.reader)
 kept_rows database own (way.Index reader) = filter (meets_filter own.filter) (wanted_rows database own reader)
 
--- the reader stands in its table or its index
-abbrev pub IsReaderIn : DatabaseState → Way → Type 0
-IsReaderIn database (way.Table table) = IsTableReader database table.reader
-IsReaderIn database (way.Index reader) = IsReaderOf database reader
+-- the reader stands in its table, where the words of the rows that meet the filter may be known, or in its index, which leads
+-- to such words by itself
+abbrev pub IsReading : DatabaseState → RelationTree → Way → Type 0
+IsReading database own (way.Table table) = IsTableReader database table.reader × IsKnownOf database.texts own table.known
+IsReading database own (way.Index reader) = IsReaderOf database reader
 
 -- a relation of a block, whose table is in the database and whose filter has no parameter
 pub record IsRelationIn (database : DatabaseState) (own : RelationTree) : Type 0 where
@@ -87,8 +82,7 @@ pub record IsRelationIn (database : DatabaseState) (own : RelationTree) : Type 0
 pub record IsWayTo (database : DatabaseState) (own : RelationTree) (way : Way) : Type 0 where
   pub relation : IsRelationIn database own
   pub table : table_of way ≡ own.table
-  pub reading : IsReaderIn database way
-  pub known : IsKnownOf database.texts own (known_of way)
+  pub reading : IsReading database own way
 
 -- the words are those of the first of these rows, which then isn't one of them
 pub record IsFirstRow (texts : List (List ℕ)) (own : RelationTree) (old new : List ValueRow) (words : List ℤ) : Type 0 where

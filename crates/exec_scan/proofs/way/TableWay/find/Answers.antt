@@ -16,7 +16,7 @@ pages-init c = record { way = c.requires.way; kept = refl; on_way = begins _ _; 
 goes-on : (database seen : DatabaseState) (own : RelationTree) (way : TableWay) (reader : TableReaderState) → IsWayTo database own (Table way) → seen ≡ database → reader.table ≡ way.reader.table
     → IsTableReader seen reader → IsWayTo database own (Table (record { reader = reader; known = way.known }))
 goes-on database seen own way reader is same at reads =
-    record { relation = is.relation; table = at ∙ is.table; reading = subst (λ d. IsTableReader d reader) same reads; known = is.known }
+    record { relation = is.relation; table = at ∙ is.table; reading = (subst (λ d. IsTableReader d reader) same reads, is.reading.1) }
 
 pub returns-in-Some-clause-row : goal.returns-in-Some-clause-row
 returns-in-Some-clause-row c = rw c.pages.invariant.kept at (rw (c.in-Some.is, c.pages.invariant.database) at c.find_on_page.ensures.row)
