@@ -7,6 +7,7 @@ pub mod Members
 pub mod Outermost
 pub mod Enumerated
 pub mod AscendingPlans
+pub mod Capped
 pub mod Digits
 mod Ascending
 mod RootLists

@@ -1,46 +1,17 @@
 -- The numbers of plans, as far as 128 bits reach.
-use Rattle.std.proofs.Common.{◌≡◌, ℕ, zero, suc, ◌+◌, ◌-◌, ◌*◌, ◌^◌, ◌≤◌, List, [], ◌∷◌, ◌++◌, length, map, inl, inr, refl, sym, ap, ap₂, ◌∙◌, arith}
+use Rattle.std.proofs.Common.{◌≡◌, ℕ, zero, suc, ◌+◌, ◌-◌, ◌*◌, ◌^◌, List, [], ◌∷◌, ◌++◌, length, map, refl, sym, ap, ap₂, ◌∙◌, arith}
 use Rattle.std.specs.Prelude.{min, slice_index}
-use Rattle.std.proofs.Math.Nat.{mul-le-mul_left, mul_comm}
-use Rattle.std.proofs.lemmas.Bool.{cases_lt}
 use Rattle.std.proofs.lemmas.List.{length-append, length-map, map_push}
 use Rattle.query_block.specs.Blocks.{BlockTree}
 use Rattle.plan_tree.specs.Plans.{PlanTree}
 use Rattle.plan_tree.specs.AllPlans.{pairs_by, plans_at, plans_over, plans_below, plans_of}
-use Rattle.plan_tree.specs.Listing.{plan_count}
+use Rattle.plan_tree.specs.Work.{capped}
+use Rattle.plan_tree.proofs.Capped.{product-capped}
 use Rattle.plan_tree.proofs.Listed.{below-more, length-below}
 
--- ---- the least of a number and a greatest one, of a product
-
-at-least : (x y most : ℕ) → most ≤ x → 1 ≤ y → most ≤ x * y
-at-least x y most big some = omega (arith, mul-le-mul_left x some)
-
-large-product : (a b most : ℕ) → 1 ≤ most → most ≤ a → min (min a most * min b most) most ≡ min (a * b) most
-large-product a zero most some big =
-    let none : min zero most ≡ 0 = omega arith in
-    let empty : min (min a most * 0) most ≡ min (a * zero) most = omega arith in
-    ap (λ (n : ℕ). min (min a most * n) most) none ∙ empty
-large-product a (suc b) most some big =
-    let one : most ≤ min a most * min (suc b) most = at-least (min a most) (min (suc b) most) most (omega arith) (omega arith) in
-    let other : most ≤ a * suc b = at-least a (suc b) most big (omega arith) in
-    omega arith
-
-least-product : (a b most : ℕ) → 1 ≤ most → min (min a most * min b most) most ≡ min (a * b) most
-least-product a b most some =
-    elim (cases_lt a most) [
-      | inl low ↦ elim (cases_lt b most) [
-        | inl low' ↦
-            let first : min a most ≡ a = omega arith in
-            let second : min b most ≡ b = omega arith in
-            ap₂ (λ (x y : ℕ). min (x * y) most) first second
-        | inr high ↦
-            ap (λ (n : ℕ). min n most) (mul_comm (min a most) (min b most)) ∙ large-product b a most some high
-            ∙ ap (λ (n : ℕ). min n most) (mul_comm b a)
-      ]
-      | inr high ↦ large-product a b most some high
-    ]
-
--- ---- of lists of plans
+-- how many plans these are, as far as 128 bits reach
+abbrev pub plan_count : List PlanTree → ℕ
+plan_count plans = capped (length plans)
 
 length-pairs : (join : PlanTree → PlanTree → PlanTree) (lefts rights : List PlanTree)
     → length (pairs_by join lefts rights) ≡ length lefts * length rights
@@ -64,7 +35,7 @@ count-pairs join counts lists left right count same is =
     let lefts = plans_at lists left in
     let rights = plans_at lists right in
     is ∙ ap₂ (λ (x y : ℕ). min (x * y) (2 ^ 128 - 1)) (at left) (at right)
-    ∙ least-product (length lefts) (length rights) (2 ^ 128 - 1) (omega arith)
+    ∙ product-capped (length lefts) (length rights)
     ∙ ap (λ (n : ℕ). min n (2 ^ 128 - 1)) (sym (length-pairs join lefts rights))
 
 -- the count of the last set is that of all plans

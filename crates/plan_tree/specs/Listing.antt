@@ -11,14 +11,12 @@ use Rattle.plan_tree.specs.Plans.{PlanTree, plan_tree, Nest, Hash, Merge}
 use Rattle.plan_tree.specs.Work.{capped}
 use Rattle.plan_tree.specs.AllPlans.{index_loop_by, plans_at, standing}
 
--- how many plans these are; 2 ^ 128 - 1 stands for more too
-abbrev pub plan_count : List PlanTree → ℕ
-plan_count plans = capped (length plans)
-
--- so many are the plans that are put together from the lists of smaller sets, where these have so many
+-- so many are the plans that are put together from the lists of smaller sets, where these have so many; 2 ^ 128 - 1 stands
+-- for more too
 abbrev pub CountsFor : (counts : List ℕ) → (count : ℕ) → (plans : (ℕ → List PlanTree) → List PlanTree) → Type 0
 CountsFor counts count plans =
-    (lists : List (List PlanTree)) → counts ≡ map plan_count lists → count ≡ plan_count (plans (plans_at lists))
+    (lists : List (List PlanTree)) → counts ≡ map (λ list. capped (length list)) lists
+    → count ≡ capped (length (plans (plans_at lists)))
 
 -- the trees of lists of plans
 abbrev pub lists_of : List (Vec Plan Global) → List (List PlanTree)

@@ -8,7 +8,8 @@ ghost use Rattle.plan_tree.specs.Plans.{plan_tree, PlanTree, IndexLoop as IndexL
 ghost use Rattle.plan_tree.specs.Enumerated.{IsPlan};
 ghost use Rattle.plan_tree.specs.Order.{plan_order_of};
 ghost use Rattle.plan_tree.specs.AllPlans.{pairs_by, plans_at, plans_of, plans_over, trees_of};
-ghost use Rattle.plan_tree.specs.Listing.{joined_by, lists_of, plan_count, Adds, CountsFor, HasLeftOf, IsLeftOf};
+ghost use Rattle.plan_tree.specs.Work.{capped};
+ghost use Rattle.plan_tree.specs.Listing.{joined_by, lists_of, Adds, CountsFor, HasLeftOf, IsLeftOf};
 
 use crate::copies::copy;
 use crate::plan::Plan;
@@ -85,7 +86,7 @@ fn set_count(block: &Block) -> u8
 
 // How many plans a block has.
 fn count_plans(alloc: Global, block: &Block) -> Result<u128, AllocError>
-    ensures { IfOk result (λ count. count ≡ plan_count (plans_of (block_tree block.now))) }
+    ensures { IfOk result (λ count. count ≡ capped (length (plans_of (block_tree block.now)))) }
 {
     let end = set_count(block);
     let mut counts = Vec::new(alloc);
@@ -171,29 +172,6 @@ fn put_look_ups(
     Ok(())
 }
 
-// Puts the joins of the plans of two sides at the end.
-fn put_joins(
-    alloc: Global,
-    lists: &[Vec<Plan>],
-    set: u8,
-    root: Root,
-    left: u8,
-    into: &mut Vec<Plan>,
-) -> Result<(), AllocError>
-    requires length { length lists.now ≡ set }
-    requires left { IsLeftOf left set }
-    ensures { let plans = plans_at (lists_of lists.now) in OnOk result (Adds into.old into.new
-        (pairs_by (joined_by root) (plans left) (plans (set - left)))) }
-{
-    put_pairs(
-        alloc,
-        root,
-        &lists[left as usize],
-        &lists[(set - left) as usize],
-        into,
-    )
-}
-
 // Puts the plans of a set with this outermost node at the end.
 fn put_trees(
     alloc: Global,
@@ -210,9 +188,16 @@ fn put_trees(
     match root {
         Root::Scan(relation) => Ok(into.push(Plan::Scan(relation))?),
         Root::IndexScan(relation, column) => Ok(into.push(Plan::IndexScan(relation, column))?),
-        Root::Nest(left) => put_joins(alloc, lists, set, root, left, into),
-        Root::Hash(_, left) => put_joins(alloc, lists, set, root, left, into),
-        Root::Merge(_, left) => put_joins(alloc, lists, set, root, left, into),
+        Root::Nest(left) | Root::Hash(_, left) | Root::Merge(_, left) => {
+            let right = set - left;
+            put_pairs(
+                alloc,
+                root,
+                &lists[left as usize],
+                &lists[right as usize],
+                into,
+            )
+        }
         Root::IndexLoop(edge, left, relation) => {
             put_look_ups(alloc, edge, &lists[left as usize], relation, into)
         }

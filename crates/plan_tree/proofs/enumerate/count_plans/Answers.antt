@@ -5,9 +5,9 @@ use Rattle.std.proofs.lemmas.List.Elements.{All-same}
 use Rattle.query_block.specs.Blocks.{block_tree}
 use Rattle.plan_tree.specs.declared.roots.Root.{Root}
 use Rattle.plan_tree.specs.AllPlans.{plans_at, plans_below, roots_of, trees_of}
-use Rattle.plan_tree.specs.Listing.{plan_count, HasLeftOf}
+use Rattle.plan_tree.specs.Listing.{HasLeftOf}
 use Rattle.plan_tree.proofs.LeftSides.{left-sides}
-use Rattle.plan_tree.proofs.PlanCounts.{count-whole, counts-more, length-counts}
+use Rattle.plan_tree.proofs.PlanCounts.{plan_count, count-whole, counts-more, length-counts}
 use Rattle.plan_tree.proofs.enumerate.count_plans.Goals as goal
 
 pub loop-set-init : goal.loop-set-init

@@ -1,7 +1,7 @@
 use Rattle.std.proofs.Common.{◌≡◌, map}
 use Rattle.query_block.specs.Blocks.{block_tree}
 use Rattle.plan_tree.specs.AllPlans.{plans_below}
-use Rattle.plan_tree.specs.Listing.{plan_count}
+use Rattle.plan_tree.proofs.PlanCounts.{plan_count}
 use Rattle.plan_tree.proofs.enumerate.count_plans.Given as goal
 
 abbrev pub invariant-loop-set : goal.invariant-loop-set

@@ -2,7 +2,7 @@ use Rattle.std.proofs.Common.{sym, ap, ◌∙◌}
 use Rattle.plan_tree.specs.declared.roots.Root.{Root}
 use Rattle.plan_tree.specs.Plans.{Nest, Hash, Merge}
 use Rattle.plan_tree.specs.AllPlans.{plans_at, trees_of}
-use Rattle.plan_tree.specs.Listing.{plan_count}
+use Rattle.plan_tree.proofs.PlanCounts.{plan_count}
 use Rattle.plan_tree.proofs.PlanCounts.{count-pairs}
 use Rattle.plan_tree.proofs.enumerate.count_with.Goals as goal
 
