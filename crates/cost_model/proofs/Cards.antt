@@ -1,11 +1,9 @@
 -- Cards: rounded once, grown with selectivity, and never more than there are rows.
-use Rattle.std.proofs.Common.{◌≡◌, ℕ, ◌+◌, ◌*◌, ◌^◌, ◌<◌, ◌≤◌, cond, List, [], ◌∷◌, length, drop, get_or, ap, sym, subst, ◌∙◌, le_refl, arith}
+use Rattle.std.proofs.Common.{◌≡◌, ℕ, ◌+◌, ◌*◌, ◌^◌, ◌≤◌, cond, List, [], ◌∷◌, ap, sym, subst, ◌∙◌, le_refl, arith}
 use Rattle.std.specs.Prelude.{Bool, true, false, slice_index}
 use Rattle.std.specs.Int.{div_ceil}
 use Rattle.std.proofs.Math.Path.{fun_ext}
 use Rattle.std.proofs.lemmas.Nat.{pow-add, pow_pos}
-use Rattle.std.proofs.lemmas.List.{at_drop_more}
-use Rattle.sql_values.specs.Limits.{max_product}
 use Rattle.ess_grid.specs.Levels.{halvings_of, selectivity_of}
 use Rattle.ess_grid.specs.Points.{GridShape}
 use Rattle.ess_grid.specs.Order.{PointBelow}
@@ -41,17 +39,6 @@ edges-once grid point set number (edge ∷ edges) n h =
     ap (scaled_by_edges grid point set (number + 1) edges) (halved-if (is_inside set edge) n h grid.levels (slice_index point number))
     ∙ edges-once grid point set (number + 1) edges n (h + more)
     ∙ ap (λ k. div_ceil n (2 ^ k)) (omega arith)
-
--- one edge more
-pub next-scaled : (grid : GridShape) (point : List ℕ) (set : RelationSet) (edges : List Edge) (number card next whole : ℕ) (none : Edge) → number < length edges
-    → (whole ≡ scaled_by_edges grid point set number (drop number edges) card) × (card ≤ max_product)
-    → next ≡ cond (is_inside set (get_or edges number none)) (scaled card (selectivity_at grid point number)) card → next ≤ card
-    → (whole ≡ scaled_by_edges grid point set (number + 1) (drop (number + 1) edges) next) × (next ≤ max_product)
-next-scaled grid point set edges number card next whole none there before is few = (
-  before.0 ∙ at_drop_more (λ rest. scaled_by_edges grid point set number rest card) edges number none there
-      ∙ ap (scaled_by_edges grid point set (number + 1) (drop (number + 1) edges)) (sym is),
-  omega (arith, few, before.1),
-)
 
 -- a number is itself, rounded up
 whole : (n : ℕ) → n ≡ div_ceil n (2 ^ 0)
