@@ -1,5 +1,5 @@
 -- Plans of a block with their costs at a point.
-use Rattle.std.specs.Prelude.{◌≡◌, ℕ, ◌<◌, ◌≤◌, All, IfSome, List, [], ◌∷◌, ◌++◌, None, Option, Some, length, map, slice_index}
+use Rattle.std.specs.Prelude.{◌≡◌, ℕ, ◌<◌, ◌≤◌, All, IfSome, List, Option, Some, length, map, slice_index}
 use Rattle.sql_values.specs.Limits.{cost_bound}
 use Rattle.plan_tree.specs.declared.plan.Plan.{Plan}
 use Rattle.plan_tree.specs.Plans.{PlanTree, plan_tree}
@@ -7,19 +7,11 @@ use Rattle.cost_model.specs.Costing.{CostingShape, costing_tree}
 use Rattle.cost_model.specs.Costs.{cost_of}
 use Rattle.plan_space.specs.Parts.{PartsShape, nth_plan}
 
--- plans of a block, and the point at which they were costed last; none, where a plan was added since
+-- plans of a block, and the point at which they were costed last, if they were
 pub record CostedPlansShape : Type 0 where
   pub costing : CostingShape
   pub plans : List PlanTree
   pub point : Option (List ℕ)
-
--- no plans yet
-abbrev pub without_plans : CostingShape → CostedPlansShape
-without_plans costing = record { costing = costing; plans = []; point = None }
-
--- with a plan behind the others
-abbrev pub with_plan : CostedPlansShape → PlanTree → CostedPlansShape
-with_plan costed p = record { costing = costed.costing; plans = costed.plans ++ p ∷ []; point = None }
 
 -- costed at a point
 abbrev pub costed_at : CostedPlansShape → (point : List ℕ) → CostedPlansShape
@@ -43,9 +35,7 @@ pub record KeepsCosts (costing : CostingShape) (parts : PartsShape) (numbers cos
   pub within : All (λ number. number < length costs) numbers
   pub right : IfSome point (λ at. All (λ number. slice_index costs number ≡ cost_of (costing_tree costing) (nth_plan parts.plans number) at) numbers)
 
--- the costs that were there stay; there may be more, up to so many
-pub record KeepsFirstCosts (before after : List ℕ) (most : ℕ) : Type 0 where
-  pub longer : length before ≤ length after
-  pub few : length after ≤ most
-  pub bound : All (λ cost. cost < cost_bound) after
-  pub kept : (number : ℕ) → number < length before → slice_index after number ≡ slice_index before number
+-- the numbers of some plans among the parts
+pub record AreNumbers (parts : PartsShape) (plans : List PlanTree) (numbers : List ℕ) : Type 0 where
+  pub within : All (λ number. number < length parts.plans) numbers
+  pub those : map (nth_plan parts.plans) numbers ≡ plans

@@ -1,12 +1,11 @@
 // Plans of a block with what they cost at one point of the grid after another.
-ghost use Rattle.std.specs.Prelude.{◌≡◌, ◌+◌, ◌<◌, ◌≤◌, ◌++◌, [], ◌∷◌, All, IfOk, IfSome, OnErr, OnOk, length, slice_index};
+ghost use Rattle.std.specs.Prelude.{◌≡◌, ◌<◌, All, IfOk, length, map};
 ghost use Rattle.sql_values.specs.Limits.{cost_bound};
 ghost use Rattle.ess_grid.specs.Points.{IsPoint};
 ghost use Rattle.query_block.specs.Blocks.{block_tree};
-ghost use Rattle.plan_tree.specs.Plans.{plan_tree};
-ghost use Rattle.plan_tree.specs.Enumerated.{IsPlan};
-ghost use Rattle.plan_space.specs.Parts.{IsNthPlan};
-ghost use Rattle.plan_space.specs.CostedPlans.{without_plans, with_plan, costed_at, HoldsPlans, IsCostThere, KeepsFirstCosts};
+ghost use Rattle.plan_tree.specs.Plans.{plan_tree, FitsSet};
+ghost use Rattle.plan_tree.specs.Enumerated.{IsPlan, IsSubPlan};
+ghost use Rattle.plan_space.specs.CostedPlans.{AreNumbers, HoldsPlans, IsCostThere, costed_at};
 
 use crate::parts::Parts;
 use cost_model::{Costing, PriceRoom, Prices};
@@ -22,9 +21,7 @@ pub struct CostedPlans<'c> {
     parts: Parts<'c>,
     // The number of each plan among the parts.
     numbers: Vec<usize>,
-    // For each part a place where the plans have it, if they do; else any number.
-    places: Vec<usize>,
-    // What the parts cost at the point. Those that were added since cost 0.
+    // What the parts cost at the point; 0 where there is none.
     costs: Vec<u128>,
     room: PriceRoom,
     point: Option<Point>,
@@ -36,7 +33,6 @@ impl<'c> Model for CostedPlans<'c> {
     ghost use Rattle.std.specs.Prelude.{map};
     ghost use Rattle.plan_space.specs.PlanCodes.{plan_tree_code};
     ghost use Rattle.plan_space.specs.Parts.{nth_plan};
-    ghost use Rattle.plan_space.specs.Parts.{IsNthPlan};
     ghost use Rattle.plan_space.specs.CostedPlans.{CostedPlansShape, KeepsCosts};
 
     ghost Value = { CostedPlansShape };
@@ -52,78 +48,27 @@ impl<'c> Model for CostedPlans<'c> {
     ghost invariant = { λ c. KeepsCosts c.costing.now c.parts c.numbers.items c.costs.items c.point };
 }
 
-// Adds costs of 0 until there are so many. An error is want of memory.
-fn lengthen_costs(costs: &mut Vec<u128>, count: usize) -> Result<(), AllocError>
-    requires few { length costs.old.items ≤ count }
-    requires bound { All (λ cost. cost < cost_bound) costs.old.items }
-    ensures first { KeepsFirstCosts costs.old.items costs.new.items count }
-    ensures long { OnOk result (length costs.new.items ≡ count) }
+// The number of each of some plans among the parts, in their order. Parts that aren't there are added.
+fn numbers_of(
+    alloc: Global,
+    parts: &mut Parts<'_>,
+    plans: &[Plan],
+) -> Result<Vec<usize>, AllocError>
+    requires plans { All (λ p. IsSubPlan (block_tree parts.old.block) (plan_tree p)) plans.now }
+    requires fit { All (λ p. FitsSet (plan_tree p)) plans.now }
+    ensures block { parts.new.block ≡ parts.old.block }
+    ensures numbers { IfOk result (λ numbers.
+        AreNumbers parts.new (map plan_tree plans.now) numbers.items) }
 {
-    for _more in costs.len()..count {
-        costs.push(0)?;
+    let mut numbers = Vec::with_capacity(alloc, plans.len())?;
+    for p in plans {
+        numbers.push(parts.number(p)?)?;
     }
-    Ok(())
-}
-
-// The place that is kept for a part, if the plans have the part there.
-fn known_place(numbers: &[usize], places: &[usize], number: usize) -> Option<usize>
-    ensures exists { IfSome result (λ place. place < length numbers.now) }
-    ensures is { IfSome result (λ place. slice_index numbers.now place ≡ number) }
-{
-    if number >= places.len() {
-        return None;
-    }
-    let place = places[number];
-    if place < numbers.len() && numbers[place] == number {
-        return Some(place);
-    }
-    None
-}
-
-// The place of one of so many parts that is put behind the plans: the one that is known, else the new one, which is kept. An
-// error is want of memory.
-fn place_of(
-    numbers: &[usize],
-    places: &mut Vec<usize>,
-    count: usize,
-    number: usize,
-) -> Result<usize, AllocError>
-    ensures exists { IfOk result (λ place. place < length numbers.now + 1) }
-    ensures is { IfOk result (λ place. slice_index (numbers.now ++ number ∷ []) place ≡ number) }
-{
-    if let Some(place) = known_place(numbers, places.as_slice(), number) {
-        return Ok(place);
-    }
-    for _more in places.len()..count {
-        places.push(0)?;
-    }
-    if number < places.len() {
-        places[number] = numbers.len();
-    }
-    Ok(numbers.len())
+    Ok(numbers)
 }
 
 impl<'c> CostedPlans<'c> {
-    /// No plans yet, where so many are expected. An error is want of memory.
-    pub fn new(
-        alloc: Global,
-        costing: &'c Costing<'c>,
-        expected: usize,
-    ) -> Result<CostedPlans<'c>, AllocError>
-        ensures { IfOk result (λ made. made ≡ without_plans costing.now) }
-    {
-        Ok(CostedPlans {
-            costing,
-            parts: Parts::new(alloc, costing.block(), expected)?,
-            numbers: Vec::new(alloc),
-            places: Vec::new(alloc),
-            costs: Vec::new(alloc),
-            room: PriceRoom::new(),
-            point: None,
-        })
-    }
-
-    /// Some plans of the block, in their order. An error is want of memory.
+    /// Some plans of the block, in their order. The only error is out of memory.
     pub fn of_plans(
         alloc: Global,
         costing: &'c Costing<'c>,
@@ -132,29 +77,18 @@ impl<'c> CostedPlans<'c> {
         requires { All (λ p. IsPlan (block_tree costing.now.block) (plan_tree p)) plans.now }
         ensures { IfOk result (HoldsPlans costing.now plans.now) }
     {
-        let mut all = CostedPlans::new(alloc, costing, plans.len())?;
-        for p in plans {
-            all.add(p)?;
-        }
-        Ok(all)
-    }
-
-    /// Puts a plan behind the others, and says at which place it is, from 0: at that of an equal one, if one was found, else
-    /// at its own. An error is want of memory.
-    pub fn add(&mut self, p: &Plan) -> Result<usize, AllocError>
-        requires { IsPlan (block_tree self.old.costing.block) (plan_tree p.now) }
-        ensures added { IfOk result (λ _. self.new ≡ with_plan self.old (plan_tree p.now)) }
-        ensures place { IfOk result (IsNthPlan self.new.plans (plan_tree p.now)) }
-        ensures stays { OnErr result (self.new ≡ self.old) }
-    {
-        let _block = self.costing.block();
-        let number = self.parts.number(p)?;
-        let count = self.parts.count();
-        lengthen_costs(&mut self.costs, count)?;
-        let place = place_of(self.numbers.as_slice(), &mut self.places, count, number)?;
-        self.numbers.push(number)?;
-        self.point = None;
-        Ok(place)
+        let block = costing.block();
+        let mut parts = Parts::new(alloc, block, plans.len())?;
+        let numbers = numbers_of(alloc, &mut parts, plans)?;
+        let costs = vec![in alloc; 0; parts.count()]?;
+        Ok(CostedPlans {
+            costing,
+            parts,
+            numbers,
+            costs,
+            room: PriceRoom::new(),
+            point: None,
+        })
     }
 
     /// Works out what all plans cost at a point of the grid. It takes no memory.
@@ -167,8 +101,7 @@ impl<'c> CostedPlans<'c> {
         self.point = Some(*q);
     }
 
-    /// What the plan at this place, from 0, costs at the point at which all were costed last. It is 0 or old while there is
-    /// none.
+    /// What the plan at this place, from 0, costs at the point at which all were costed last. It is 0 while there is none.
     pub fn cost(&self, place: usize) -> u128
         requires { place < length self.now.plans }
         ensures cost { IsCostThere self.now place result }
