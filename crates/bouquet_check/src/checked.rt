@@ -89,7 +89,7 @@ fn cover_verdict(
     Ok(Verdict::Sound)
 }
 
-// The verdict by an surface.
+// The verdict by a surface.
 fn verdict(alloc: Global, surface: &CostSurface<'_>, b: &Bouquet) -> Result<Verdict, AllocError>
     requires { costing_tree surface.now ≡ (bouquet_tree b.now).costing }
     ensures { IfOk result (λ verdict. verdict_tree verdict ≡ verdict_of (bouquet_tree b.now)) }
@@ -106,7 +106,7 @@ fn verdict(alloc: Global, surface: &CostSurface<'_>, b: &Bouquet) -> Result<Verd
     cover_verdict(alloc, surface, b)
 }
 
-/// The verdict on a bouquet: the first that applies, in the order of `Verdict`. An error is want of memory.
+/// The verdict on a bouquet: the first that applies, in the order of `Verdict`. The only error is out of memory.
 pub fn check(alloc: Global, b: &Bouquet) -> Result<Verdict, AllocError>
     ensures verdict { IfOk result (λ verdict. verdict_tree verdict ≡ verdict_of (bouquet_tree b.now)) }
     ensures sound { IfOk result (λ verdict.

@@ -110,7 +110,7 @@ impl<'c> Cover<'c> {
         Ok(true)
     }
 
-    /// Whether some plan is within the budget at a point of the grid. An error is want of memory.
+    /// Whether some plan is within the budget at a point of the grid. The only error is out of memory.
     pub(crate) fn fits(&mut self, alloc: Global, q: &Point) -> Result<bool, AllocError>
         requires { IsPoint self.old.costing.grid q.now }
         ensures fits { IfOk result (λ fits. fits

@@ -13,7 +13,7 @@ use query_block::Block;
 use std::alloc::{AllocError, Global};
 
 /// The compiled bouquet of a block, by the counts of its tables, on a grid with the axes of the block, with a threshold in
-/// percent. It keeps its outline, by which it was made. An error is want of memory alone.
+/// percent. It keeps its outline, by which it was made. The only error is out of memory.
 pub fn compile(
     alloc: Global,
     block: Block,

@@ -33,7 +33,7 @@ fn points(alloc: Global, frontier: &[SurfacePoint]) -> Result<Vec<Point>, AllocE
     Ok(points)
 }
 
-// The contours by an outlook. An error is want of memory.
+// The contours by an outlook. The only error is out of memory.
 fn contours_by(alloc: Global, outlook: &Outlook<'_>, threshold: u32) -> Result<Made, AllocError>
     requires { threshold ≤ max_threshold }
     ensures contours { IfOk result (λ made.
@@ -56,7 +56,7 @@ fn contours_by(alloc: Global, outlook: &Outlook<'_>, threshold: u32) -> Result<M
     })
 }
 
-/// Makes the contours of the compiled bouquet of a block. An error is want of memory.
+/// Makes the contours of the compiled bouquet of a block. The only error is out of memory.
 pub(crate) fn make(alloc: Global, costing: &Costing<'_>, threshold: u32) -> Result<Made, AllocError>
     requires { threshold ≤ max_threshold }
     ensures contours { IfOk result (λ made.

@@ -66,7 +66,7 @@ fn count(surface: &CostSurface<'_>) -> u32
     count
 }
 
-// The contour of this cost. An error is want of memory.
+// The contour of this cost. The only error is out of memory.
 fn contour(
     alloc: Global,
     outlook: &Outlook<'_>,

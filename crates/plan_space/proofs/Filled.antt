@@ -16,7 +16,7 @@ use Rattle.plan_tree.specs.declared.roots.Root.{Root}
 use Rattle.plan_tree.specs.declared.roots.Root.TheVariants as root
 use Rattle.plan_space.specs.declared.entry.Entry.{Entry}
 use Rattle.plan_tree.specs.Roots.{Stands, IsSplit}
-use Rattle.plan_space.specs.Table.{entry_at, side_costs, offered, NotLater, IsLeast, AreLeast, AreStanding, Follows}
+use Rattle.plan_space.specs.Table.{entry_at, side_costs, offered, NotLater, IsLeast, AllStand, AreLeast, Follows}
 use Rattle.cost_model.specs.Prices.{OwnCost, sum_of, own_at, block_at}
 use Rattle.cost_model.specs.Pricing.{Pricing}
 use Rattle.plan_space.specs.Search.{SearchShape, IsFound, IsLeastFound}
@@ -133,10 +133,10 @@ module _ (own : OwnCost) (block : BlockTree) (table : List Entry) (end : ℕ) (e
 
 -- ---- what a filled table tells
 
-pub standing : (own : OwnCost) (block : BlockTree) (table : List Entry) (end : ℕ) → AreLeast own block table end → AreStanding block table end
-standing own block table end least set some below = (least set some below).kept.stands
+pub standing : (own : OwnCost) (block : BlockTree) (table : List Entry) → AreLeast own block table (2 ^ length block.relations) → AllStand block table
+standing own block table least set some below = (least set some below).kept.stands
 
-module _ (block : BlockTree) (table : List Entry) (standing : AreStanding block table (2 ^ length block.relations)) (set : ℕ) (some : 1 ≤ set) (below : set < 2 ^ length block.relations) where
+module _ (block : BlockTree) (table : List Entry) (standing : AllStand block table) (set : ℕ) (some : 1 ≤ set) (below : set < 2 ^ length block.relations) where
   stands-there : (node : Root) → (entry_at table set).root ≡ node → Stands block node set
   stands-there node is = subst (λ one. Stands block one set) is (standing set some below)
 

@@ -4,10 +4,10 @@ use Rattle.query_block.specs.Blocks.{BlockTree}
 use Rattle.plan_tree.specs.Plans.{PlanTree, Nest, Hash, Merge, IndexLoop}
 use Rattle.plan_tree.specs.declared.roots.Root.TheVariants as root
 use Rattle.plan_space.specs.declared.entry.Entry.{Entry}
-use Rattle.plan_space.specs.Table.{entry_at, AreStanding, Follows, IsTold}
+use Rattle.plan_space.specs.Table.{entry_at, AllStand, Follows, IsTold}
 use Rattle.plan_space.proofs.Filled.{covers-nest, covers-hash, covers-merge, covers-loop}
 
-module _ (block : BlockTree) (table : List Entry) (standing : AreStanding block table (2 ^ length block.relations)) (set : ℕ) (some : 1 ≤ set) (below : set < 2 ^ length block.relations) (left : ℕ)
+module _ (block : BlockTree) (table : List Entry) (standing : AllStand block table) (set : ℕ) (some : 1 ≤ set) (below : set < 2 ^ length block.relations) (left : ℕ)
     (l : PlanTree) (one : IsTold table l left) where
   pub told-nest : (r : PlanTree) → (entry_at table set).root ≡ root.Nest left → IsTold table r (set - left) → IsTold table (Nest l r) set
   told-nest r is other = record {

@@ -8,6 +8,7 @@ use Rattle.plan_tree.specs.Sets.{set_of}
 use Rattle.cost_model.specs.Costing.{CostingShape}
 use Rattle.cost_model.specs.Alike.{IsAlike}
 use Rattle.plan_space.specs.declared.entry.Entry.{Entry}
+use Rattle.plan_space.specs.Places.{HoldsAt}
 use Rattle.plan_space.specs.Table.{AreLeast}
 use Rattle.cost_model.specs.Pricing.{Pricing}
 use Rattle.cost_model.specs.Prices.{own_at, block_at}
@@ -45,7 +46,7 @@ LeastAt costing point row =
 
 -- so at the point at this place of the grid
 abbrev pub IsLeastRow : CostingShape → (place : ℕ) → List Entry → Type 0
-IsLeastRow costing place row = (point : List ℕ) → point_at costing.grid place ≡ Some point → LeastAt costing point row
+IsLeastRow costing place row = HoldsAt costing.grid place (λ point. LeastAt costing point row)
 
 -- the tables of the first points of the grid, each a row
 abbrev pub AreLeastRows : CostingShape → List (List Entry) → Type 0

@@ -26,18 +26,14 @@ pub record IsNthPlan (plans : List PlanTree) (p : PlanTree) (place : ℕ) : Type
   pub exists : place < length plans
   pub is : nth_plan plans place ≡ p
 
--- a node with its sides
-abbrev pub plan_with : Root → (left right : PlanTree) → PlanTree
-plan_with (root.Scan relation) left right = Scan relation
-plan_with (root.IndexScan relation column) left right = IndexScan relation column
-plan_with (root.Nest set) left right = Nest left right
-plan_with (root.Hash edge set) left right = Hash edge left right
-plan_with (root.Merge edge set) left right = Merge edge left right
-plan_with (root.IndexLoop edge set relation) left right = IndexLoop edge left relation
-
 -- a node over the parts of these numbers
 abbrev pub plan_over : List PlanTree → Root → (left right : ℕ) → PlanTree
-plan_over parts node left right = plan_with node (nth_plan parts left) (nth_plan parts right)
+plan_over parts (root.Scan relation) left right = Scan relation
+plan_over parts (root.IndexScan relation column) left right = IndexScan relation column
+plan_over parts (root.Nest set) left right = Nest (nth_plan parts left) (nth_plan parts right)
+plan_over parts (root.Hash edge set) left right = Hash edge (nth_plan parts left) (nth_plan parts right)
+plan_over parts (root.Merge edge set) left right = Merge edge (nth_plan parts left) (nth_plan parts right)
+plan_over parts (root.IndexLoop edge set relation) left right = IndexLoop edge (nth_plan parts left) relation
 
 -- some parts, and those of some nodes behind them, each over the parts before it
 abbrev pub parts_behind : List PlanTree → List Node → List PlanTree

@@ -56,13 +56,9 @@ pub record IsLeast (own : OwnCost) (block : BlockTree) (table : List Entry) (set
 abbrev pub AreLeast : OwnCost → BlockTree → List Entry → (end : ℕ) → Type 0
 AreLeast own block table end = (set : ℕ) → 1 ≤ set → set < end → IsLeast own block table set (entry_at table set)
 
--- each of these nodes may be the outermost one of a plan of its set
-abbrev pub AreStanding : BlockTree → List Entry → (end : ℕ) → Type 0
-AreStanding block table end = (set : ℕ) → 1 ≤ set → set < end → Stands block (entry_at table set).root set
-
--- so for all sets of the block's relations
+-- the node of each set of the block's relations may be the outermost one of a plan of the set
 abbrev pub AllStand : BlockTree → List Entry → Type 0
-AllStand block table = AreStanding block table (2 ^ length block.relations)
+AllStand block table = (set : ℕ) → 1 ≤ set → set < 2 ^ length block.relations → Stands block (entry_at table set).root set
 
 -- a set of the block's relations that has an entry
 pub record HasEntry (block : BlockTree) (set : ℕ) : Type 0 where

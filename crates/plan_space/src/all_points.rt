@@ -5,7 +5,9 @@ ghost use Rattle.ess_grid.specs.Points.{points_of};
 ghost use Rattle.query_block.specs.Blocks.{block_tree};
 ghost use Rattle.plan_tree.specs.Plans.{plan_tree};
 ghost use Rattle.cost_model.specs.Costing.{costing_tree};
-ghost use Rattle.plan_space.specs.Places.{IsOptimalAt, IsBestAt};
+ghost use Rattle.cost_model.specs.Best.{IsBest};
+ghost use Rattle.cost_model.specs.Optimal.{optimal_cost};
+ghost use Rattle.plan_space.specs.Places.{HoldsAt};
 ghost use Rattle.plan_space.specs.Table.{AllStand};
 ghost use Rattle.plan_space.specs.Alike.{AreEarlier, AreLeastRows, IsLeastRow};
 
@@ -79,7 +81,7 @@ fn rows_of(alloc: Global, costing: &Costing<'_>) -> Result<Vec<[Entry; 64]>, All
 }
 
 /// Finds the best plans at all points at once: each set of relations is searched once for each combination of the levels of
-/// the axes inside it. An error is want of memory.
+/// the axes inside it. The only error is out of memory.
 pub(crate) fn best_at_all_points<'c>(
     alloc: Global,
     costing: &'c Costing<'c>,
@@ -103,7 +105,8 @@ impl BestPlans<'_> {
     /// What the best plan costs at the point at this place of the grid, from 0: the optimal cost there.
     pub(crate) fn cost(&self, place: usize) -> u128
         requires { place < length (points_of self.now.grid) }
-        ensures cost { IsOptimalAt (costing_tree self.now) place result }
+        ensures cost { HoldsAt self.now.grid place
+            (λ point. result ≡ optimal_cost (costing_tree self.now) point) }
         ensures bound { result < cost_bound }
     {
         let all = set_of_all(self.costing.block());
@@ -111,10 +114,11 @@ impl BestPlans<'_> {
     }
 
     /// The best plan at the point at this place of the grid, from 0: of all plans of the block the cheapest, and of equally
-    /// cheap ones the first in plan order. An error is want of memory.
+    /// cheap ones the first in plan order. The only error is out of memory.
     pub(crate) fn plan(&self, alloc: Global, place: usize) -> Result<Plan, AllocError>
         requires { place < length (points_of self.now.grid) }
-        ensures { IfOk result (λ p. IsBestAt (costing_tree self.now) place (plan_tree p)) }
+        ensures { IfOk result (λ p. HoldsAt self.now.grid place
+            (λ point. IsBest (costing_tree self.now) point (plan_tree p))) }
     {
         let block = self.costing.block();
         let p = rebuilt(alloc, block, self.row(place), set_of_all(block))?;
@@ -124,7 +128,8 @@ impl BestPlans<'_> {
     /// Whether a plan is the best one at the point at this place of the grid, from 0. It takes no memory.
     pub(crate) fn is_plan(&self, place: usize, p: &Plan) -> bool
         requires { place < length (points_of self.now.grid) }
-        ensures { IsTrue result → IsBestAt (costing_tree self.now) place (plan_tree p.now) }
+        ensures { IsTrue result → HoldsAt self.now.grid place
+            (λ point. IsBest (costing_tree self.now) point (plan_tree p.now)) }
     {
         let block = self.costing.block();
         tells(block, self.row(place), set_of_all(block), p)

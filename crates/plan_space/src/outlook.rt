@@ -1,10 +1,11 @@
 // The frontiers of a block with the plans that are best there.
-ghost use Rattle.std.specs.Prelude.{◌≡◌, ◌+◌, ◌<◌, ◌≤◌, ℕ, List, All, IfOk, IsTrue, OnOk, Some, length};
+ghost use Rattle.std.specs.Prelude.{◌≡◌, ◌+◌, ◌<◌, ◌≤◌, All, IfOk, IsTrue, OnOk, length};
 ghost use Rattle.sql_values.specs.Limits.{max_contour_cost};
-ghost use Rattle.ess_grid.specs.Points.{points_of, point_at};
+ghost use Rattle.ess_grid.specs.Points.{points_of};
 ghost use Rattle.cost_model.specs.Costing.{costing_tree, IsCosting};
 ghost use Rattle.cost_model.specs.Frontier.{frontier};
 ghost use Rattle.plan_space.specs.SurfacePoints.{IsSurfacePoint, surface_points};
+ghost use Rattle.plan_space.specs.Places.{HoldsAt};
 ghost use Rattle.plan_space.specs.FrontierPlans.{AreFrontierPlans, HasBest, HoldsBest};
 
 use crate::all_points::{BestPlans, best_at_all_points};
@@ -46,7 +47,7 @@ impl<'c> Model for Outlook<'c> {
 }
 
 impl<'c> Outlook<'c> {
-    /// That of a costing. An error is want of memory.
+    /// That of a costing. The only error is out of memory.
     pub fn new(alloc: Global, costing: &'c Costing<'c>) -> Result<Outlook<'c>, AllocError>
         ensures { IfOk result (λ outlook. outlook ≡ costing.now) }
     {
@@ -74,8 +75,8 @@ impl<'c> Outlook<'c> {
     // Whether one of these plans is the best one at the point at this place.
     fn has_plan(&self, plans: &[Plan], place: usize) -> bool
         requires { place < length (points_of self.now.grid) }
-        ensures { IsTrue result → (point : List ℕ) → point_at self.now.grid place ≡ Some point →
-            HasBest (costing_tree self.now) plans.now point }
+        ensures { IsTrue result
+            → HoldsAt self.now.grid place (HasBest (costing_tree self.now) plans.now) }
     {
         for p in plans {
             if self.best.is_plan(place, p) {

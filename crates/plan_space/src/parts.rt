@@ -129,7 +129,7 @@ fn root_over(p: &Plan, left: u8) -> Root
 }
 
 impl<'b> Parts<'b> {
-    /// No parts of plans of a block yet, where so many plans are expected. An error is want of memory.
+    /// No parts of plans of a block yet, where so many plans are expected. The only error is out of memory.
     pub(crate) fn new(
         alloc: Global,
         block: &'b Block,
@@ -145,7 +145,7 @@ impl<'b> Parts<'b> {
         })
     }
 
-    // The number of the part with this node, which is added where it isn't there. An error is want of memory.
+    // The number of the part with this node, which is added where it isn't there. The only error is out of memory.
     fn number_of(&mut self, node: Node) -> Result<usize, AllocError>
         requires { IsNodeOver (block_tree self.old.block) self.old.plans
             node.root node.set node.left node.right }
@@ -179,7 +179,7 @@ impl<'b> Parts<'b> {
         self.nodes.as_slice()[number].set
     }
 
-    // The number of a leaf. An error is want of memory.
+    // The number of a leaf. The only error is out of memory.
     fn leaf(&mut self, root: Root, relation: u8) -> Result<usize, AllocError>
         requires relation { relation < 8 }
         requires node { IsNodeOver (block_tree self.old.block) self.old.plans root (2 ^ relation) 0 0 }
@@ -195,7 +195,7 @@ impl<'b> Parts<'b> {
         })
     }
 
-    // The number of a join of two parts. An error is want of memory.
+    // The number of a join of two parts. The only error is out of memory.
     fn join(&mut self, root: Root, left: usize, right: usize) -> Result<usize, AllocError>
         requires left { left < length self.old.plans }
         requires right { right < length self.old.plans }
@@ -216,7 +216,7 @@ impl<'b> Parts<'b> {
         })
     }
 
-    // The number of an index loop over a part. An error is want of memory.
+    // The number of an index loop over a part. The only error is out of memory.
     fn index_loop(&mut self, edge: u8, left: usize, relation: u8) -> Result<usize, AllocError>
         requires left { left < length self.old.plans }
         requires relation { relation < 8 }
@@ -236,7 +236,7 @@ impl<'b> Parts<'b> {
         })
     }
 
-    /// The number of a plan, whose parts are added where they aren't there. An error is want of memory. It takes as much of
+    /// The number of a plan, whose parts are added where they aren't there. The only error is out of memory. It takes as much of
     /// the machine's stack as the plan is deep.
     pub(crate) fn number(&mut self, p: &Plan) -> Result<usize, AllocError>
         requires plan { IsSubPlan (block_tree self.old.block) (plan_tree p.now) }

@@ -139,7 +139,7 @@ fn best_at(
 }
 
 /// The best plan of the block at a point of the costing's grid, and what it costs there: of all plans of the block the
-/// cheapest, and of equally cheap ones the first in plan order. An error is want of memory.
+/// cheapest, and of equally cheap ones the first in plan order. The only error is out of memory.
 pub fn best(alloc: Global, costing: &Costing<'_>, q: &Point) -> Result<(Plan, u128), AllocError>
     requires { IsPoint costing.now.grid q.now }
     ensures best { IfOk result (λ found.

@@ -1,12 +1,14 @@
 // The optimal cost at each point of a grid, and the frontiers: the points that cost at most so
 // much, and above which each next point costs more.
 ghost use Rattle.std.specs.Prelude.{◌≡◌, ◌<◌, ◌≤◌, All, IfOk, IfSome, Some, length, map};
+ghost use Rattle.std.specs.List.{list_any};
 ghost use Rattle.sql_values.specs.Limits.{max_contour_cost};
 ghost use Rattle.ess_grid.specs.Points.{IsGrid, points_of, point_at, bottom_of, top_of};
 ghost use Rattle.cost_model.specs.Costing.{costing_tree, IsCosting};
 ghost use Rattle.cost_model.specs.Optimal.{optimal_cost};
-ghost use Rattle.cost_model.specs.Frontier.{frontier};
-ghost use Rattle.plan_space.specs.Places.{TellsFrontier, TellsSuccessorWithin, TellsWithinCost};
+ghost use Rattle.ess_grid.specs.Order.{successors};
+ghost use Rattle.cost_model.specs.Frontier.{frontier, is_on_frontier, is_within_cost};
+ghost use Rattle.plan_space.specs.Places.{HoldsAt};
 ghost use Rattle.plan_space.specs.Surface.{optimal_costs};
 ghost use Rattle.plan_space.specs.SurfacePoints.{IsSurfacePoint};
 
@@ -77,7 +79,7 @@ impl<'c> CostSurface<'c> {
     }
 
     /// That of a costing. Where the optimal costs at all points of the grid are known, in its order, they aren't worked out
-    /// again. An error is want of memory.
+    /// again. The only error is out of memory.
     pub fn new(
         alloc: Global,
         costing: &'c Costing<'c>,
@@ -134,7 +136,8 @@ impl<'c> CostSurface<'c> {
     // Whether the optimal cost at the point at this place is at most this one.
     fn is_within_cost(&self, cost: u128, place: usize) -> bool
         requires { place < length (points_of self.now.grid) }
-        ensures { TellsWithinCost (costing_tree self.now) cost place result }
+        ensures { HoldsAt self.now.grid place
+            (λ point. result ≡ is_within_cost (costing_tree self.now) cost point) }
     {
         self.costs[place] <= cost
     }
@@ -143,7 +146,8 @@ impl<'c> CostSurface<'c> {
     // place: on each axis the next point stands levels to the power of the axis further on.
     fn has_successor_within(&self, cost: u128, place: usize) -> bool
         requires { place < length (points_of self.now.grid) }
-        ensures { TellsSuccessorWithin (costing_tree self.now) cost place result }
+        ensures { HoldsAt self.now.grid place (λ point. result
+            ≡ list_any (is_within_cost (costing_tree self.now) cost) (successors self.now.grid point)) }
     {
         let grid = self.costing.grid();
         let levels = grid.levels();
@@ -163,7 +167,8 @@ impl<'c> CostSurface<'c> {
     pub fn is_on_frontier(&self, cost: u128, place: usize) -> bool
         requires cost { cost ≤ max_contour_cost }
         requires place { place < length (points_of self.now.grid) }
-        ensures { TellsFrontier (costing_tree self.now) cost place result }
+        ensures { HoldsAt self.now.grid place
+            (λ point. result ≡ is_on_frontier (costing_tree self.now) cost point) }
     {
         self.is_within_cost(cost, place) && !self.has_successor_within(cost, place)
     }
@@ -180,7 +185,7 @@ impl<'c> CostSurface<'c> {
         }
     }
 
-    /// The points of the frontier of a contour of this cost, in the grid's order. An error is want of memory.
+    /// The points of the frontier of a contour of this cost, in the grid's order. The only error is out of memory.
     pub fn frontier(&self, alloc: Global, cost: u128) -> Result<Vec<SurfacePoint>, AllocError>
         requires { cost ≤ max_contour_cost }
         ensures points { IfOk result (λ found.

@@ -16,4 +16,4 @@ returns-clause-stands c =
     let lent : c.args.place < length c.as_slice.result.now =
     omega (arith, c.self.invariant.1, ap (λ costing. length (points_of costing.grid)) c.self.view_is, c.requires, ap length c.as_slice.ensures.value) in
     let points = points_of c.args.self.now.grid in
-    standing _ _ _ _ (moved _ _ _ _ c.self.invariant.0 c.self.view_is c.as_slice.ensures.value c.args.place (get_or points c.args.place []) lent (slice_get-get_or points c.args.place [] c.requires))
+    standing _ _ _ (moved _ _ _ _ c.self.invariant.0 c.self.view_is c.as_slice.ensures.value c.args.place (get_or points c.args.place []) lent (slice_get-get_or points c.args.place [] c.requires))

@@ -7,7 +7,7 @@ use Rattle.plan_tree.specs.Plans.{plan_tree}
 use Rattle.cost_model.specs.Best.{IsBest}
 use Rattle.cost_model.specs.Costing.{CostingShape, costing_tree}
 use Rattle.plan_space.specs.declared.surface.SurfacePoint.{SurfacePoint}
-use Rattle.plan_space.specs.Places.{IsBestAt}
+use Rattle.plan_space.specs.Places.{HoldsAt}
 use Rattle.plan_space.specs.SurfacePoints.{surface_points}
 use Rattle.plan_space.specs.FrontierPlans.{HasBest, HoldsBest, nth_point}
 use Rattle.plan_space.proofs.HeldPlans.{holds-known, holds-more}
@@ -38,7 +38,7 @@ returns c =
     let p = c.in_ok-plan.field-0 in
     let grid = c.grid.ensures ∙ ap (λ (one : CostingShape). one.grid) c.costing.ensures.same in
     let there = subst (λ grid. point_at grid place ≡ Some at.point) grid c.place_of-place.ensures.place in
-    let best = subst (λ (one : CostingShape). IsBestAt (costing_tree one) place (plan_tree p)) (c.self.invariant ∙ c.self.view_is) c.in_ok-plan.ensures in
+    let best = subst (λ (one : CostingShape). HoldsAt one.grid place (λ q. IsBest (costing_tree one) q (plan_tree p))) (c.self.invariant ∙ c.self.view_is) c.in_ok-plan.ensures in
     let point : nth_point (surface_points points) number ≡ at.point =
     get_or-map (λ (one : SurfacePoint). one.point) points number c.index-points-number.result [] c.requires.number in
     subst (λ (all : List Plan). HoldsBest costing (surface_points points) (number + 1) all) (sym c.in_ok-push.ensures.items)
