@@ -1,5 +1,6 @@
 -- Where a run stands in the schedule of a bouquet.
 use Rattle.std.specs.Prelude.{◌≡◌, ℕ, ◌+◌, ◌-◌, ◌^◌, ◌≤◌, ◌++◌, ⊤, List, [], ◌∷◌, drop, length, slice_index_or, Option, Some, None}
+use Rattle.std.specs.Option.{option_map_or}
 use Rattle.sql_values.specs.Limits.{max_contours}
 use Rattle.plan_tree.specs.Plans.{PlanTree, Scan, plan_tree}
 use Rattle.bouquet_type.specs.declared.schedule.Attempt.{Attempt}
@@ -29,13 +30,11 @@ abbrev pub attempt_tree : Attempt → AttemptTree
 attempt_tree attempt = record { plan = plan_tree attempt.plan.now; budget = attempt.budget; contour = attempt.contour }
 
 -- the executions under budgets that are left, in order
-abbrev pub members_at : (budget : Option ℕ) → ScheduleState → List Member
-members_at None s = []
-members_at (Some budget) s =
-    members_on budget s.number s.ladder.hand.cost (s.given + 1) (drop s.given s.ladder.hand.plans) ++ members_from s.ladder.whole.threshold (s.number + 1) s.ladder.ahead
-
 abbrev pub members_left : ScheduleState → List Member
-members_left s = members_at s.budget s
+members_left s =
+    option_map_or (λ budget.
+    members_on budget s.number s.ladder.hand.cost (s.given + 1) (drop s.given s.ladder.hand.plans) ++ members_from s.ladder.whole.threshold (s.number + 1) s.ladder.ahead)
+    s.budget []
 
 -- the first of some executions under budgets, and the others; the final plan where there is none
 abbrev pub first_attempt : List Member → (final : PlanTree) → AttemptTree
@@ -47,15 +46,11 @@ members_behind [] = []
 members_behind (member ∷ more) = more
 
 -- the execution at which a run stands: the plan that was given last, the final plan where no budget is left
-abbrev pub tried_contour : Option ℕ → (number : ℕ) → ℕ
-tried_contour None number = 0
-tried_contour (Some budget) number = number
-
 abbrev pub attempt_at : ScheduleState → AttemptTree
 attempt_at s = record {
   plan = slice_index_or s.ladder.hand.plans (s.given - 1) (Scan 0);
   budget = s.budget;
-  contour = tried_contour s.budget s.number;
+  contour = option_map_or (λ _. s.number) s.budget 0;
 }
 
 -- without a budget the last plan of the last contour was given

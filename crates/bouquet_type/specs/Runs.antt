@@ -31,19 +31,9 @@ end_of work (member ∷ more) final =
 abbrev pub run_end : BouquetTree → (work : PlanTree → ℕ) → RunEnd
 run_end bouquet work = end_of work (schedule bouquet) (final_plan bouquet)
 
--- the plan whose rows are the answer, the work of the whole run, how many executions there are, and on which contour the
--- last one is
-abbrev pub winner : BouquetTree → (work : PlanTree → ℕ) → PlanTree
-winner bouquet work = (run_end bouquet work).plan
-
+-- the work of the whole run
 abbrev pub total_work : BouquetTree → (work : PlanTree → ℕ) → ℕ
 total_work bouquet work = (run_end bouquet work).total
-
-abbrev pub runs_of : BouquetTree → (work : PlanTree → ℕ) → ℕ
-runs_of bouquet work = (run_end bouquet work).runs
-
-abbrev pub contour_of : BouquetTree → (work : PlanTree → ℕ) → ℕ
-contour_of bouquet work = (run_end bouquet work).contour
 
 -- at this point no plan's work is more than its cost, and no plan's cost is more than a / b times its work
 pub record CostPremise (costing : CostingTree) (point : List ℕ) (a b : ℕ) (work : PlanTree → ℕ) : Type 0 where
