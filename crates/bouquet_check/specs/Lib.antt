@@ -1,3 +1,3 @@
 pub mod Verdicts
 pub mod Evidence
-pub mod Covering
+pub mod Budgeted

@@ -7,7 +7,7 @@ ghost use Rattle.bouquet_type.specs.Sound.{IsSound, first_cost, last_cost};
 ghost use Rattle.bouquet_check.specs.Verdicts.{Sound, verdict_of, verdict_tree};
 ghost use Rattle.bouquet_check.specs.Verdicts.{cover_verdict, uncovered_point, wrong_step};
 
-use crate::cover::Cover;
+use crate::budgeted::BudgetedPlans;
 use crate::verdict::Verdict;
 use bouquet_type::{Bouquet, Contour};
 use ess_grid::Point;
@@ -55,11 +55,11 @@ fn uncovered_point(
 {
     let costing = surface.costing();
     let grid = costing.grid();
-    let mut cover = Cover::new(costing, &contour.plans, budget);
+    let mut plans = BudgetedPlans::new(costing, &contour.plans, budget);
     for place in 0..grid.points() {
         if surface.is_on_frontier(contour.cost, place) {
             let q = grid.point(place);
-            if !cover.fits(alloc, &q)? {
+            if !plans.fits(alloc, &q)? {
                 return Ok(Some(q));
             }
         }

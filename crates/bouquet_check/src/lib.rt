@@ -5,8 +5,8 @@
 //! It never changes a bouquet, never makes a plan, and never looks at a point that isn't on the frontier of a contour.
 #![tactic(auto)]
 
+mod budgeted;
 mod checked;
-mod cover;
 mod law;
 mod verdict;
 

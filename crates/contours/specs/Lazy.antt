@@ -1,5 +1,6 @@
 -- The contours of a compiled bouquet, made one after another.
 use Rattle.std.specs.Prelude.{◌≡◌, ℕ, ◌+◌, ◌≤◌, List, [], ◌∷◌, drop, Option, Some, None}
+use Rattle.std.specs.Option.{option_map_or}
 use Rattle.sql_values.specs.Limits.{max_threshold}
 use Rattle.cost_model.specs.Costing.{CostingShape, IsCosting, costing_tree}
 use Rattle.cost_model.specs.Frontier.{frontier}
@@ -48,9 +49,5 @@ pub record LazyState : Type 0 where
   pub maker : MakerState
   pub hand : Option Contour
 
-abbrev pub tree_at : Option Contour → ContourTree
-tree_at None = record { cost = 0; plans = [] }
-tree_at (Some contour) = contour_tree contour
-
 abbrev pub lazy_ladder : LazyState → LadderState
-lazy_ladder l = record { whole = whole_of l.maker; hand = tree_at l.hand; ahead = ahead_of l.maker }
+lazy_ladder l = record { whole = whole_of l.maker; hand = option_map_or contour_tree l.hand (record { cost = 0; plans = [] }); ahead = ahead_of l.maker }

@@ -112,7 +112,8 @@ impl<'o> Maker<'o> {
         self.threshold
     }
 
-    /// Makes the next contour. None where all were made. An error is want of memory, and the contour is the next one still.
+    /// Makes the next contour. None where all were made. The only error is out of memory, and the contour is the next one
+    /// still.
     pub(crate) fn next(&mut self, alloc: Global) -> Result<Option<Found>, AllocError>
         ensures made { IfOk result (Makes self.old self.new) }
         ensures stays { OnErr result (self.new ≡ self.old) }

@@ -6,14 +6,14 @@ use Rattle.plan_tree.specs.Plans.{plan_tree}
 use Rattle.cost_model.specs.Costing.{CostingShape, costing_tree}
 use Rattle.cost_model.specs.Frontier.{is_on_frontier}
 use Rattle.bouquet_check.specs.Verdicts.{fits_at}
-use Rattle.bouquet_check.specs.Covering.{CoverShape}
+use Rattle.bouquet_check.specs.Budgeted.{BudgetedShape}
 use Rattle.bouquet_check.proofs.Walks.{points_from, points-first, points-next, points-end}
 use Rattle.bouquet_check.proofs.checked.uncovered_point.Goals as goal
 use Rattle.bouquet_check.proofs.checked.uncovered_point.Goals.{then-is_on_frontier+in_ok-fits+else-not-branch, else-is_on_frontier}
 
 pub loop-place-init : goal.loop-place-init
 loop-place-init c = record {
-  same = cc (c.new-cover.ensures, c.costing-costing.ensures.same, c.deref.ensures.value);
+  same = cc (c.new-plans.ensures, c.costing-costing.ensures.same, c.deref.ensures.value);
   left = points-first (costing_tree c.args.surface.now) c.args.contour.now.cost c.args.budget (map plan_tree c.args.contour.now.plans.items);
 }
 
@@ -29,7 +29,7 @@ returns-then-not-branch c =
     let there : point_at costing.grid place ≡ Some q = ap (λ (one : GridShape). point_at one place) (sym grid) ∙ c.point-q.ensures.point in
     let on : is_on_frontier costing cost q ≡ true = sym (c.is_on_frontier.ensures q there) ∙ c.if-is_on_frontier.true in
     let none : fits_at costing budget plans q ≡ false =
-    sym (c.in_ok-fits.ensures.fits ∙ ap (λ (one : CoverShape). fits_at (costing_tree one.costing) one.budget (map plan_tree one.plans) q) c.loop-place.invariant.same)
+    sym (c.in_ok-fits.ensures.fits ∙ ap (λ (one : BudgetedShape). fits_at (costing_tree one.costing) one.budget (map plan_tree one.plans) q) c.loop-place.invariant.same)
     ∙ c.if-not-branch.true in
     sym (
     points-next costing cost budget plans place q there
@@ -51,10 +51,10 @@ loop-place-preserved c =
           let there : point_at costing.grid place ≡ Some q = ap (λ (one : GridShape). point_at one place) (sym grid) ∙ w.point-q.ensures.point in
           let on : is_on_frontier costing cost q ≡ true = sym (c.is_on_frontier.ensures q there) ∙ w.if-is_on_frontier.true in
           let some : fits_at costing budget plans q ≡ true =
-          sym (w.in_ok-fits.ensures.fits ∙ ap (λ (one : CoverShape). fits_at (costing_tree one.costing) one.budget (map plan_tree one.plans) q) c.loop-place.invariant.same)
+          sym (w.in_ok-fits.ensures.fits ∙ ap (λ (one : BudgetedShape). fits_at (costing_tree one.costing) one.budget (map plan_tree one.plans) q) c.loop-place.invariant.same)
           ∙ w.if-not-branch.false in
           record {
-            same = w.cover-is ∙ w.in_ok-fits.ensures.same ∙ c.loop-place.invariant.same;
+            same = w.plans-is ∙ w.in_ok-fits.ensures.same ∙ c.loop-place.invariant.same;
             left = sym (
                 points-next costing cost budget plans place q there
                 ∙ ap₂ (λ is fits. cond (is && not fits) (Some q) (points_from costing cost budget plans (place + 1))) on some
@@ -68,7 +68,7 @@ loop-place-preserved c =
           let there : point_at costing.grid place ≡ Some q = slice_get-get_or points place [] below in
           let off : is_on_frontier costing cost q ≡ false = sym (c.is_on_frontier.ensures q there) ∙ w.if-is_on_frontier.false in
           record {
-            same = w.cover-is ∙ c.loop-place.invariant.same;
+            same = w.plans-is ∙ c.loop-place.invariant.same;
             left = sym (
                 points-next costing cost budget plans place q there
                 ∙ ap (λ is. cond (is && not (fits_at costing budget plans q)) (Some q) (points_from costing cost budget plans (place + 1))) off

@@ -7,7 +7,7 @@ use Rattle.bouquet_check.proofs.checked.uncovered_point.Given as goal
 
 abbrev pub invariant-loop-place : goal.invariant-loop-place
 invariant-loop-place l = record {
-  same : l.cover ≡ record { costing = l.surface; plans = l.contour.plans.items; budget = l.budget };
+  same : l.plans ≡ record { costing = l.surface; plans = l.contour.plans.items; budget = l.budget };
   left : points_from (costing_tree l.surface) l.contour.cost l.budget (map plan_tree l.contour.plans.items) l.place
       ≡ uncovered_point (costing_tree l.surface) l.contour.cost l.budget (map plan_tree l.contour.plans.items);
 }

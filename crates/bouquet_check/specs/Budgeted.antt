@@ -10,16 +10,16 @@ use Rattle.plan_space.specs.CostedPlans.{CostedPlansShape, HoldsPlans}
 use Rattle.bouquet_check.specs.Verdicts.{fits_at}
 
 -- by which costs, which plans, and under which budget
-pub record CoverShape : Type 0 where
+pub record BudgetedShape : Type 0 where
   pub costing : CostingShape
   pub plans : List Plan
   pub budget : ℕ
 
 -- the plans are those of the block, and one of them is at hand; where all are held, these are they
-pub record IsCover (cover : CoverShape) (last : ℕ) (held : Option CostedPlansShape) : Type 0 where
-  pub at : last < length cover.plans
-  pub plans : All (λ p. IsPlan (block_tree cover.costing.block) (plan_tree p)) cover.plans
-  pub those : ForSome held (HoldsPlans cover.costing cover.plans)
+pub record AreBudgeted (given : BudgetedShape) (last : ℕ) (held : Option CostedPlansShape) : Type 0 where
+  pub at : last < length given.plans
+  pub plans : All (λ p. IsPlan (block_tree given.costing.block) (plan_tree p)) given.plans
+  pub those : ForSome held (HoldsPlans given.costing given.plans)
 
 -- of plans that are costed at a point the place of one that is within a budget there; none where none is
 abbrev pub FindsWithin : CostedPlansShape → (budget : ℕ) → Option ℕ → Type 0

@@ -1,6 +1,6 @@
 use Rattle.std.proofs.Common.{arith}
 use Rattle.std.proofs.lemmas.Grind.{common_steps}
-use Rattle.bouquet_check.proofs.cover.Cover.search.Goals as goal
+use Rattle.bouquet_check.proofs.budgeted.BudgetedPlans.search.Goals as goal
 
 pub place_within-place-requires : goal.place_within-place-requires
 place_within-place-requires c = grind (arith, common_steps)

@@ -8,7 +8,7 @@ ghost use Rattle.plan_tree.specs.Enumerated.{IsPlan};
 ghost use Rattle.cost_model.specs.Costing.{costing_tree};
 ghost use Rattle.bouquet_check.specs.Verdicts.{fits_at};
 ghost use Rattle.plan_space.specs.CostedPlans.{HoldsPlans};
-ghost use Rattle.bouquet_check.specs.Covering.{FindsWithin};
+ghost use Rattle.bouquet_check.specs.Budgeted.{FindsWithin};
 
 use cost_model::Costing;
 use ess_grid::Point;
@@ -19,7 +19,7 @@ use std::marker::Model;
 
 /// The plans of a contour under its budget.
 #[derive(Drop)]
-pub(crate) struct Cover<'c> {
+pub(crate) struct BudgetedPlans<'c> {
     costing: &'c Costing<'c>,
     plans: &'c [Plan],
     budget: u128,
@@ -29,13 +29,13 @@ pub(crate) struct Cover<'c> {
     all: Option<CostedPlans<'c>>,
 }
 
-impl<'c> Model for Cover<'c> {
+impl<'c> Model for BudgetedPlans<'c> {
     ghost use Rattle.query_block.specs.contracts.condition.Condition as condition;
     ghost use Rattle.plan_tree.specs.contracts.plan.Plan as plan;
     ghost use Rattle.std.specs.Coded.{codes};
-    ghost use Rattle.bouquet_check.specs.Covering.{CoverShape, IsCover};
+    ghost use Rattle.bouquet_check.specs.Budgeted.{BudgetedShape, AreBudgeted};
 
-    ghost Value = { CoverShape };
+    ghost Value = { BudgetedShape };
 
     ghost coded = { Prim.hlevel (codes, condition.the_row.coded, plan.the_row.coded) };
 
@@ -45,7 +45,7 @@ impl<'c> Model for Cover<'c> {
       budget = c.budget;
     } };
 
-    ghost invariant = { λ c. IsCover (record {
+    ghost invariant = { λ c. AreBudgeted (record {
       costing = c.costing.now;
       plans = c.plans.now;
       budget = c.budget;
@@ -65,14 +65,18 @@ fn place_within(all: &CostedPlans<'_>, count: usize, budget: u128) -> Option<usi
     None
 }
 
-impl<'c> Cover<'c> {
+impl<'c> BudgetedPlans<'c> {
     /// Some plans of a block under a budget, in units of work. It takes no memory.
-    pub(crate) fn new(costing: &'c Costing<'c>, plans: &'c [Plan], budget: u128) -> Cover<'c>
+    pub(crate) fn new(
+        costing: &'c Costing<'c>,
+        plans: &'c [Plan],
+        budget: u128,
+    ) -> BudgetedPlans<'c>
         requires some { 1 ≤ length plans.now }
         requires plans { All (λ p. IsPlan (block_tree costing.now.block) (plan_tree p)) plans.now }
         ensures { result ≡ record { costing = costing.now; plans = plans.now; budget = budget } }
     {
-        Cover {
+        BudgetedPlans {
             costing,
             plans,
             budget,
