@@ -1,12 +1,12 @@
 -- What holds of the points of a frontier and the plans that are best there.
-use Rattle.std.proofs.Common.{◌≡◌, ◌∙◌, ℕ, ◌<◌, ◌^◌, List, [], ◌∷◌, All, length, map, refl, ap, sym, subst, arith}
+use Rattle.std.proofs.Common.{◌≡◌, ◌∙◌, ℕ, ◌<◌, ◌^◌, List, [], All, length, ap, sym, subst, arith}
 use Rattle.std.proofs.lemmas.List.{get_or-map, length-map}
 use Rattle.std.proofs.lemmas.List.Elements.{All-map, All-weaker}
 use Rattle.std.proofs.lemmas.Simd.{map-map}
 use Rattle.std.specs.Prelude.{Contains, slice_index_or}
 use Rattle.plan_tree.specs.declared.plan.Plan.{Plan}
 use Rattle.plan_tree.specs.declared.plan.Plan.TheVariants as plan
-use Rattle.plan_tree.specs.Plans.{PlanTree, Scan, plan_tree, FitsSet}
+use Rattle.plan_tree.specs.Plans.{Scan, plan_tree, FitsSet}
 use Rattle.plan_tree.specs.Enumerated.{IsPlan}
 use Rattle.cost_model.specs.Costing.{CostingTree, IsCosting}
 use Rattle.cost_model.specs.Best.{IsBest}
@@ -20,7 +20,7 @@ use Rattle.cost_model.specs.FrontierPoints.{IsFrontierPoint, frontier_points}
 use Rattle.plan_space.specs.declared.outlook.FrontierPlans.{FrontierPlans}
 use Rattle.plan_space.specs.declared.surface.SurfacePoint.{SurfacePoint}
 use Rattle.plan_space.specs.SurfacePoints.{IsSurfacePoint, surface_points}
-use Rattle.plan_space.specs.FrontierPlans.{AreFrontierPlans, HasBest, HoldsBest, IsBestAmong, nth_point}
+use Rattle.plan_space.specs.FrontierPlans.{AreFrontierPlans, HoldsBest, IsBestAmong, nth_point}
 use Rattle.anorexic.specs.Points.{AreTakenApart, without_plan}
 
 -- the plans are plans of the block, so the sets of their relations fit

@@ -2,7 +2,7 @@ use Rattle.std.proofs.Common.{◌≡◌, ◌∙◌, ◌*◌, ◌<◌, ◌^◌, �
 use Rattle.std.proofs.lemmas.List.{length-map}
 use Rattle.std.proofs.lemmas.Result.{IfOk-weaker}
 use Rattle.plan_tree.specs.declared.plan.Plan.{Plan}
-use Rattle.plan_tree.specs.Plans.{PlanTree, plan_tree, FitsSet}
+use Rattle.plan_tree.specs.Plans.{plan_tree, FitsSet}
 use Rattle.cost_model.specs.Costing.{CostingShape, costing_tree}
 use Rattle.cost_model.specs.Greedy.{greedy}
 use Rattle.plan_space.specs.declared.surface.SurfacePoint.{SurfacePoint}
