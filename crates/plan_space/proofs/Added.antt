@@ -4,7 +4,7 @@ use Rattle.std.proofs.lemmas.List.{map-append}
 use Rattle.std.proofs.lemmas.List.Elements.{All-head, All-push, All-tail, All-weaker}
 use Rattle.plan_tree.specs.Plans.{PlanTree}
 use Rattle.plan_space.specs.Parts.{PartsShape, nth_plan, IsNthPlan, KeepsParts}
-use Rattle.plan_space.specs.CostedPlans.{AreNumbers}
+use Rattle.plan_space.specs.CostedPlans.{AreNumbersOf}
 
 -- the plans that were there stay
 pub plans-kept : (before after : PartsShape) (end : ℕ) (numbers : List ℕ) → KeepsParts before after → end ≤ length before.plans → All (λ number. number < end) numbers
@@ -25,7 +25,7 @@ plan-added before after end numbers number p keeps few within there =
 
 -- so one plan more has its number
 pub numbered-more : (before after : PartsShape) (plans : List PlanTree) (numbers : List ℕ) (number : ℕ) (p : PlanTree) → KeepsParts before after → IsNthPlan after.plans p number
-    → AreNumbers before plans numbers → AreNumbers after (plans ++ p ∷ []) (numbers ++ number ∷ [])
+    → AreNumbersOf before plans numbers → AreNumbersOf after (plans ++ p ∷ []) (numbers ++ number ∷ [])
 numbered-more before after plans numbers number p keeps there are = record {
   within = All-push (λ one. one < length after.plans) numbers number
       (All-weaker (λ one. one < length before.plans) (λ one. one < length after.plans) (λ one less. omega (arith, less, keeps.more)) numbers are.within) there.exists;

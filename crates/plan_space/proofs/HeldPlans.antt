@@ -1,5 +1,5 @@
 -- The plans that are best at some points, as they are found.
-use Rattle.std.proofs.Common.{◌≡◌, ◌∙◌, ℕ, ◌+◌, ◌<◌, List, [], ◌∷◌, ◌++◌, All, Contains, length, map, get_or, ap, sym, subst, arith}
+use Rattle.std.proofs.Common.{◌≡◌, ◌∙◌, ℕ, ◌+◌, ◌<◌, List, [], ◌∷◌, ◌++◌, Contains, length, map, get_or, ap, sym, subst, arith}
 use borrow.Author.Count.{below_more}
 use Rattle.std.proofs.lemmas.List.{get_or-map, length-map, map_push}
 use Rattle.std.proofs.lemmas.List.Elements.{All-push, Contains-push, Contains-append_left}
@@ -7,7 +7,6 @@ use Rattle.plan_tree.specs.declared.plan.Plan.{Plan}
 use Rattle.plan_tree.specs.Plans.{PlanTree, plan_tree}
 use Rattle.cost_model.specs.Costing.{CostingTree}
 use Rattle.cost_model.specs.Best.{IsBest}
-use Rattle.cost_model.specs.Optimal.{best_plan}
 use Rattle.cost_model.proofs.BestPlans.{best-only}
 use Rattle.plan_space.specs.FrontierPlans.{HasBest, HoldsBest, IsBestAmong, nth_point}
 

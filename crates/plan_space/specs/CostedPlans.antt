@@ -22,11 +22,6 @@ pub record HoldsPlans (shape : CostingShape) (all : List Plan) (costed : CostedP
   pub costing : costed.costing ≡ shape
   pub plans : costed.plans ≡ map plan_tree all
 
--- what the plan at this place costs at that point
-abbrev pub IsCostThere : CostedPlansShape → (place cost : ℕ) → Type 0
-IsCostThere costed place cost =
-    IfSome costed.point (λ point. cost ≡ cost_of (costing_tree costed.costing) (nth_plan costed.plans place) point)
-
 -- the first parts have costs, and each number is one of these; at the point where the plans were costed, they are right
 pub record KeepsCosts (costing : CostingShape) (parts : PartsShape) (numbers costs : List ℕ) (point : Option (List ℕ)) : Type 0 where
   pub block : parts.block ≡ costing.block
@@ -36,6 +31,6 @@ pub record KeepsCosts (costing : CostingShape) (parts : PartsShape) (numbers cos
   pub right : IfSome point (λ at. All (λ number. slice_index costs number ≡ cost_of (costing_tree costing) (nth_plan parts.plans number) at) numbers)
 
 -- the numbers of some plans among the parts
-pub record AreNumbers (parts : PartsShape) (plans : List PlanTree) (numbers : List ℕ) : Type 0 where
+pub record AreNumbersOf (parts : PartsShape) (plans : List PlanTree) (numbers : List ℕ) : Type 0 where
   pub within : All (λ number. number < length parts.plans) numbers
   pub those : map (nth_plan parts.plans) numbers ≡ plans

@@ -83,6 +83,6 @@ Follows table (IndexLoop edge left relation) set =
     ((entry_at table set).root ≡ root.IndexLoop edge (covers_of left) relation) × Follows table left (covers_of left)
 
 -- it is the plan of the set that the entries tell
-pub record IsTold (table : List Entry) (p : PlanTree) (set : ℕ) : Type 0 where
+pub record IsToldPlan (table : List Entry) (p : PlanTree) (set : ℕ) : Type 0 where
   pub follows : Follows table p set
   pub covers : covers_of p ≡ set

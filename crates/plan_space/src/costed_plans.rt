@@ -1,11 +1,14 @@
 // Plans of a block with what they cost at one point of the grid after another.
-ghost use Rattle.std.specs.Prelude.{◌≡◌, ◌<◌, All, IfOk, length, map};
+ghost use Rattle.std.specs.Prelude.{◌≡◌, ◌<◌, All, IfOk, IfSome, length, map};
 ghost use Rattle.sql_values.specs.Limits.{cost_bound};
 ghost use Rattle.ess_grid.specs.Points.{IsPoint};
 ghost use Rattle.query_block.specs.Blocks.{block_tree};
 ghost use Rattle.plan_tree.specs.Plans.{plan_tree, FitsSet};
 ghost use Rattle.plan_tree.specs.Enumerated.{IsPlan, IsSubPlan};
-ghost use Rattle.plan_space.specs.CostedPlans.{AreNumbers, HoldsPlans, IsCostThere, costed_at};
+ghost use Rattle.cost_model.specs.Costing.{costing_tree};
+ghost use Rattle.cost_model.specs.Costs.{cost_of};
+ghost use Rattle.plan_space.specs.Parts.{nth_plan};
+ghost use Rattle.plan_space.specs.CostedPlans.{AreNumbersOf, HoldsPlans, costed_at};
 
 use crate::parts::Parts;
 use cost_model::{Costing, PriceRoom, Prices};
@@ -58,7 +61,7 @@ fn numbers_of(
     requires fit { All (λ p. FitsSet (plan_tree p)) plans.now }
     ensures block { parts.new.block ≡ parts.old.block }
     ensures numbers { IfOk result (λ numbers.
-        AreNumbers parts.new (map plan_tree plans.now) numbers.items) }
+        AreNumbersOf parts.new (map plan_tree plans.now) numbers.items) }
 {
     let mut numbers = Vec::with_capacity(alloc, plans.len())?;
     for p in plans {
@@ -104,7 +107,8 @@ impl<'c> CostedPlans<'c> {
     /// What the plan at this place, from 0, costs at the point at which all were costed last. It is 0 while there is none.
     pub fn cost(&self, place: usize) -> u128
         requires { place < length self.now.plans }
-        ensures cost { IsCostThere self.now place result }
+        ensures cost { IfSome self.now.point (λ point. result
+            ≡ cost_of (costing_tree self.now.costing) (nth_plan self.now.plans place) point) }
         ensures bound { result < cost_bound }
     {
         self.costs.as_slice()[self.numbers.as_slice()[place]]

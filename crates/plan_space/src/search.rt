@@ -8,7 +8,7 @@ ghost use Rattle.cost_model.specs.Best.{IsBest};
 ghost use Rattle.cost_model.specs.Optimal.{optimal_cost};
 ghost use Rattle.cost_model.specs.Prices.{block_at};
 ghost use Rattle.plan_space.specs.Alike.{AreInsideSets};
-ghost use Rattle.plan_space.specs.Table.{AllStand, Follows, HasEntry, IsTold};
+ghost use Rattle.plan_space.specs.Table.{AllStand, Follows, HasEntry, IsToldPlan};
 
 use crate::alike::axes_inside_sets;
 use crate::entry::Entry;
@@ -83,7 +83,7 @@ pub(crate) fn rebuilt(
 pub(crate) fn tells(block: &Block, table: &[Entry; 64], set: Subset, p: &Plan) -> bool
     requires stands { AllStand (block_tree block.now) table.now }
     requires set { HasEntry (block_tree block.now) set }
-    ensures { IsTrue result → IsTold table.now (plan_tree p.now) set }
+    ensures { IsTrue result → IsToldPlan table.now (plan_tree p.now) set }
 {
     let root = table[set.number() as usize].root;
     match p {
