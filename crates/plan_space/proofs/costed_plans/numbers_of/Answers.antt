@@ -1,4 +1,4 @@
-use Rattle.std.proofs.Common.{◌≡◌, ◌∙◌, ◌+◌, ◌++◌, [], ◌∷◌, ap, map, subst, sym, take}
+use Rattle.std.proofs.Common.{ℕ, List, ◌≡◌, ◌∙◌, ◌+◌, ◌++◌, [], ◌∷◌, ap, map, subst, sym, take}
 use Rattle.std.proofs.lemmas.List.{map_more}
 use Rattle.plan_tree.specs.declared.plan.Plan.{Plan}
 use Rattle.plan_tree.specs.Plans.{plan_tree}
@@ -20,7 +20,7 @@ loop-p-preserved c =
     ap (λ (one : Plan). trees ++ plan_tree one ∷ []) c.p-item.is ∙ sym (map_more plan_tree plans place p c.loop-p-test.true) in
     record {
       block = kept.block ∙ c.loop-p.invariant.block;
-      numbers = subst (AreNumbersOf after (map plan_tree (take (place + 1) plans))) (sym c.in_ok-push.ensures.items)
+      numbers = subst (AreNumbersOf after (map plan_tree (take (place + 1) plans))) (sym {A = List ℕ} c.in_ok-push.ensures.items)
           (subst (λ all. AreNumbersOf after all (numbers ++ number ∷ [])) more
           (numbered-more c.loop-p.parts after trees numbers number (plan_tree p) kept c.in_ok-number.ensures.there c.loop-p.invariant.numbers));
     }

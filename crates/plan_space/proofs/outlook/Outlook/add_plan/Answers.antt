@@ -41,6 +41,6 @@ returns c =
     let best = subst (λ (one : CostingShape). HoldsAt one.grid place (λ q. IsBest (costing_tree one) q (plan_tree p))) (c.self.invariant ∙ c.self.view_is) c.in_ok-plan.ensures in
     let point : nth_point (surface_points points) number ≡ at.point =
     get_or-map (λ (one : SurfacePoint). one.point) points number c.index-points-number.result [] c.requires.number in
-    subst (λ (all : List Plan). HoldsBest costing (surface_points points) (number + 1) all) (sym c.in_ok-push.ensures.items)
+    subst (λ (all : List Plan). HoldsBest costing (surface_points points) (number + 1) all) (sym {A = List Plan} c.in_ok-push.ensures.items)
     (holds-more costing (surface_points points) number plans p (omega (arith, c.requires.number, length-map points (λ (one : SurfacePoint). one.point)))
     (subst (λ one. IsBest costing one (plan_tree p)) (sym point) (best at.point there)) c.requires.known)
