@@ -3,15 +3,13 @@ use Rattle.std.proofs.Common.{◌≡◌, ◌∙◌, ◌↔◌, ℕ, ◌+◌, Lis
 use Rattle.std.specs.Prelude.{All}
 use Rattle.std.proofs.lemmas.List.Elements.{All-head, All-tail}
 use Rattle.plan_tree.proofs.Members.{contained-in}
-use Rattle.ess_grid.specs.Points.{IsPoint}
-use Rattle.cost_model.specs.Costing.{CostingTree, IsCosting}
-use Rattle.cost_model.specs.Optimal.{optimal_cost}
+use Rattle.cost_model.specs.Costing.{IsCosting}
 use Rattle.cost_model.specs.Frontier.{frontier}
 use Rattle.bouquet_type.specs.Trees.{BouquetTree, ContourTree}
 use Rattle.bouquet_type.specs.Budgets.{budget_of}
-use Rattle.bouquet_type.specs.Sound.{FitsAt, IsSound}
+use Rattle.bouquet_type.specs.Sound.{IsSound}
 use Rattle.bouquet_type.proofs.FitsBelow.{frontier-within}
-use Rattle.bouquet_check.specs.Verdicts.{VerdictTree, Sound, uncovered_point, cover_verdict, verdict_of}
+use Rattle.bouquet_check.specs.Verdicts.{Sound, cover_verdict, verdict_of}
 use Rattle.bouquet_check.specs.Evidence.{IsEvidence}
 use Rattle.bouquet_check.proofs.Fitting.{fits-from, frontier-point, all-covered}
 use Rattle.bouquet_check.proofs.Answered.{covers-answer}

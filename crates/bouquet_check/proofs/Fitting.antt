@@ -1,6 +1,6 @@
 -- Whether some plan is within a budget at a point, and the first point of a frontier at which none is.
 use Rattle.std.proofs.Common.{◌≡◌, ◌∙◌, inl, inr, ℕ, ◌<◌, ◌≤◌, List, [], ◌∷◌, Contains, length, map, get_or, nat_le, refl, ap, sym, arith}
-use Rattle.std.specs.Prelude.{All, Bool, true, false, not, Option, Some, None, find}
+use Rattle.std.specs.Prelude.{All, Bool, true, false, not, Some, None, find}
 use Rattle.std.proofs.lemmas.Bool.{cases_Bool, cases_lt, false≢true, not-true, not-false, leb-true, le-leb}
 use Rattle.std.proofs.lemmas.List.{length-map, get_or-map}
 use Rattle.std.proofs.lemmas.List.Folds.{list_any_at}

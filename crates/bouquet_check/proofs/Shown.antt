@@ -1,22 +1,21 @@
 -- A bouquet is as its verdict says.
-use Rattle.std.proofs.Common.{◌≡◌, ◌≢◌, ◌∙◌, inl, inr, ℕ, suc, ◌+◌, ◌-◌, ◌*◌, ◌<◌, ◌≤◌, cond, List, [], ◌∷◌, Contains, length, drop, get_or, refl, ap, sym, subst, arith}
-use Rattle.std.specs.Prelude.{All, Bool, true, false, Option, Some, None, nat_lt}
+use Rattle.std.proofs.Common.{◌≡◌, ◌≢◌, ◌∙◌, inl, inr, ℕ, suc, ◌+◌, ◌-◌, ◌*◌, ◌<◌, ◌≤◌, cond, List, [], ◌∷◌, length, drop, get_or, refl, ap, sym, subst, arith}
+use Rattle.std.specs.Prelude.{All, Option, Some, None, nat_lt}
 use Rattle.std.specs.Option.{option_map_or}
 use Rattle.std.proofs.lemmas.Bool.{cases_Bool, cases_lt, ltb-true, ltb-false}
 use Rattle.std.proofs.lemmas.List.{drop_more, drop_all}
 use Rattle.std.proofs.lemmas.List.Elements.{All-nil, All-cons}
-use Rattle.ess_grid.specs.Points.{IsGrid, IsPoint, bottom_of, top_of}
-use Rattle.plan_tree.specs.Plans.{PlanTree}
+use Rattle.ess_grid.specs.Points.{IsGrid, bottom_of, top_of}
 use Rattle.plan_tree.proofs.Members.{contained-in}
-use Rattle.cost_model.specs.Costing.{CostingTree, IsCosting}
+use Rattle.cost_model.specs.Costing.{IsCosting}
 use Rattle.cost_model.specs.Costs.{cost_of}
 use Rattle.cost_model.specs.Optimal.{optimal_cost}
 use Rattle.cost_model.specs.Frontier.{frontier}
 use Rattle.bouquet_type.specs.Trees.{BouquetTree, ContourTree}
 use Rattle.bouquet_type.specs.Budgets.{budget_of}
-use Rattle.bouquet_type.specs.Sound.{AreDoubled, FitsAt, IsSound, first_cost, last_cost}
+use Rattle.bouquet_type.specs.Sound.{AreDoubled, IsSound, first_cost, last_cost}
 use Rattle.bouquet_type.proofs.FitsBelow.{fits-below, frontier-within}
-use Rattle.bouquet_check.specs.Verdicts.{VerdictTree, First, Step, Last, Uncovered, Sound, uncovered_point, cover_verdict, verdict_of, wrong_step}
+use Rattle.bouquet_check.specs.Verdicts.{VerdictTree, Step, Last, Uncovered, uncovered_point, cover_verdict, verdict_of, wrong_step}
 use Rattle.bouquet_check.specs.Evidence.{IsEvidence, IsUncovered, IsWrongStep, numbered_contour}
 use Rattle.bouquet_check.proofs.Fitting.{fits-true, none-fits, frontier-point, uncovered-told, covered-all}
 use Rattle.bouquet_check.proofs.Steps.{no_contour, wrong-told, doubled-none}

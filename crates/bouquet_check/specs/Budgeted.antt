@@ -1,5 +1,5 @@
 -- The plans of a contour, held against one point after another.
-use Rattle.std.specs.Prelude.{◌≡◌, ℕ, ◌<◌, true, false, All, IfSome, List, length, map, Option, Some, None}
+use Rattle.std.specs.Prelude.{◌≡◌, ℕ, ◌<◌, true, false, All, IfSome, List, length, Option, Some, None}
 use Rattle.std.specs.Option.{ForSome}
 use Rattle.query_block.specs.Blocks.{block_tree}
 use Rattle.plan_tree.specs.declared.plan.Plan.{Plan}

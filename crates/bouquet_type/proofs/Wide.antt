@@ -1,5 +1,5 @@
 -- The rows of a block have a word.
-use Rattle.std.proofs.Common.{ℕ, ◌≤◌, List, [], ◌∷◌, length, sum_by, arith}
+use Rattle.std.proofs.Common.{◌≤◌, List, [], ◌∷◌, length, sum_by, arith}
 use Rattle.std.specs.Prelude.{All}
 use Rattle.std.proofs.lemmas.List.Elements.{All-head}
 use Rattle.std.proofs.lemmas.List.Sums.{sum_by-cons}
