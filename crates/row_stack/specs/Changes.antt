@@ -1,14 +1,12 @@
 -- What a push and a release make of a stack.
-use Rattle.std.specs.Prelude.{◌≡◌, ℕ, ℤ, ◌-◌, ◌<◌, ◌≤◌, nat_lt, List, [], ◌∷◌, ◌++◌, length, take, if◌then◌else◌, Result, IsOk, IfOk, OnOk, OnErr}
-use Rattle.row_stack.specs.Stack.{RowStackState, room_of, grown_by}
+use Rattle.std.specs.Prelude.{◌≡◌, ℕ, ℤ, ◌-◌, ◌<◌, ◌≤◌, nat_lt, List, [], ◌∷◌, ◌++◌, length, max, take, if◌then◌else◌, Result, IsOk, IfOk, OnOk, OnErr}
+use Rattle.row_stack.specs.Stack.{RowStackState, room_of}
 
--- how many rows are spare when a push puts its row: those that were, or those that a full stack makes room for
-abbrev pub spare_at_push : RowStackState → ℕ
-spare_at_push stack = if nat_lt 0 stack.spare then stack.spare else grown_by (length stack.rows)
-
--- a row more at the end
+-- a row more at the end. A full stack makes room for as many rows as there are, and at least 16
 abbrev pub with_row : RowStackState → List ℤ → RowStackState
-with_row stack row = record stack { rows = stack.rows ++ row ∷ []; spare = spare_at_push stack - 1 }
+with_row stack row =
+    let spare = if nat_lt 0 stack.spare then stack.spare else max (length stack.rows) 16 in
+    record stack { rows = stack.rows ++ row ∷ []; spare = spare - 1 }
 
 -- the first rows, so many of them, and the room of the others
 abbrev pub released_to : (count : ℕ) → RowStackState → RowStackState

@@ -1,5 +1,5 @@
 -- A stack as a list of rows of one width, and for how many more there is room.
-use Rattle.std.specs.Prelude.{◌≡◌, ℕ, ℤ, ◌+◌, ◌^◌, ◌<◌, ◌≤◌, List, [], ◌++◌, length, max, All}
+use Rattle.std.specs.Prelude.{◌≡◌, ℕ, ℤ, ◌+◌, ◌^◌, ◌<◌, ◌≤◌, List, [], ◌++◌, length, All}
 use Rattle.row_stack.specs.Limits.{max_width}
 
 -- what is seen of a stack: how many words its rows have, the rows in order, the first pushed first, and how many more
@@ -16,10 +16,6 @@ room_of stack = length stack.rows + stack.spare
 -- a stack without rows and without memory
 abbrev pub new_stack : ℕ → RowStackState
 new_stack width = record { width = width; rows = []; spare = 0 }
-
--- how many rows a full stack makes room for at a push: as many as there are, and at least 16
-abbrev pub grown_by : ℕ → ℕ
-grown_by rows = max rows 16
 
 -- what holds of every stack: each row has its width, and counts of rows fit 63 bits
 pub record IsRowStack (stack : RowStackState) : Type 0 where

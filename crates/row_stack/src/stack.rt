@@ -1,7 +1,7 @@
 // The stack: the words of all rows in one block, which is kept when rows are released.
 ghost use Rattle.std.specs.Prelude.{max, ◌≡◌, ◌-◌, ◌*◌, ◌<◌, ◌≤◌, [], ◌∷◌, ◌++◌, length, nat_lt, None, Some, slice_get, if◌then◌else◌, IsOk, OnOk, OnErr};
 ghost use Rattle.row_stack.specs.Bounds.{IsWidth, word_limit};
-ghost use Rattle.row_stack.specs.Stack.{room_of, new_stack, grown_by, IsRowStack};
+ghost use Rattle.row_stack.specs.Stack.{room_of, new_stack, IsRowStack};
 ghost use Rattle.row_stack.specs.Changes.{Pushes, released_to};
 
 use crate::block::{Block, WORD_LIMIT};
@@ -130,7 +130,7 @@ impl RowStack {
     fn grow(&mut self) -> Result<(), AllocError>
         requires { self.old.spare ≡ 0 }
         ensures grown { OnOk result
-            (self.new ≡ record self.old { spare = grown_by (length self.old.rows) }) }
+            (self.new ≡ record self.old { spare = max (length self.old.rows) 16 }) }
         ensures unchanged { OnErr result (self.new ≡ self.old) }
     {
         self.reserve(self.rows.max(FIRST_ROWS))
