@@ -1,5 +1,5 @@
 -- Rows in ascending order: the leftmost column first, and in it NULL, then numbers by value, then texts by their bytes.
-use Rattle.std.specs.Prelude.{◌≡◌, IsPermutation, ℕ, List, [], ◌∷◌, if◌then◌else◌}
+use Rattle.std.specs.Prelude.{List, [], ◌∷◌, if◌then◌else◌}
 use Rattle.std.specs.declared.cmp.Ordering.{Ordering}
 use Rattle.std.specs.Ordering.{int_cmp, is_gt}
 use Rattle.std.specs.Cmp.Lexicographic.{slice_cmp}
@@ -24,7 +24,3 @@ put_in_order row (first ∷ rest) = if is_gt (row_cmp row first) then first ∷ 
 abbrev pub in_order : List ValueRow → List ValueRow
 in_order [] = []
 in_order (row ∷ rows) = put_in_order row (in_order rows)
-
--- a text is the same in whatever order the rows are given
-abbrev pub IgnoresOrder : (List ValueRow → List ℕ) → Type 0
-IgnoresOrder text_of = (rows rows' : List ValueRow) → IsPermutation rows rows' → text_of rows ≡ text_of rows'

@@ -8,7 +8,7 @@ use Rattle.sql_values.specs.declared.column.ColumnType.TheVariants.{Integer, Var
 use Rattle.sql_values.specs.Dictionary.{text_of}
 use Rattle.sql_values.specs.Words.{null_word}
 use Rattle.result_text.specs.Ranks.{IsRankedWord}
-use Rattle.result_text.specs.Rows.{WordRow, words_of}
+use Rattle.result_text.specs.Rows.{WordRow}
 use Rattle.sql_values.specs.Stored.{values_of}
 use Rattle.result_text.specs.declared.places.CodedText.{CodedText}
 use Rattle.result_text.specs.declared.places.Placed.{Placed}
@@ -59,20 +59,8 @@ IsPlacedRow placed (kind ∷ kinds) [] new = new ≡ []
 IsPlacedRow placed (kind ∷ kinds) (word ∷ row) [] = ⊥
 IsPlacedRow placed (kind ∷ kinds) (word ∷ row) (first ∷ new) = IsPlacedWord placed kind word first × IsPlacedRow placed kinds row new
 
--- the words of a row with places are added
-abbrev pub AddsPlaced : List Placed → List ColumnType → WordRow → (old new : List ℤ) → Type 0
-AddsPlaced placed kinds row old new = (added : WordRow) × (new ≡ old ++ added) × IsPlacedRow placed kinds row added
-
--- these are the words of rows, one after the other, with places
-abbrev pub ArePlacedWords : List Placed → List ColumnType → List WordRow → (words : List ℤ) → Type 0
-ArePlacedWords placed kinds rows words = (new : List WordRow) × (words ≡ words_of new) × AllZip (IsPlacedRow placed kinds) rows new
-
 -- rows as long as others, which stand for the same values by texts behind the known ones alone
 pub record ArePlaced (known sorted : List (List ℕ)) (kinds : List ColumnType) (rows new : List WordRow) : Type 0 where
   pub long : map length new ≡ map length rows
   pub values : map (values_of (known ++ sorted) kinds) new ≡ map (values_of known kinds) rows
   pub words : All (λ row. AllZip (IsRankedWord known sorted) kinds row) new
-
--- these are the words of such rows, one after the other
-abbrev pub StandForRows : (known sorted : List (List ℕ)) → List ColumnType → List WordRow → (words : List ℤ) → Type 0
-StandForRows known sorted kinds rows words = (new : List WordRow) × (words ≡ words_of new) × ArePlaced known sorted kinds rows new

@@ -20,10 +20,6 @@ field_of (value.Text text) = text
 abbrev pub record_of : ValueRow → List ℕ
 record_of row = row_text default_writer (map field_of row)
 
--- the record of a row of words
-abbrev pub record_of_words : List (List ℕ) → List ColumnType → WordRow → List ℕ
-record_of_words texts kinds row = record_of (values_of texts kinds row)
-
 -- the records of rows of words as they stand
 abbrev pub records_of : List (List ℕ) → List ColumnType → List WordRow → List ℕ
 records_of texts kinds rows = flat_map (λ row. record_of (values_of texts kinds row)) rows

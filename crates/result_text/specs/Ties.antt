@@ -1,7 +1,6 @@
 -- Rows that tie in their first columns, and others that take their places.
-use Rattle.std.specs.Prelude.{◌≡◌, ◌<◌, ℕ, ℤ, suc, Bool, true, false, List, [], ◌∷◌, length, take, slice_index_or}
+use Rattle.std.specs.Prelude.{◌≡◌, ◌<◌, ℕ, suc, Bool, true, false, List, [], ◌∷◌, length, take, slice_index_or}
 use Rattle.result_text.specs.Rows.{WordRow}
-use Rattle.result_text.specs.Sorted.{AreSorted}
 
 -- the row in this place begins with the same words as the one behind it
 pub record TieAt (count : ℕ) (rows : List WordRow) (place : ℕ) : Type 0 where
@@ -26,7 +25,3 @@ weave (mark ∷ marks) [] others = []
 weave (true ∷ marks) (x ∷ xs) [] = x ∷ weave marks xs []
 weave (true ∷ marks) (x ∷ xs) (other ∷ others) = other ∷ weave marks xs others
 weave (false ∷ marks) (x ∷ xs) others = x ∷ weave marks xs others
-
--- rows in which those that are marked are in the order of these words, one row after the other
-abbrev pub AreWoven : (marks : List Bool) → (words : List ℤ) → (tied rows woven : List WordRow) → Type 0
-AreWoven marks words tied rows woven = (sorted : List WordRow) × AreSorted words tied sorted × (woven ≡ weave marks rows sorted)

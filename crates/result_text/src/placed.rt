@@ -1,7 +1,9 @@
 // Rows of words in which each text's word is its place among texts that ascend: their words compare as their values do.
-ghost use Rattle.std.specs.Prelude.{◌≡◌, ℤ, All, Contains, IfOk, IfSome, IsSorted, OnOk, length};
+ghost use Rattle.std.specs.Prelude.{◌≡◌, ◌++◌, ℤ, List, All, Contains, IfOk, IfSome, IsSorted, OnOk, length};
 ghost use Rattle.result_text.specs.Placing as spec;
 ghost use Rattle.result_text.specs.Ranks.{AreAscending};
+ghost use Rattle.result_text.specs.Rows.{WordRow, words_of};
+ghost use Rattle.std.specs.List.{AllZip};
 ghost use Rattle.sql_values.specs.Stored.{AreWordsOf};
 
 use crate::places::{Placed, Places, places_in};
@@ -75,8 +77,8 @@ fn push_placed(
     requires sorted { IsSorted spec.placed_cmp placed.now }
     requires wide { length row.now ≡ length kinds.now }
     requires there { spec.HavePlaces placed.now kinds.now row.now }
-    ensures { OnOk result
-        (spec.AddsPlaced placed.now kinds.now row.now words.old.items words.new.items) }
+    ensures { OnOk result ((added : WordRow) × (words.new.items ≡ words.old.items ++ added)
+        × spec.IsPlacedRow placed.now kinds.now row.now added) }
 {
     for (place, kind) in kinds.iter().enumerate() {
         words.push(placed_word(placed, *kind, row[place]))?;
@@ -94,8 +96,8 @@ fn placed_words(
     requires sorted { IsSorted spec.placed_cmp placed.now }
     requires wide { All (λ row. length row ≡ length kinds.now) rows.now }
     requires there { All (spec.HavePlaces placed.now kinds.now) rows.now }
-    ensures { IfOk result
-        (λ words. spec.ArePlacedWords placed.now kinds.now rows.now words.items) }
+    ensures { IfOk result (λ words. (new : List WordRow) × (words.items ≡ words_of new)
+        × AllZip (spec.IsPlacedRow placed.now kinds.now) rows.now new) }
 {
     let mut words = Vec::with_capacity(alloc, rows.len().saturating_mul(kinds.len()))?;
     for row in rows {
@@ -114,8 +116,9 @@ pub(crate) fn place_rows<'a>(
     requires { All (AreWordsOf texts.now kinds.now) rows.now }
     ensures known { IfOk result (λ placed. placed.texts.known.now ≡ texts.now) }
     ensures ascending { IfOk result (λ placed. AreAscending placed.texts.sorted) }
-    ensures placed { IfOk result (λ placed. spec.StandForRows
-        texts.now placed.texts.sorted kinds.now rows.now placed.words.items) }
+    ensures placed { IfOk result (λ placed. (new : List WordRow)
+        × (placed.words.items ≡ words_of new)
+        × spec.ArePlaced texts.now placed.texts.sorted kinds.now rows.now new) }
 {
     let Places { texts, placed } = places_in(alloc, texts, kinds, rows)?;
     let words = placed_words(alloc, &placed, kinds, rows)?;

@@ -4,8 +4,8 @@ ghost use Rattle.std.specs.Prelude.{◌≡◌, [], ◌∷◌, All, IfOk, OnOk};
 ghost use Rattle.csv.specs.Writing.{row_text, default_writer};
 ghost use Rattle.sql_values.specs.Words.{value_of, IsWord};
 ghost use Rattle.result_text.specs.Rows.{words_of};
-ghost use Rattle.sql_values.specs.Stored.{AreWordsOf};
-ghost use Rattle.result_text.specs.Printed.{field_of, record_of_words, records_of, text_in_turn};
+ghost use Rattle.sql_values.specs.Stored.{AreWordsOf, values_of};
+ghost use Rattle.result_text.specs.Printed.{field_of, record_of, records_of, text_in_turn};
 ghost use Rattle.result_text.specs.TextWriter.{WritesFields, EndsRecord, Writes};
 
 use crate::sort::SortedRow;
@@ -84,7 +84,7 @@ fn write_row<L: TextList>(
 ) -> Result<(), AllocError>
     requires { AreWordsOf (L.texts texts.now) kinds.now row.now }
     ensures { Writes result writer.old writer.new
-        (record_of_words (L.texts texts.now) kinds.now row.now) }
+        (record_of (values_of (L.texts texts.now) kinds.now row.now)) }
 {
     for (place, kind) in kinds.iter().enumerate() {
         write_value(writer, texts, *kind, row[place])?;

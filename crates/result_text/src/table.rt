@@ -4,7 +4,7 @@
 ghost use Rattle.std.specs.Prelude.{◌≡◌, ◌≤◌, ℕ, List, All, length, take, IfOk, IsPermutation, IsSorted};
 ghost use Rattle.sql_values.specs.declared.column.ColumnType.TheVariants.{Integer};
 ghost use Rattle.sql_values.specs.Stored.{ValueRow, AreWordsOf};
-ghost use Rattle.result_text.specs.Order.{row_cmp, in_order, IgnoresOrder};
+ghost use Rattle.result_text.specs.Order.{row_cmp, in_order};
 ghost use Rattle.result_text.specs.Printed.{table_text, words_text};
 
 use crate::placed::{PlacedRows, place_rows};
@@ -49,21 +49,19 @@ fn text_by_places(
     text_in_turn(alloc, &texts, kinds, names, &sorted)
 }
 
-// The text of rows, by their first `count` columns, which are INTEGER, and by the places of texts where rows tie in these.
+// The text of rows, by their leading columns that are INTEGER, and by the places of texts where rows tie in these.
 fn text_by_ties(
     alloc: Global,
     texts: &Texts,
     kinds: &[ColumnType],
     names: &[Text],
     rows: &[LentRow<'_>],
-    count: usize,
 ) -> Result<Vec<u8>, AllocError>
-    requires words { All (AreWordsOf texts.now kinds.now) rows.now }
-    requires inside { count ≤ length kinds.now }
-    requires integers { All (λ kind. kind ≡ Integer) (take count kinds.now) }
+    requires { All (AreWordsOf texts.now kinds.now) rows.now }
     ensures { IfOk result
         (λ text. text.items ≡ words_text texts.now kinds.now names.now rows.now) }
 {
+    let count = leading_integers(kinds);
     let sorted = by_words(alloc, rows)?;
     let marks = ties(alloc, &sorted, count)?;
     let tied = tied_rows(alloc, &sorted, &marks)?;
@@ -95,7 +93,7 @@ pub fn table_text(
     if count == 0 {
         return text_by_places(alloc, texts, kinds, names, rows);
     }
-    text_by_ties(alloc, texts, kinds, names, rows, count)
+    text_by_ties(alloc, texts, kinds, names, rows)
 }
 
 /// A law: rows in order are the same rows, each as often, and they ascend.
@@ -106,5 +104,6 @@ pub fn rows_in_order()
 
 /// A law: a table prints the same text in whatever order its rows are given.
 pub fn printed_in_any_order()
-    ensures same { (names : List (List ℕ)) → IgnoresOrder (table_text names) }
+    ensures same { (names : List (List ℕ)) (rows rows' : List ValueRow)
+        → IsPermutation rows rows' → table_text names rows ≡ table_text names rows' }
 {}

@@ -1,8 +1,10 @@
 // Rows that tie in their first columns, which are INTEGER: which ones they are, and how they come back into their places
 // once they are in order. Nothing else about a row's place is known before its texts are compared.
-ghost use Rattle.std.specs.Prelude.{◌≡◌, ◌<◌, ◌≤◌, All, IfOk, IsTrue, length, sum_by, take};
+ghost use Rattle.std.specs.Prelude.{◌≡◌, ◌<◌, ◌≤◌, List, All, IfOk, IsTrue, length, sum_by, take};
 ghost use Rattle.sql_values.specs.declared.column.ColumnType.TheVariants.{Integer};
-ghost use Rattle.result_text.specs.Ties.{AreMarked, AreWoven, TieAt, select, weave};
+ghost use Rattle.result_text.specs.Ties.{AreMarked, TieAt, select, weave};
+ghost use Rattle.result_text.specs.Rows.{WordRow};
+ghost use Rattle.result_text.specs.Sorted.{AreSorted};
 
 use crate::row::LentRow;
 use crate::sort::{SortedRow, by_places};
@@ -104,7 +106,8 @@ pub(crate) fn weave_rows<'a>(
     requires long { length ties.now ≡ length rows.now }
     requires words { sum_by length tied.now ≡ length words.now }
     ensures { IfOk result
-        (λ woven. AreWoven ties.now words.now tied.now rows.now woven.items) }
+        (λ woven. (sorted : List WordRow) × AreSorted words.now tied.now sorted
+        × (woven.items ≡ weave ties.now rows.now sorted)) }
 {
     let sorted = by_places(alloc, tied, words)?;
     weave(alloc, rows, ties, &sorted)
