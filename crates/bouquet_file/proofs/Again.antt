@@ -16,6 +16,7 @@ use Rattle.plan_tree.specs.Text.{plan_text_of}
 use Rattle.cost_model.specs.declared.stats.RelationStats.{RelationStats}
 use Rattle.bouquet_type.specs.Trees.{BouquetTree, ContourTree}
 use Rattle.bouquet_file.specs.declared.relations.KeptCounts.{KeptCounts}
+use Rattle.bouquet_file.specs.declared.fault.OpenFault.{OpenFault}
 use Rattle.bouquet_file.specs.Steps.{Checked, each}
 use Rattle.bouquet_file.specs.Values.{within, list_within}
 use Rattle.bouquet_file.specs.Limits.{max_parameters}
@@ -41,7 +42,7 @@ module _ {A : Type 0} (write : A → Data) where
   list-written : (least most : ℕ) (xs : List A) → least ≤ length xs → length xs ≤ most → list_within least most (Some (array (items_of (map write xs)))) ≡ Some (map write xs)
   list-written least most xs low high = rw (listed_items (map write xs), length-map xs write, le-leb least (length xs) low, le-leb (length xs) most high) refl
 
-each-written : {A B X : Type 0} (write : A → X) (read : ℕ → X → Checked B) (see : A → B) (P : A → Type 0) → ((n : ℕ) (x : A) → P x → read n (write x) ≡ Ok (see x)) → (n : ℕ) (xs : List A)
+each-written : {A B X : Type 0} (write : A → X) (read : ℕ → X → Checked OpenFault B) (see : A → B) (P : A → Type 0) → ((n : ℕ) (x : A) → P x → read n (write x) ≡ Ok (see x)) → (n : ℕ) (xs : List A)
     → All P xs → each read n (map write xs) ≡ Ok (map see xs)
 each-written write read see P again n [] all = refl
 each-written write read see P again n (x ∷ xs) all =

@@ -14,6 +14,7 @@ use Rattle.cost_model.specs.declared.stale.Stale.{Stale}
 use Rattle.cost_model.specs.Staleness.{changed}
 use Rattle.bouquet_type.specs.Trees.{ContourTree}
 use Rattle.bouquet_file.specs.declared.fault.FieldPath.TheVariants as path
+use Rattle.bouquet_file.specs.declared.fault.OpenFault.{OpenFault}
 use Rattle.bouquet_file.specs.declared.fault.OpenFault.TheVariants as fault
 use Rattle.bouquet_file.specs.declared.relations.KeptCounts.{KeptCounts}
 use Rattle.bouquet_file.specs.declared.values.ObjectKind.TheVariants.{File, Relation, Contour}
@@ -28,7 +29,7 @@ abbrev pub version_of : ℕ → Option Version
 version_of number = if nat_eq number 1 then Some One else if nat_eq number 2 then Some Two else None
 
 -- the version and the members of a file
-unfoldable pub head_of : Data → Checked (Version × Members)
+unfoldable pub head_of : Data → Checked OpenFault (Version × Members)
 head_of value = do
   members ← need (fault.Field path.Bouquet) (as_object value)
   number ← need (fault.Field path.Bouquet) (unsigned (get_member (codes "bouquet") members))
@@ -45,7 +46,7 @@ abbrev pub levels_in : (axes : ℕ) → Members → Option ℕ
 levels_in axes members = levels_within axes (within min_levels max_levels (unsigned (get_member (codes "levels") members)))
 
 -- what a file says was counted of a relation
-abbrev pub counts_at : (number : ℕ) → Data → Checked KeptCounts
+abbrev pub counts_at : (number : ℕ) → Data → Checked OpenFault KeptCounts
 counts_at number value = do
   members ← need (fault.Field (path.Relation number)) (object_of Relation value)
   rows ← need (fault.Field (path.Count number Rows)) (within 0 max_rows (unsigned (get_member (codes "rows") members)))
@@ -58,7 +59,7 @@ abbrev pub cost_in : Members → Option ℕ
 cost_in members = option_and_then decimal_number (string_of (get_member (codes "cost") members))
 
 -- a plan is a text
-abbrev pub plan_fits : (contour number : ℕ) → Data → Checked (List ℕ)
+abbrev pub plan_fits : (contour number : ℕ) → Data → Checked OpenFault (List ℕ)
 plan_fits contour number value = need (fault.Field (path.Plan contour number)) (as_str value)
 
 -- what stands in a contour: its cost, and the texts of its plans
@@ -66,7 +67,7 @@ pub record FileContour : Type 0 where
   pub cost : ℕ
   pub texts : List (List ℕ)
 
-abbrev pub contour_fits : (number : ℕ) → Data → Checked FileContour
+abbrev pub contour_fits : (number : ℕ) → Data → Checked OpenFault FileContour
 contour_fits number value = do
   members ← need (fault.Field (path.Contour number)) (object_of Contour value)
   cost ← need (fault.Field (path.Cost number)) (cost_in members)
@@ -75,7 +76,7 @@ contour_fits number value = do
   pure (record { cost = cost; texts = texts })
 
 -- the number of parameters that a file keeps, of which one of version 1 has none
-abbrev pub kept_parameters : Version → Members → Checked ℕ
+abbrev pub kept_parameters : Version → Members → Checked OpenFault ℕ
 kept_parameters One _ = pure 0
 kept_parameters Two members = need (fault.Field path.Parameters) (within 1 max_parameters (unsigned (get_member (codes "parameters") members)))
 
@@ -93,7 +94,7 @@ changed_counts number (counts ∷ more) [] = None
 changed_counts number (counts ∷ more) (present ∷ others) =
     option_or (changed_in number counts present) (changed_counts (number + 1) more others)
 
-abbrev pub unless_changed : Option Stale → Checked ⊤
+abbrev pub unless_changed : Option Stale → Checked OpenFault ⊤
 unless_changed None = pure tt
 unless_changed (Some stale) = Err (fault.Stale stale)
 
@@ -105,11 +106,11 @@ first_with_text text (p ∷ more) = if bytes_eq (plan_text_of p) text then Some 
 abbrev pub plan_with_text : BlockTree → (text : List ℕ) → Option PlanTree
 plan_with_text block text = first_with_text text (plans_of block)
 
-abbrev pub plan_here : BlockTree → (contour number : ℕ) → (text : List ℕ) → Checked PlanTree
+abbrev pub plan_here : BlockTree → (contour number : ℕ) → (text : List ℕ) → Checked OpenFault PlanTree
 plan_here block contour number text = need (fault.NotAPlan contour number) (plan_with_text block text)
 
 -- a contour that fits: its cost is one that a bouquet may have, and its texts are those of plans of the block
-abbrev pub contour_at : BlockTree → (number : ℕ) → FileContour → Checked ContourTree
+abbrev pub contour_at : BlockTree → (number : ℕ) → FileContour → Checked OpenFault ContourTree
 contour_at block number parts = do
   check (fault.BudgetLimit number) (nat_le parts.cost max_contour_cost)
   plans ← each (plan_here block number) 1 parts.texts

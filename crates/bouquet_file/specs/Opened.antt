@@ -6,6 +6,7 @@ use Rattle.serde_json.specs.Read.{read}
 use Rattle.query_block.specs.Blocks.{BlockTree, axes_of}
 use Rattle.cost_model.specs.declared.stats.Stats.{Stats}
 use Rattle.bouquet_type.specs.Trees.{BouquetTree, ContourTree}
+use Rattle.bouquet_file.specs.declared.fault.OpenFault.{OpenFault}
 use Rattle.bouquet_file.specs.declared.fault.OpenFault.TheVariants as fault
 use Rattle.bouquet_file.specs.Steps.{Checked, pure, ◌>>=◌, ◌>>◌, need, check, each}
 use Rattle.bouquet_file.specs.Checks.{changed_counts, unless_changed, contour_at}
@@ -18,7 +19,7 @@ json_value bytes = if is_utf8 bytes then read bytes else None
 -- the contours of a file with these parts, for this query, whose block and counts these are: it is of this query, it keeps as
 -- many parameters as the block has, its counts are those of the tables, and its contours have costs and plans that a
 -- bouquet may have
-abbrev pub current_contours : FileParts → (query : List ℕ) → BlockTree → Stats → Checked (List ContourTree)
+abbrev pub current_contours : FileParts → (query : List ℕ) → BlockTree → Stats → Checked OpenFault (List ContourTree)
 current_contours parts query block stats = do
   check fault.OtherQuery (bytes_eq parts.query query)
   check (fault.Parameters parts.parameters (length block.parameters)) (nat_eq parts.parameters (length block.parameters))
@@ -26,7 +27,7 @@ current_contours parts query block stats = do
   each (contour_at block) 1 parts.contours
 
 -- the bouquet of a value: there is a value, and its parts fit, first of all; then come its contours
-abbrev pub file_of : Option Data → (query : List ℕ) → BlockTree → Stats → Checked BouquetTree
+abbrev pub file_of : Option Data → (query : List ℕ) → BlockTree → Stats → Checked OpenFault BouquetTree
 file_of value query block stats = do
   file ← need fault.NotJson value
   parts ← parts_of file block
@@ -38,5 +39,5 @@ file_of value query block stats = do
   })
 
 -- of the bytes of a file
-abbrev pub opened : (bytes query : List ℕ) → BlockTree → Stats → Checked BouquetTree
+abbrev pub opened : (bytes query : List ℕ) → BlockTree → Stats → Checked OpenFault BouquetTree
 opened bytes query block stats = file_of (json_value bytes) query block stats

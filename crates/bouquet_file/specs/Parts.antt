@@ -5,6 +5,7 @@ use Rattle.serde_json.specs.Data.{Data, Members}
 use Rattle.serde_json.specs.Find.{get_member}
 use Rattle.query_block.specs.Blocks.{BlockTree, axes_of}
 use Rattle.bouquet_file.specs.declared.fault.FieldPath.TheVariants as path
+use Rattle.bouquet_file.specs.declared.fault.OpenFault.{OpenFault}
 use Rattle.bouquet_file.specs.declared.fault.OpenFault.TheVariants as fault
 use Rattle.bouquet_file.specs.declared.relations.KeptCounts.{KeptCounts}
 use Rattle.bouquet_file.specs.declared.parts.Parts.{Parts}
@@ -41,18 +42,18 @@ parts_seen parts = record {
 }
 
 -- what is in the lists of relations, as many as the query has, and of contours
-unfoldable pub counts_in : (count : ℕ) → Members → Checked (List KeptCounts)
+unfoldable pub counts_in : (count : ℕ) → Members → Checked OpenFault (List KeptCounts)
 counts_in count members = do
   relations ← need (fault.Field path.Relations) (list_within count count (get_member (codes "relations") members))
   each counts_at 1 relations
 
-unfoldable pub contours_in : Members → Checked (List FileContour)
+unfoldable pub contours_in : Members → Checked OpenFault (List FileContour)
 contours_in members = do
   contours ← need (fault.Field path.Contours) (list_within 1 max_contours (get_member (codes "contours") members))
   each contour_fits 1 contours
 
 -- the parts of a value, for a query with this block: the first of them that isn't there or doesn't fit is told
-unfoldable pub parts_of : Data → BlockTree → Checked FileParts
+unfoldable pub parts_of : Data → BlockTree → Checked OpenFault FileParts
 parts_of value block = do
   (version, members) ← head_of value
   text ← need (fault.Field path.Query) (string_of (get_member (codes "query") members))

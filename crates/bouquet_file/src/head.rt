@@ -1,7 +1,7 @@
 // What is looked at first: that the value is an object of a version that is known, with no other key.
 ghost use Rattle.std.specs.Prelude.{◌≡◌};
 ghost use Rattle.serde_json.specs.View.{view, members_view};
-ghost use Rattle.bouquet_file.specs.Steps.{GivesChecked};
+ghost use Rattle.bouquet_file.specs.Given.{GivesChecked};
 ghost use Rattle.bouquet_file.specs.Checks.{head_of, version_of};
 
 use crate::fault::{FieldPath, OpenFault};

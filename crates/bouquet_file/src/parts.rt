@@ -3,7 +3,7 @@ ghost use Rattle.std.specs.Prelude.{◌≡◌, ◌≤◌, All, IfOk, IfSome, len
 ghost use Rattle.sql_values.specs.Limits.{max_axes, max_relations, max_threshold, max_contours};
 ghost use Rattle.serde_json.specs.View.{view, members_view};
 ghost use Rattle.query_block.specs.Blocks.{axes_of, block_tree};
-ghost use Rattle.bouquet_file.specs.Steps.{GivesChecked, GivesEach};
+ghost use Rattle.bouquet_file.specs.Given.{GivesChecked, GivesEach};
 ghost use Rattle.bouquet_file.specs.Checks.{levels_in, kept_parameters};
 ghost use Rattle.bouquet_file.specs.Parts.{HasTexts, contour_seen, counts_in, contours_in, parts_of, parts_seen};
 
