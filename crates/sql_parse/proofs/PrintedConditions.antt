@@ -6,7 +6,7 @@ use Rattle.sql_parse.specs.Limits.{nesting_limit}
 use Rattle.sql_parse.specs.Lexemes.{Lexeme, mark}
 use Rattle.sql_parse.specs.Trees.{ConditionTree, ConditionTrees, Compare, Between, OneOf, IsNull, Not, And, Or, NoMore, More, operands}
 use Rattle.sql_parse.specs.Grammar.{Rule, Separated, IsPredicate, IsFactor, IsConjunction, IsDisjunction, IsGroup, IsCondition}
-use Rattle.sql_parse.specs.Canonical.{Fixed, in_parentheses, is_or, is_chain, is_no_predicate, grouped_if, condition_parts, and_parts, or_parts}
+use Rattle.sql_parse.specs.Canonical.{Fixed, in_parentheses, is_or, is_chain, is_no_predicate, grouped_if, condition_parts, chain_parts}
 use Rattle.sql_parse.proofs.PrintedForms.{tokens_of, tokens-append, IsPrintedBy, predicate-printed}
 
 -- what may stand at a nesting, where parentheses take one
@@ -220,31 +220,21 @@ operands-list : (parts : ConditionTrees) → operands (list_of parts) ≡ parts
 operands-list NoMore = refl
 operands-list (More part parts) = ap (λ rest. More part rest) (operands-list parts)
 
-separated-and : (first : ConditionTree) (parts : ConditionTrees) (n : ℕ) → AsGroup (Printed first) (is_chain first) n → EachPrinted is_chain parts n
-    → Separated m.And (IsFactor (IsGroup n)) (tokens_of (and_parts (More first parts))) (first ∷ list_of parts)
-separated-and first NoMore n one more =
-    subst (λ ps. IsFactor (IsGroup n) (tokens_of ps) first) (sym (append-nil (grouped_if (is_chain first) (condition_parts first)))) (printed-factor first n one)
-separated-and first (More second parts) n one more = (
-  tokens_of (grouped_if (is_chain first) (condition_parts first)),
-  tokens_of (and_parts (More second parts)),
-  tokens-append (grouped_if (is_chain first) (condition_parts first)) (Fixed m.And ∷ and_parts (More second parts)),
-  printed-factor first n one,
-  separated-and second parts n more.0 more.1,
+separated-printed_parts : (keyword : Mark) (is_group : ConditionTree → Bool) (IsPart : Rule ConditionTree) (n : ℕ)
+    → ((tree : ConditionTree) → AsGroup (Printed tree) (is_group tree) n → IsPart (tokens_of (grouped_if (is_group tree) (condition_parts tree))) tree)
+    → (first : ConditionTree) (parts : ConditionTrees) → AsGroup (Printed first) (is_group first) n → EachPrinted is_group parts n
+    → Separated keyword IsPart (tokens_of (chain_parts keyword is_group (More first parts))) (first ∷ list_of parts)
+separated-printed_parts keyword is_group IsPart n part first NoMore one more =
+    subst (λ ps. IsPart (tokens_of ps) first) (sym (append-nil (grouped_if (is_group first) (condition_parts first)))) (part first one)
+separated-printed_parts keyword is_group IsPart n part first (More second parts) one more = (
+  tokens_of (grouped_if (is_group first) (condition_parts first)),
+  tokens_of (chain_parts keyword is_group (More second parts)),
+  tokens-append (grouped_if (is_group first) (condition_parts first)) (Fixed keyword ∷ chain_parts keyword is_group (More second parts)),
+  part first one,
+  separated-printed_parts keyword is_group IsPart n part second parts more.0 more.1,
 )
 
-separated-or : (first : ConditionTree) (parts : ConditionTrees) (n : ℕ) → AsGroup (Printed first) (is_or first) n → EachPrinted is_or parts n
-    → Separated m.Or (IsConjunction (IsGroup n)) (tokens_of (or_parts (More first parts))) (first ∷ list_of parts)
-separated-or first NoMore n one more =
-    subst (λ ps. IsConjunction (IsGroup n) (tokens_of ps) first) (sym (append-nil (grouped_if (is_or first) (condition_parts first)))) (printed-conjunction first n one)
-separated-or first (More second parts) n one more = (
-  tokens_of (grouped_if (is_or first) (condition_parts first)),
-  tokens_of (or_parts (More second parts)),
-  tokens-append (grouped_if (is_or first) (condition_parts first)) (Fixed m.Or ∷ or_parts (More second parts)),
-  printed-conjunction first n one,
-  separated-or second parts n more.0 more.1,
-)
-
-and-printed : (parts : ConditionTrees) (n : ℕ) → HasTwo parts → EachPrinted is_chain parts n → IsConjunction (IsGroup n) (tokens_of (and_parts parts)) (And parts)
+and-printed : (parts : ConditionTrees) (n : ℕ) → HasTwo parts → EachPrinted is_chain parts n → IsConjunction (IsGroup n) (tokens_of (chain_parts m.And is_chain parts)) (And parts)
 and-printed NoMore n two each = absurd two
 and-printed (More first NoMore) n two each = absurd two
 and-printed (More first (More second more)) n two each = inr (
@@ -252,10 +242,10 @@ and-printed (More first (More second more)) n two each = inr (
   second,
   list_of more,
   ap (λ rest. And (More first (More second rest))) (sym (operands-list more)),
-  separated-and first (More second more) n each.0 each.1,
+  separated-printed_parts m.And is_chain (IsFactor (IsGroup n)) n (λ tree one. printed-factor tree n one) first (More second more) each.0 each.1,
 )
 
-or-printed : (parts : ConditionTrees) (n : ℕ) → HasTwo parts → EachPrinted is_or parts n → IsDisjunction (IsGroup n) (tokens_of (or_parts parts)) (Or parts)
+or-printed : (parts : ConditionTrees) (n : ℕ) → HasTwo parts → EachPrinted is_or parts n → IsDisjunction (IsGroup n) (tokens_of (chain_parts m.Or is_or parts)) (Or parts)
 or-printed NoMore n two each = absurd two
 or-printed (More first NoMore) n two each = absurd two
 or-printed (More first (More second more)) n two each = inr (
@@ -263,7 +253,7 @@ or-printed (More first (More second more)) n two each = inr (
   second,
   list_of more,
   ap (λ rest. Or (More first (More second rest))) (sym (operands-list more)),
-  separated-or first (More second more) n each.0 each.1,
+  separated-printed_parts m.Or is_or (IsConjunction (IsGroup n)) n (λ tree one. printed-conjunction tree n one) first (More second more) each.0 each.1,
 )
 
 mutual

@@ -2,15 +2,16 @@
 use Rattle.std.proofs.Common.{◌≡◌, ℕ, zero, suc, ◌≤◌, inl, inr, Bool, true, false, cond, List, [], ◌∷◌, ◌++◌, Option, Some, None, pos, int_lt, neg_ℤ, bytes_eq, sym, subst, rules}
 use Rattle.sql_lex.specs.Limits.{max_number}
 use Rattle.sql_values.specs.declared.value.Value.TheVariants as value
+use Rattle.sql_parse.specs.declared.mark.Mark.{Mark}
 use Rattle.sql_parse.specs.declared.mark.Mark.TheVariants as m
 use Rattle.sql_parse.specs.declared.tree.Term.TheVariants as term
 use Rattle.sql_parse.specs.Limits.{nesting_limit}
 use Rattle.sql_parse.specs.Lexemes.{Lexeme, Word, mark}
 use Rattle.sql_parse.specs.Trees.{ConditionTree, Compare, Between, OneOf, IsNull, Not, And, Or, operands}
 use Rattle.sql_parse.specs.Grammar.{Rule, written_if, Separated, InParentheses, IsColumnName, IsColRef, IsInteger, IsLiteral, IsTerm, IsPredicate, IsFactor, IsConjunction, IsDisjunction, IsGroup, IsItem, IsSelection, IsWhere, IsSelect}
-use Rattle.sql_parse.specs.Canonical.{Part, Fixed, Name, Operator, listed, in_parentheses, kept_if, column_name_parts, column_parts, integer_parts, value_parts, operand_parts, is_or, is_chain, is_no_predicate, grouped_if, condition_parts, and_parts, or_parts, item_parts, selection_parts, where_parts, query_parts}
+use Rattle.sql_parse.specs.Canonical.{Part, Fixed, Name, Operator, listed, in_parentheses, kept_if, column_name_parts, column_parts, integer_parts, value_parts, operand_parts, is_or, is_chain, is_no_predicate, grouped_if, condition_parts, chain_parts, item_parts, selection_parts, where_parts, query_parts}
 use Rattle.sql_parse.proofs.Sound.{IsSound, EachSound, mark-sound}
-use Rattle.sql_parse.proofs.WrittenParts.{Writable, writable-append}
+use Rattle.sql_parse.proofs.WrittenParts.{Follows, Writable, writable-append}
 
 pub sound-front : (front back : List Lexeme) → EachSound (front ++ back) → EachSound front
 sound-front [] back sound = tt
@@ -120,27 +121,17 @@ grouped-writable : (grouped : Bool) (parts : List Part) → Writable parts → W
 grouped-writable false parts writable = writable
 grouped-writable true parts writable = group-writable parts writable
 
-and-writable : (IsPart : Rule ConditionTree) → IsWritable IsPart condition_parts → IsWritable (Separated m.And IsPart) (λ trees. and_parts (operands trees))
-and-writable IsPart writable tokens [] sound form = absurd form
-and-writable IsPart writable tokens (x ∷ []) sound form =
-    writable-append (grouped_if (is_chain x) (condition_parts x)) [] (grouped-writable (is_chain x) (condition_parts x) (writable tokens x sound form)) tt
-and-writable IsPart writable tokens (x ∷ y ∷ ys) sound form =
+chain-writable : (keyword : Mark) → ((parts : List Part) → Follows (Fixed keyword) parts) → (is_group : ConditionTree → Bool) (IsPart : Rule ConditionTree) → IsWritable IsPart condition_parts
+    → IsWritable (Separated keyword IsPart) (λ trees. chain_parts keyword is_group (operands trees))
+chain-writable keyword follows is_group IsPart writable tokens [] sound form = absurd form
+chain-writable keyword follows is_group IsPart writable tokens (x ∷ []) sound form =
+    writable-append (grouped_if (is_group x) (condition_parts x)) [] (grouped-writable (is_group x) (condition_parts x) (writable tokens x sound form)) tt
+chain-writable keyword follows is_group IsPart writable tokens (x ∷ y ∷ ys) sound form =
     let all = subst EachSound form.2 sound in
-    let later : EachSound (mark m.And ∷ form.1) = sound-back form.0 (mark m.And ∷ form.1) all in
-    writable-append (grouped_if (is_chain x) (condition_parts x)) (Fixed m.And ∷ and_parts (operands (y ∷ ys)))
-    (grouped-writable (is_chain x) (condition_parts x) (writable form.0 x (sound-front form.0 (mark m.And ∷ form.1) all) form.3))
-    (mark-sound m.And, tt, and-writable IsPart writable form.1 (y ∷ ys) later.1 form.4)
-
-or-writable : (IsPart : Rule ConditionTree) → IsWritable IsPart condition_parts → IsWritable (Separated m.Or IsPart) (λ trees. or_parts (operands trees))
-or-writable IsPart writable tokens [] sound form = absurd form
-or-writable IsPart writable tokens (x ∷ []) sound form =
-    writable-append (grouped_if (is_or x) (condition_parts x)) [] (grouped-writable (is_or x) (condition_parts x) (writable tokens x sound form)) tt
-or-writable IsPart writable tokens (x ∷ y ∷ ys) sound form =
-    let all = subst EachSound form.2 sound in
-    let later : EachSound (mark m.Or ∷ form.1) = sound-back form.0 (mark m.Or ∷ form.1) all in
-    writable-append (grouped_if (is_or x) (condition_parts x)) (Fixed m.Or ∷ or_parts (operands (y ∷ ys)))
-    (grouped-writable (is_or x) (condition_parts x) (writable form.0 x (sound-front form.0 (mark m.Or ∷ form.1) all) form.3))
-    (mark-sound m.Or, tt, or-writable IsPart writable form.1 (y ∷ ys) later.1 form.4)
+    let later : EachSound (mark keyword ∷ form.1) = sound-back form.0 (mark keyword ∷ form.1) all in
+    writable-append (grouped_if (is_group x) (condition_parts x)) (Fixed keyword ∷ chain_parts keyword is_group (operands (y ∷ ys)))
+    (grouped-writable (is_group x) (condition_parts x) (writable form.0 x (sound-front form.0 (mark keyword ∷ form.1) all) form.3))
+    (mark-sound keyword, follows (chain_parts keyword is_group (operands (y ∷ ys))), chain-writable keyword follows is_group IsPart writable form.1 (y ∷ ys) later.1 form.4)
 
 factor-writable : (n : ℕ) → IsWritable (IsGroup n) condition_parts → IsWritable (IsFactor (IsGroup n)) condition_parts
 factor-writable n groups tokens tree sound form = elim form [
@@ -162,14 +153,14 @@ conjunction-writable : (n : ℕ) → IsWritable (IsGroup n) condition_parts → 
 conjunction-writable n groups tokens tree sound form = elim form [
   | inl factor ↦ factor-writable n groups tokens tree sound factor
   | inr chain ↦ subst (λ t. Writable (condition_parts t)) (sym chain.3)
-      (and-writable (IsFactor (IsGroup n)) (factor-writable n groups) tokens (chain.0 ∷ chain.1 ∷ chain.2) sound chain.4)
+      (chain-writable m.And (λ parts. tt) is_chain (IsFactor (IsGroup n)) (factor-writable n groups) tokens (chain.0 ∷ chain.1 ∷ chain.2) sound chain.4)
 ]
 
 disjunction-writable : (n : ℕ) → IsWritable (IsGroup n) condition_parts → IsWritable (IsDisjunction (IsGroup n)) condition_parts
 disjunction-writable n groups tokens tree sound form = elim form [
   | inl conjunction ↦ conjunction-writable n groups tokens tree sound conjunction
   | inr chain ↦ subst (λ t. Writable (condition_parts t)) (sym chain.3)
-      (or-writable (IsConjunction (IsGroup n)) (conjunction-writable n groups) tokens (chain.0 ∷ chain.1 ∷ chain.2) sound chain.4)
+      (chain-writable m.Or (λ parts. tt) is_or (IsConjunction (IsGroup n)) (conjunction-writable n groups) tokens (chain.0 ∷ chain.1 ∷ chain.2) sound chain.4)
 ]
 
 groups-writable : (n : ℕ) → IsWritable (IsGroup n) condition_parts

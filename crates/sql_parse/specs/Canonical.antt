@@ -148,28 +148,19 @@ abbrev mutual
   condition_parts (IsNull negated column) =
       column_parts column ++ Fixed m.Is ∷ (kept_if negated (m.Not ∷ []) ++ Fixed m.Null ∷ [])
   condition_parts (Not inner) = Fixed m.Not ∷ grouped_if (is_no_predicate inner) (condition_parts inner)
-  condition_parts (And parts) = and_parts parts
-  condition_parts (Or parts) = or_parts parts
+  condition_parts (And parts) = chain_parts m.And is_chain parts
+  condition_parts (Or parts) = chain_parts m.Or is_or parts
 
-  -- the operands of AND, with AND between each two
-  pub and_parts : ConditionTrees → List Part
-  and_parts NoMore = []
-  and_parts (More part parts) = grouped_if (is_chain part) (condition_parts part) ++ more_and_parts parts
+  -- the operands of a chain, with its keyword between each two, those in parentheses that are to be a group
+  pub chain_parts : (keyword : Mark) → (is_group : ConditionTree → Bool) → ConditionTrees → List Part
+  chain_parts keyword is_group NoMore = []
+  chain_parts keyword is_group (More part parts) =
+      grouped_if (is_group part) (condition_parts part) ++ more_parts keyword is_group parts
 
-  pub more_and_parts : ConditionTrees → List Part
-  more_and_parts NoMore = []
-  more_and_parts (More part parts) =
-      Fixed m.And ∷ (grouped_if (is_chain part) (condition_parts part) ++ more_and_parts parts)
-
-  -- the operands of OR, with OR between each two
-  pub or_parts : ConditionTrees → List Part
-  or_parts NoMore = []
-  or_parts (More part parts) = grouped_if (is_or part) (condition_parts part) ++ more_or_parts parts
-
-  pub more_or_parts : ConditionTrees → List Part
-  more_or_parts NoMore = []
-  more_or_parts (More part parts) =
-      Fixed m.Or ∷ (grouped_if (is_or part) (condition_parts part) ++ more_or_parts parts)
+  pub more_parts : (keyword : Mark) → (is_group : ConditionTree → Bool) → ConditionTrees → List Part
+  more_parts keyword is_group NoMore = []
+  more_parts keyword is_group (More part parts) =
+      Fixed keyword ∷ (grouped_if (is_group part) (condition_parts part) ++ more_parts keyword is_group parts)
 
 -- an alias is written where it isn't the table's name
 abbrev pub item_parts : Item → List Part

@@ -1,7 +1,10 @@
 -- What each private function of the printer appends. No public clause cites this file.
 use Rattle.std.specs.Prelude.{ℕ, zero, suc, ◌≡◌, Bool, true, List, [], ◌∷◌, ◌++◌, fold, Result, OnOk}
 use Rattle.sql_parse.specs.declared.mark.Mark.{Mark}
-use Rattle.sql_parse.specs.Canonical.{Part, Fixed, part_lexeme, spelled, joins_next, space_before}
+use Rattle.sql_parse.specs.declared.condition.Connective.{Connective}
+use Rattle.sql_parse.specs.declared.condition.Connective.TheVariants as connectives
+use Rattle.sql_parse.specs.Trees.{ConditionTree}
+use Rattle.sql_parse.specs.Canonical.{Part, Fixed, part_lexeme, spelled, joins_next, space_before, is_chain, is_or}
 
 -- a text, and whether its last part joins the next one
 pub record Line : Type 0 where
@@ -26,3 +29,8 @@ PutsParts result old new parts = OnOk result (new ≡ put_all old parts)
 abbrev pub between : (place : ℕ) → Mark → List Part
 between zero keyword = []
 between (suc i) keyword = Fixed keyword ∷ []
+
+-- whether a condition is to be a group as an operand of such a chain
+abbrev pub is_group_in : Connective → ConditionTree → Bool
+is_group_in connectives.And = is_chain
+is_group_in connectives.Or = is_or

@@ -2,10 +2,12 @@
 
 ghost use Rattle.std.specs.Prelude.{◌≡◌, map};
 ghost use Rattle.sql_parse.specs.Trees.{condition_tree, operands, Compare, Between, OneOf, IsNull};
-ghost use Rattle.sql_parse.specs.Canonical.{is_or, is_chain, is_no_predicate, grouped_if, condition_parts, and_parts, or_parts};
-ghost use Rattle.sql_parse.specs.Printing.{PutsParts, between};
+ghost use Rattle.sql_parse.specs.Canonical.{is_or, is_chain, is_no_predicate, grouped_if, condition_parts, chain_parts};
+ghost use Rattle.sql_parse.specs.Reading.{separator_of};
+ghost use Rattle.sql_parse.specs.Printing.{PutsParts, between, is_group_in};
 
 use crate::canonical::{Printed, print_if, print_in_parentheses};
+use crate::condition::Connective;
 use crate::mark::Mark;
 use crate::tree::{ColRef, Cond, Term};
 use crate::writer::Writer;
@@ -27,8 +29,8 @@ pub(crate) fn condition(writer: &mut Writer, tree: &Cond) -> Result<(), AllocErr
             writer.mark(Mark::Not)?;
             grouped(writer, is_no_predicate(inner), inner)
         }
-        Cond::And(parts) => and_chain(writer, parts.as_slice()),
-        Cond::Or(parts) => or_chain(writer, parts.as_slice()),
+        Cond::And(parts) => chain(writer, Connective::And, parts.as_slice()),
+        Cond::Or(parts) => chain(writer, Connective::Or, parts.as_slice()),
     }
 }
 
@@ -101,30 +103,17 @@ fn grouped(writer: &mut Writer, is_group: bool, tree: &Cond) -> Result<(), Alloc
     writer.mark(Mark::CloseParen)
 }
 
-// Appends the operands of AND.
+// Appends the operands of a chain.
 #[cycle(condition)]
 #[tactic(auto, using(crate::proofs::Written::of_lines))]
-fn and_chain(writer: &mut Writer, parts: &[Cond]) -> Result<(), AllocError>
-    ensures { PutsParts result writer.old writer.new
-        (and_parts (operands (map condition_tree parts.now))) }
+fn chain(writer: &mut Writer, connective: Connective, parts: &[Cond]) -> Result<(), AllocError>
+    ensures { PutsParts result writer.old writer.new (chain_parts (separator_of connective)
+        (is_group_in connective) (operands (map condition_tree parts.now))) }
 {
+    let keyword = connective.separator();
     for (i, part) in parts.iter().enumerate() {
-        print_between(writer, i, Mark::And)?;
-        grouped(writer, is_chain(part), part)?;
-    }
-    Ok(())
-}
-
-// Appends the operands of OR.
-#[cycle(condition)]
-#[tactic(auto, using(crate::proofs::Written::of_lines))]
-fn or_chain(writer: &mut Writer, parts: &[Cond]) -> Result<(), AllocError>
-    ensures { PutsParts result writer.old writer.new
-        (or_parts (operands (map condition_tree parts.now))) }
-{
-    for (i, part) in parts.iter().enumerate() {
-        print_between(writer, i, Mark::Or)?;
-        grouped(writer, is_or(part), part)?;
+        print_between(writer, i, keyword)?;
+        grouped(writer, is_group_in(connective, part), part)?;
     }
     Ok(())
 }
@@ -137,6 +126,16 @@ fn print_between(writer: &mut Writer, place: usize, keyword: Mark) -> Result<(),
         writer.mark(keyword)?;
     }
     Ok(())
+}
+
+// Whether a condition is to be a group as an operand of such a chain.
+fn is_group_in(connective: Connective, tree: &Cond) -> bool
+    ensures { result ≡ is_group_in connective (condition_tree tree.now) }
+{
+    match connective {
+        Connective::And => is_chain(tree),
+        Connective::Or => is_or(tree),
+    }
 }
 
 fn is_or(tree: &Cond) -> bool

@@ -23,7 +23,7 @@ pub(crate) enum Connective {
 }
 
 impl Connective {
-    fn separator(self) -> Mark
+    pub(crate) fn separator(self) -> Mark
         ensures { result ≡ separator_of self }
     {
         match self {
