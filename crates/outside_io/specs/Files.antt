@@ -1,5 +1,5 @@
 -- What a folder holds, and what its calls say of it.
-use Rattle.std.specs.Prelude.{◌≡◌, ◌≢◌, ℕ, ◌≤◌, ◌<◌, List, length, Option, Some, None, IsSomeAnd}
+use Rattle.std.specs.Prelude.{◌≡◌, ◌≢◌, ℕ, ◌≤◌, ◌<◌, List, length, Option, None, Some, IsSomeAnd}
 use Rattle.std.specs.Prelude.{IfSome, IsErrAnd, IsErrOf, Result, Ok, Err, Vec, ⊤}
 use Rattle.std.specs.Ordering.{nat_cmp}
 use Rattle.std.specs.Cmp.Lexicographic.{slice_cmp}
@@ -65,15 +65,6 @@ pub record FolderState : Type 0 where
   pub read_faults : ℕ
   pub write_faults : ℕ
   pub misses : ℕ
-
--- a folder whose files aren't known
-abbrev pub unknown_files : ℕ → ℕ → ℕ → FolderState
-unknown_files read_faults write_faults misses = record {
-  files = None;
-  read_faults = read_faults;
-  write_faults = write_faults;
-  misses = misses;
-}
 
 -- what a read does to a folder: it holds what it held, and a failure is counted once, and so is a miss
 pub record OnlyReads {T : Type 0} (result : Result T FileFault) (old new : FolderState) : Type 0 where

@@ -1,10 +1,10 @@
 // The folder of the working directory's files. It relies on the system, of whose files nothing is
 // known. It looks at regular files alone, never where a name leads out, and it never reads more of
 // a file than the limit and one byte.
-ghost use Rattle.std.specs.Prelude.{◌≡◌, ◌⊎◌, [], IfOk, IfErr, IfSome, OnOk, IsErrOf};
+ghost use Rattle.std.specs.Prelude.{◌≡◌, ◌⊎◌, [], None, IfOk, IfErr, IfSome, OnOk, IsErrOf};
 ghost use Rattle.std.specs.Prelude.{option_map};
 ghost use Rattle.outside_io.specs.Files.{IsReadAnswer, KeepsFileLimit, KeepsOthers};
-ghost use Rattle.outside_io.specs.Files.{OnlyReads, OnlyWrites, unknown_files, with_file};
+ghost use Rattle.outside_io.specs.Files.{OnlyReads, OnlyWrites, with_file};
 ghost use Rattle.outside_io.specs.Names.{IsInside};
 
 use crate::folder::check_len;
@@ -37,14 +37,20 @@ pub struct DirFolder<'a, R: Files + Alloc> {
 }
 
 impl<'a, R: Files + Alloc> Model for DirFolder<'a, R> {
-    ghost use Rattle.outside_io.specs.Files.{FolderState, unknown_files};
+    ghost use Rattle.std.specs.Prelude.{None};
+    ghost use Rattle.outside_io.specs.Files.{FolderState};
     ghost use Rattle.outside_io.specs.Codes.{folder_code};
 
     ghost Value = { FolderState };
 
     ghost coded = { folder_code };
 
-    ghost view = { λ f. unknown_files f.counts.read_faults f.counts.write_faults f.counts.misses };
+    ghost view = { λ f. record {
+      files = None;
+      read_faults = f.counts.read_faults;
+      write_faults = f.counts.write_faults;
+      misses = f.counts.misses;
+    } };
 }
 
 // The bytes of an opened file. Since its name was looked at another file may have taken its place,
@@ -97,7 +103,8 @@ impl<'a, R: Files + Alloc> DirFolder<'a, R> {
     /// The files of the working directory. The number of the process is part of the names of the
     /// files in the making, so that those of two processes differ.
     pub fn new(rt: &'a R, process: u32) -> DirFolder<'a, R>
-        ensures { result ≡ unknown_files 0 0 0 }
+        ensures { result
+            ≡ record { files = None; read_faults = 0; write_faults = 0; misses = 0 } }
     {
         DirFolder {
             rt,

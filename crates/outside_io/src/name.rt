@@ -1,14 +1,16 @@
 // The rule on names of files: which of them lead out of the directory in which they are looked up.
 // It goes by the name alone, and never asks the system.
-ghost use Rattle.std.specs.Prelude.{◌≢◌, ◌↔◌, All, IsTrue};
-ghost use Rattle.std.specs.Path.{parent_dir};
-ghost use Rattle.outside_io.specs.Names.{IsInside, components_of};
+ghost use Rattle.std.specs.Prelude.{◌≢◌, ◌↔◌, ◌==◌, All, IsTrue};
+ghost use Rattle.std.specs.List.{slice_split};
+ghost use Rattle.std.specs.Path.{slash, parent_dir};
+ghost use Rattle.outside_io.specs.Names.{IsInside};
 
 use std::path::Path;
 
 // Whether no component of the name leads up.
 fn never_leads_up(name: &str) -> bool
-    ensures { IsTrue result ↔ All (λ component. component ≢ parent_dir) (components_of name.now) }
+    ensures { IsTrue result
+        ↔ All (λ component. component ≢ parent_dir) (slice_split (λ byte. byte == slash) name.now) }
 {
     name.split('/').all(|component| component != "..")
 }

@@ -1,7 +1,7 @@
 // Which files a write may replace: empty ones, and those that begin as a bouquet's file does. It
 // never reads more of a file than that.
-ghost use Rattle.std.specs.Prelude.{IfOk, IfSome};
-ghost use Rattle.outside_io.specs.Signature.{IsReplaceable};
+ghost use Rattle.std.specs.Prelude.{◌≡◌, ◌⊎◌, [], take, IfOk, IfSome};
+ghost use Rattle.outside_io.specs.Signature.{signature};
 
 use crate::reader_source::read_all;
 use std::alloc::Allocator;
@@ -13,7 +13,8 @@ static SIGNATURE: &str = "{\"bouquet\":";
 
 /// Refuses a file that is neither empty nor a bouquet's, by an error that isn't 'not found'.
 pub(crate) fn check_replaceable<F: Read + Drop, A: Allocator>(alloc: A, file: F) -> io::Result<()>
-    ensures { IfOk result (λ _. IfSome (F.remaining file) (λ held. IsReplaceable held)) }
+    ensures { IfOk result (λ _. IfSome (F.remaining file)
+        (λ held. (take 11 held ≡ []) ⊎ (take 11 held ≡ signature))) }
 {
     let start = read_all(alloc, file.take(11), 11)?;
     if !start.is_empty() && start.as_slice() != SIGNATURE.as_bytes() {
