@@ -1,5 +1,5 @@
 -- Statements and conditions as trees, without where they lie in memory.
-use Rattle.std.specs.Prelude.{ℕ, Bool, List, [], ◌∷◌, map, Option, option_map}
+use Rattle.std.specs.Prelude.{ℕ, Bool, List, [], ◌∷◌, Option, option_map}
 use Rattle.sql_values.specs.declared.op.Op.{Op}
 use Rattle.sql_parse.specs.declared.tree.Term.{Term}
 use Rattle.sql_parse.specs.declared.tree.ColRef.{ColRef}
@@ -96,6 +96,3 @@ statement_tree (code.Audit audit) = Audit audit
 statement_tree (code.Check name) = Check name
 statement_tree (code.Learn run) = Learn run
 statement_tree (code.Turns turns) = Turns turns
-
-abbrev pub statement_trees : List Statement → List StatementTree
-statement_trees statements = map statement_tree statements

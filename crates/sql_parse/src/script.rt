@@ -1,12 +1,12 @@
 // The statements of a script.
 
-ghost use Rattle.std.specs.Prelude.{◌≡◌, ℕ, ◌≤◌, ◌<◌, ◌+◌, ◌^◌, List, [], ◌∷◌, ◌++◌, option_map, length, take, drop, IfOk, IfErr};
+ghost use Rattle.std.specs.Prelude.{◌≡◌, ℕ, ◌≤◌, ◌<◌, ◌+◌, ◌^◌, List, [], ◌∷◌, ◌++◌, option_map, map, length, take, drop, IfOk, IfErr};
 ghost use Rattle.std.specs.List.{All};
 ghost use Rattle.sql_lex.specs.Once.{AtLeastOne, AtMostOne};
 ghost use Rattle.sql_lex.specs.Tokens.{IsToken, Tokens};
 ghost use Rattle.sql_lex.specs.declared.token.Token.{Token};
 ghost use Rattle.sql_parse.specs.Lexemes.{Lexeme, lexeme, lexemes};
-ghost use Rattle.sql_parse.specs.Trees.{StatementTree, statement_tree, statement_trees};
+ghost use Rattle.sql_parse.specs.Trees.{StatementTree, statement_tree};
 ghost use Rattle.sql_parse.specs.Statements.{IsStatement, statement_of};
 ghost use Rattle.sql_parse.specs.Script.{is_semicolon, split, split_after, AreStatements, IsParsing, IsCause};
 ghost use Rattle.sql_parse.specs.WellFormed.{AreWellFormed};
@@ -53,7 +53,7 @@ pub fn read_script(
 ) -> Result<Vec<Statement>, SyntaxFault>
     requires { Tokens text.now tokens.now }
     ensures found { IfOk result (λ read.
-        AreStatements text.now tokens.now (statement_trees read.items)) }
+        AreStatements text.now tokens.now (map statement_tree read.items)) }
     ensures well_formed { IfOk result (λ read. AreWellFormed read.items) }
     ensures counted { IfOk result (λ read. HaveUpTo (length tokens.now) read.items) }
     ensures refused { IfErr result (IsCause text.now tokens.now) }
@@ -68,7 +68,7 @@ fn read(alloc: Global, text: &[u8], tokens: &[Token]) -> Result<Vec<Statement>, 
     requires each { All (IsToken text.now) tokens.now }
     requires few { length tokens.now < 2 ^ 32 }
     ensures found { IfOk result (λ read.
-        AreStatements text.now tokens.now (statement_trees read.items)) }
+        AreStatements text.now tokens.now (map statement_tree read.items)) }
     ensures refused { IfErr result (IsCause text.now tokens.now) }
 {
     let mut statements = Vec::new(alloc);
@@ -99,8 +99,8 @@ fn add_statement(
 ) -> Result<(), ReadFault>
     requires each { All (IsToken text.now) piece.now }
     requires few { length piece.now < 2 ^ 32 }
-    ensures { Gives (λ _. statement_trees statements.new.items) result
-        (option_map (λ tree. statement_trees statements.old.items ++ tree ∷ [])
+    ensures { Gives (λ _. map statement_tree statements.new.items) result
+        (option_map (λ tree. map statement_tree statements.old.items ++ tree ∷ [])
         (statement_of (lexemes text.now piece.now))) }
 {
     let statement = whole_statement(alloc, Piece::new(text, piece))?;
