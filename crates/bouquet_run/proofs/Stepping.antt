@@ -2,13 +2,17 @@
 use Rattle.std.proofs.Common.{◌≡◌, ◌∙◌, ℕ, ◌+◌, ◌≤◌, List, [], length, refl, ap, subst, sym, arith}
 use Rattle.std.specs.Prelude.{All, Option, None, Some, Result, Ok, Err}
 use Rattle.row_stack.specs.declared.space.Space.{Space}
-use Rattle.query_block.specs.Blocks.{BlockTree, IsPutOf}
-use Rattle.plan_tree.specs.Plans.{PlanTree}
+use Rattle.query_block.specs.Blocks.{BlockTree, IsPutOf, block_tree}
+use Rattle.query_block.specs.Shape.{BlockShape}
+use Rattle.plan_tree.specs.Plans.{PlanTree, plan_tree}
+use Rattle.plan_tree.specs.declared.plan.Plan.{Plan}
 use Rattle.plan_tree.specs.Enumerated.{IsPlan}
 use Rattle.plan_tree.proofs.PutPlans.{put-plan}
 use Rattle.db_catalog.specs.Database.{DatabaseState}
 use Rattle.db_catalog.specs.Meter.{MeterState}
+use Rattle.exec_pipe.specs.Engines.{KeepsEngine, MayExecute, engine_of}
 use Rattle.exec_pipe.specs.Runs.{OnlyRuns, OnlyRunsWithin}
+use Rattle.exec_pipe.specs.declared.engine.Engine.{Engine}
 use Rattle.bouquet_type.specs.Trees.{BouquetTree}
 use Rattle.bouquet_type.specs.Schedule.{Member, final_plan}
 use Rattle.bouquet_type.specs.Cursor.{AttemptTree, IsWholeSchedule, ScheduleState, TakesNext, attempt_at, first_attempt, members_left}
@@ -21,7 +25,7 @@ use Rattle.bouquet_type.specs.declared.report.RunFault.TheVariants.{WorkLimit, N
 use Rattle.bouquet_type.proofs.Bound.{bound}
 use Rattle.bouquet_run.specs.Coming.{Coming, Passes, Ends, GoesOn, TellsStep, coming}
 use Rattle.bouquet_run.specs.Outcomes.{works_over}
-use Rattle.bouquet_run.specs.Running.{IsRunning, RunState, Steps, run_from}
+use Rattle.bouquet_run.specs.Running.{IsRunning, RunState, Steps, run_from, run_state}
 use Rattle.bouquet_run.proofs.Onward.{LeadsOn, leads-on}
 
 -- a plan of a bouquet's block is one of the block with values put in
@@ -136,3 +140,56 @@ module _ (bouquet : BouquetTree) (block : BlockTree) (most : ℕ) (ending : RunE
     steps (Err (WorkLimit spent)) tells =
         ((omega (arith, leads Passes tells.0, ap (λ (one : RunEnd). one.total) is.end), tells.1, tells.2), tells.3)
     steps (Err NoMemory) tells = (tt, tells)
+
+-- an engine that is kept twice
+pub keeps-on : (first old new : Engine) → KeepsEngine first old → KeepsEngine old new → KeepsEngine first new
+keeps-on first old new before after = record {
+  engine = after.engine;
+  leaves = record {
+    within = subst (λ most. new.meter.now.account.spent ≤ most) before.lent.most after.leaves.within;
+    leaves = stays-on first.meter.now old.meter.now new.meter.now first.space.now old.space.now new.space.now before.leaves.leaves after.leaves.leaves;
+  };
+  lent = record {
+    block = after.lent.block ∙ before.lent.block;
+    most = after.lent.most ∙ before.lent.most;
+    meter = after.lent.meter ∙ before.lent.meter;
+    space = after.lent.space ∙ before.lent.space;
+    known = after.lent.known ∙ before.lent.known;
+  };
+}
+
+-- so a run does over an engine, which it keeps
+module _ (bouquet : BouquetTree) (ending : RunEnd) (first old new : Engine) (due : List Member) (schedule next : ScheduleState) (runs : ℕ) (attempt : AttemptTree)
+    (is : IsRunning bouquet (block_tree first.block.now) first.max_work ending first.meter.now first.space.now due (run_state schedule old runs)) (keeps : KeepsEngine first old)
+    (takes : TakesNext schedule next) (at : attempt ≡ attempt_at next) where
+  -- its plan may be executed, where there were no work rows
+  pub may-execute : (plan : Plan) → IsPutOf bouquet.costing.block (block_tree first.block.now) → IsPlan next.ladder.whole.costing.block (plan_tree plan) → first.space.now.work.rows ≡ []
+      → MayExecute (engine_of old) plan
+  may-execute plan put of none =
+      let here = subst (λ (whole : BouquetTree). IsPlan whole.costing.block (plan_tree plan)) (takes.whole ∙ is.of) of in
+      record {
+        engine = keeps.engine;
+        runs = record {
+          plan = subst (λ (block : BlockShape). IsPlan (block_tree block) (plan_tree plan)) (sym keeps.lent.block) (plan-of-put bouquet.costing.block (block_tree first.block.now) (plan_tree plan) put here);
+          context = record { context = keeps.engine.context; work = keeps.leaves.leaves.work.rows ∙ none; result = is.rows };
+        };
+      }
+
+  abbrev pub EngineTells : BlockShape → (most : ℕ) → DatabaseState → Result (Option Report) RunFault → Type 0
+  EngineTells block most database told =
+      TellsStep database (block_tree block) most (coming most old.meter.now.account.spent (runs + 1) (works_over database (block_tree block) attempt.plan) attempt)
+      new.meter.now.account.spent new.space.now.result.rows told
+
+  module _ (same : first_attempt (members_left schedule) (final_plan bouquet) ≡ first_attempt due (final_plan bouquet)) (kept : KeepsEngine old new) where
+    pub engine-tells : (told : Result (Option Report) RunFault) → EngineTells old.block.now old.max_work old.meter.now.database told
+        → EngineTells first.block.now first.max_work first.meter.now.database told
+    engine-tells told tells =
+        subst (λ (database : DatabaseState). EngineTells first.block.now first.max_work database told) is.leaves.database
+        (subst (λ (most : ℕ). EngineTells first.block.now most old.meter.now.database told) keeps.lent.most
+        (subst (λ (block : BlockShape). EngineTells block old.max_work old.meter.now.database told) keeps.lent.block tells))
+
+    pub engine-steps : (told : Result (Option Report) RunFault) → EngineTells first.block.now first.max_work first.meter.now.database told
+        → Steps bouquet (block_tree first.block.now) first.max_work ending first.meter.now first.space.now due (run_state next new (runs + 1)) told
+    engine-steps told tells =
+        let leaves = subst (λ most. OnlyRunsWithin most old.meter.now new.meter.now old.space.now new.space.now) keeps.lent.most kept.leaves in
+        steps bouquet (block_tree first.block.now) first.max_work ending first.meter.now first.space.now due (run_state schedule old runs) next attempt is takes at same new.meter.now new.space.now leaves told tells

@@ -5,6 +5,7 @@ use Rattle.query_block.specs.Blocks.{BlockTree}
 use Rattle.plan_tree.specs.Plans.{PlanTree}
 use Rattle.db_catalog.specs.Meter.{MeterState}
 use Rattle.exec_pipe.specs.Executions.{AreRowsOf}
+use Rattle.exec_pipe.specs.declared.engine.Engine.{Engine}
 use Rattle.exec_pipe.specs.Runs.{OnlyRuns}
 use Rattle.bouquet_type.specs.Trees.{BouquetTree}
 use Rattle.bouquet_type.specs.Schedule.{Member, final_plan}
@@ -24,6 +25,10 @@ pub record RunState : Type 0 where
   pub meter : MeterState
   pub space : Space
   pub runs : ℕ
+
+-- that of a run over an engine
+abbrev pub run_state : ScheduleState → Engine → (runs : ℕ) → RunState
+run_state schedule engine runs = record { schedule = schedule; meter = engine.meter.now; space = engine.space.now; runs = runs }
 
 -- a run that ends so began with this meter and these stacks, and these executions are due: those before weren't done and spent
 -- what the meter says, and no row stands on the stacks

@@ -1,5 +1,5 @@
 -- What holds between two steps of a run that learns.
-use Rattle.std.proofs.Common.{◌≡◌, ◌∙◌, inl, inr, ℕ, ℤ, ◌+◌, ◌-◌, ◌<◌, ◌≤◌, ◌++◌, List, [], ◌∷◌, length, refl, ap, ap₂, sym, subst, arith, append_assoc}
+use Rattle.std.proofs.Common.{◌≡◌, ◌∙◌, inl, inr, ℕ, ◌+◌, ◌-◌, ◌<◌, ◌≤◌, ◌++◌, List, [], ◌∷◌, length, refl, ap, ap₂, sym, subst, arith, append_assoc}
 use Rattle.std.specs.Prelude.{All, Bool, Vec, true, false, Option, Some, None, IfSome, IsSomeAnd, IsErrAnd, MatchResult, Result, Ok, Err, is_some, nat_le, if◌then◌else◌}
 use Rattle.std.specs.declared.alloc.Global.{Global}
 use Rattle.std.proofs.lemmas.Bool.{cases_Bool}
@@ -7,13 +7,13 @@ use Rattle.std.proofs.lemmas.List.{append-nil}
 use Rattle.std.proofs.lemmas.List.Elements.{All-nil, All-head, All-tail, All-push}
 use Rattle.std.proofs.lemmas.Option.{slice_get_within}
 use Rattle.ess_grid.specs.Points.{IsGrid, IsPoint}
-use Rattle.query_block.specs.Blocks.{BlockTree}
+use Rattle.query_block.specs.Blocks.{block_tree}
+use Rattle.query_block.specs.Shape.{BlockShape}
 use Rattle.plan_tree.specs.Plans.{PlanTree, plan_tree}
 use Rattle.plan_tree.specs.Enumerated.{IsPlan}
 use Rattle.db_catalog.specs.Database.{DatabaseState}
-use Rattle.db_catalog.specs.Meter.{MeterState}
-use Rattle.row_stack.specs.declared.space.Space.{Space}
-use Rattle.exec_pipe.specs.Runs.{OnlyRunsWithin}
+use Rattle.exec_pipe.specs.Engines.{KeepsEngine}
+use Rattle.exec_pipe.specs.declared.engine.Engine.{Engine}
 use Rattle.cost_model.specs.Costing.{IsCosting}
 use Rattle.cost_model.specs.Frontier.{frontier}
 use Rattle.bouquet_type.specs.Trees.{BouquetTree, ContourTree}
@@ -29,10 +29,9 @@ use Rattle.bouquet_type.specs.declared.report.Report.{Report}
 use Rattle.bouquet_type.specs.declared.report.RunFault.{RunFault}
 use Rattle.bouquet_run.specs.Coming.{TellsStep, coming, is_done}
 use Rattle.bouquet_run.specs.Outcomes.{works_over}
-use Rattle.bouquet_run.specs.Running.{IsRunning, RunState, Steps, run_from}
-use Rattle.bouquet_run.proofs.Stepping.{begun, steps, tells-first}
+use Rattle.bouquet_run.specs.Running.{IsRunning, Steps, run_from, run_state}
+use Rattle.bouquet_run.proofs.Stepping.{EngineTells, begun, engine-steps, engine-tells}
 use Rattle.learned_run.specs.declared.learned.Skip.{Skip}
-use Rattle.learned_run.specs.declared.learned.Learned.{Learned}
 use Rattle.learned_run.specs.declared.lesson.Lesson.{Lesson}
 use Rattle.learned_run.specs.Learning.{learned_point}
 use Rattle.learned_run.specs.Skips.{IsSkipOf, covers_above, is_skipped, learned_end, skip_by, skip_of, skip_point, skips_among, skips_of}
@@ -45,32 +44,43 @@ use Rattle.learned_run.proofs.Unskipped.{learned-bound}
 use Rattle.learned_run.proofs.Leading.{IsTriedFirst, behind-first, done-ends, none-behind, none-here, over-goes, same-first, skipped-first}
 
 -- the executions that are due among some members, where these were exhausted; and the skips among them
-abbrev due_among : BouquetTree → (exhausted : List Member) → List Member → List Member
+abbrev pub due_among : BouquetTree → (exhausted : List Member) → List Member → List Member
 due_among bouquet exhausted left = without_skipped (is_skipped bouquet.costing bouquet.threshold) exhausted left
 
 abbrev skips_due : BouquetTree → (work : PlanTree → ℕ) → (exhausted : List Member) → List Member → List Skip
 skips_due bouquet work exhausted left = skips_among bouquet.costing bouquet.threshold work exhausted left
 
--- a run of a bouquet learns: its executions were exhausted, these were skipped, and this lesson was drawn of them
-pub record IsLearning (bouquet : BouquetTree) (block : BlockTree) (most : ℕ) (first : MeterState) (empty : Space) (run : RunState) (skips : List Skip) (lesson : Lesson) : Type 0 where
+-- what each plan works in a run that began with this engine
+abbrev pub works_of : Engine → PlanTree → ℕ
+works_of first = works_over first.meter.now.database (block_tree first.block.now)
+
+-- what an execution tells that stopped or ended well, between two engines
+abbrev pub TellsOk : (old new : Engine) → (runs : ℕ) → Attempt → Option Report → Type 0
+TellsOk old new runs step told =
+    TellsStep old.meter.now.database (block_tree old.block.now) old.max_work (coming old.max_work old.meter.now.account.spent (runs + 1) (works_of old (plan_tree step.plan.now)) (attempt_tree step))
+    new.meter.now.account.spent new.space.now.result.rows (Ok told)
+
+-- a run of a bouquet that began with one engine learns: its executions were exhausted, these were skipped, and this lesson was
+-- drawn of them
+pub record IsLearning (bouquet : BouquetTree) (first engine : Engine) (schedule : ScheduleState) (runs : ℕ) (skips : List Skip) (lesson : Lesson) : Type 0 where
   pub exhausted : List Member
   pub learned : IsLearned bouquet.costing exhausted lesson.some lesson.least
-  pub running : IsRunning bouquet block most (learned_end bouquet (works_over first.database block)) first empty (due_among bouquet exhausted (members_left run.schedule)) run
-  pub told : skips_of bouquet (works_over first.database block) ≡ skips ++ skips_due bouquet (works_over first.database block) exhausted (members_left run.schedule)
+  pub running : IsRunning bouquet (block_tree first.block.now) first.max_work (learned_end bouquet (works_of first)) first.meter.now first.space.now
+      (due_among bouquet exhausted (members_left schedule)) (run_state schedule engine runs)
+  pub told : skips_of bouquet (works_of first) ≡ skips ++ skips_due bouquet (works_of first) exhausted (members_left schedule)
   pub exist : All (IsSkipOf bouquet) skips
-  pub members : All (IsMemberOf bouquet) (members_left run.schedule)
+  pub members : All (IsMemberOf bouquet) (members_left schedule)
 
 -- before the first one
-pub learning-begun : (bouquet : BouquetTree) (block : BlockTree) (most : ℕ) (first : MeterState) (empty : Space) (state : ScheduleState) (lesson : Lesson) → IsLearned bouquet.costing [] lesson.some lesson.least
-    → first.account.spent ≡ 0 → empty.result.rows ≡ [] → IsWholeSchedule bouquet state
-    → IsLearning bouquet block most first empty (record { schedule = state; meter = first; space = empty; runs = 0 }) [] lesson
-learning-begun bouquet block most first empty state lesson learned unspent rows whole =
-    let work = works_over first.database block in
+pub learning-begun : (bouquet : BouquetTree) (first : Engine) (state : ScheduleState) (lesson : Lesson) → IsLearned bouquet.costing [] lesson.some lesson.least
+    → first.meter.now.account.spent ≡ 0 → first.space.now.result.rows ≡ [] → IsWholeSchedule bouquet state → IsLearning bouquet first first state 0 [] lesson
+learning-begun bouquet first state lesson learned unspent rows whole =
+    let work = works_of first in
     let all : schedule bouquet ≡ members_left state = sym whole.members in
     record {
       exhausted = [];
       learned = learned;
-      running = begun bouquet block most (learned_end bouquet work) first empty (due_among bouquet [] (members_left state)) state
+      running = begun bouquet (block_tree first.block.now) first.max_work (learned_end bouquet work) first.meter.now first.space.now (due_among bouquet [] (members_left state)) state
           (ap (λ (members : List Member). end_of work (due_among bouquet [] members) (final_plan bouquet)) all) unspent rows whole;
       told = ap (skips_due bouquet work []) all;
       exist = All-nil (IsSkipOf bouquet);
@@ -212,17 +222,17 @@ module _ (bouquet : BouquetTree) (work : PlanTree → ℕ) (exhausted : List Mem
   }
 
 -- a run that learns comes to its next execution
-module _ (bouquet : BouquetTree) (block : BlockTree) (most : ℕ) (first : MeterState) (empty : Space) (old : RunState) (skips : List Skip) (lesson : Lesson) (next : ScheduleState) (step : Attempt)
-    (is : IsLearning bouquet block most first empty old skips lesson) (takes : TakesNext old.schedule next) (at : attempt_tree step ≡ attempt_at next) (place : step.place ≡ next.given)
+module _ (bouquet : BouquetTree) (first old : Engine) (now next : ScheduleState) (runs : ℕ) (skips : List Skip) (lesson : Lesson) (step : Attempt)
+    (is : IsLearning bouquet first old now runs skips lesson) (takes : TakesNext now next) (at : attempt_tree step ≡ attempt_at next) (place : step.place ≡ next.given)
     (cost : step.cost ≡ next.ladder.hand.cost) where
   abbrev work : PlanTree → ℕ
-  work = works_over first.database block
+  work = works_of first
 
   abbrev left : List Member
-  left = members_left old.schedule
+  left = members_left now
 
   stands : IsStepAt left step
-  stands = step-at old.schedule next step takes at place cost
+  stands = step-at now next step takes at place cost
 
   pub step-of : IsStepOf bouquet step step.budget
   step-of = member-step bouquet left step is.members stands
@@ -233,8 +243,7 @@ module _ (bouquet : BouquetTree) (block : BlockTree) (most : ℕ) (first : Meter
 
     -- it is skipped
     pub learning-skipped : (point : List ℕ) → Some point ≡ step_skip bouquet step learned step.budget
-        → IsLearning bouquet block most first empty (record { schedule = next; meter = old.meter; space = old.space; runs = old.runs })
-        (skips ++ record { contour = step.contour; plan = step.place; point = point } ∷ []) lesson
+        → IsLearning bouquet first old next runs (skips ++ record { contour = step.contour; plan = step.place; point = point } ∷ []) lesson
     learning-skipped point skip =
         let one : Skip = record { contour = step.contour; plan = step.place; point = point } in
         let so = skips-first bouquet work is.exhausted step learned point left learned-so
@@ -244,7 +253,7 @@ module _ (bouquet : BouquetTree) (block : BlockTree) (most : ℕ) (first : Meter
           learned = is.learned;
           running = record {
             end = is.running.end
-                ∙ ap (run_from work (final_plan bouquet) old.meter.account.spent old.runs) (so.due ∙ ap (due_among bouquet is.exhausted) (sym takes.left));
+                ∙ ap (run_from work (final_plan bouquet) old.meter.now.account.spent runs) (so.due ∙ ap (due_among bouquet is.exhausted) (sym takes.left));
             few = omega (arith, is.running.few, so.fewer, ap length takes.left);
             is = takes.at.is;
             of = takes.whole ∙ is.running.of;
@@ -259,7 +268,7 @@ module _ (bouquet : BouquetTree) (block : BlockTree) (most : ℕ) (first : Meter
         }
 
     -- it is executed
-    module _ (none : None ≡ step_skip bouquet step learned step.budget) (after : MeterState) (last : Space) (leaves : OnlyRunsWithin most old.meter after old.space last) where
+    module _ (none : None ≡ step_skip bouquet step learned step.budget) (keeps : KeepsEngine first old) (new : Engine) (kept : KeepsEngine old new) where
       tried : IsTriedFirst bouquet.costing bouquet.threshold is.exhausted left
       tried = tried-first bouquet is.exhausted left step learned learned-so stands none
 
@@ -272,27 +281,24 @@ module _ (bouquet : BouquetTree) (block : BlockTree) (most : ℕ) (first : Meter
       same-attempt : first_attempt left (final_plan bouquet) ≡ first_attempt due (final_plan bouquet)
       same-attempt = same-first bouquet.costing bouquet.threshold is.exhausted left (final_plan bouquet) tried
 
-      abbrev Tells : Result (Option Report) RunFault → Type 0
-      Tells told =
-          TellsStep old.meter.database block most (coming most old.meter.account.spent (old.runs + 1) (works_over old.meter.database block (plan_tree step.plan.now)) (attempt_tree step))
-          after.account.spent last.result.rows told
+      abbrev pub Tells : BlockShape → (most : ℕ) → DatabaseState → Result (Option Report) RunFault → Type 0
+      Tells = EngineTells bouquet ending first old new due now next runs (attempt_tree step) is.running keeps takes at
 
-      tells-so : (told : Result (Option Report) RunFault) → Tells told
-          → TellsStep first.database block most (coming most old.meter.account.spent (old.runs + 1) (work (plan_tree step.plan.now)) (attempt_tree step)) after.account.spent last.result.rows told
-      tells-so = tells-first bouquet block most ending first empty due old next (attempt_tree step) is.running takes at same-attempt after last leaves
+      tells-so : (told : Result (Option Report) RunFault) → Tells old.block.now old.max_work old.meter.now.database told → Tells first.block.now first.max_work first.meter.now.database told
+      tells-so = engine-tells bouquet ending first old new due now next runs (attempt_tree step) is.running keeps takes at same-attempt kept
 
-      stepped : (told : Result (Option Report) RunFault) → Tells told
-          → Steps bouquet block most ending first empty due (record { schedule = next; meter = after; space = last; runs = old.runs + 1 }) told
-      stepped told tells = steps bouquet block most ending first empty due old next (attempt_tree step) is.running takes at same-attempt after last leaves told (tells-so told tells)
+      stepped : (told : Result (Option Report) RunFault) → Tells old.block.now old.max_work old.meter.now.database told
+          → Steps bouquet (block_tree first.block.now) first.max_work ending first.meter.now first.space.now due (run_state next new (runs + 1)) told
+      stepped told tells = engine-steps bouquet ending first old new due now next runs (attempt_tree step) is.running keeps takes at same-attempt kept told (tells-so told tells)
 
-      pub learning-refused : (fault : RunFault) → Tells (Err fault) → AnswersLearned bouquet block first.database most after.account.spent last.result.rows (Err fault)
+      pub learning-refused : (fault : RunFault) → Tells old.block.now old.max_work old.meter.now.database (Err fault) → AnswersLearned bouquet (block_tree first.block.now) first.meter.now.database first.max_work new.meter.now.account.spent new.space.now.result.rows (Err fault)
       learning-refused fault = stepped (Err fault)
 
       pub learning-answered : (report : Report) (noted : Vec Skip Global) → noted.items ≡ skips → IsCosting bouquet.costing → All (λ contour. All (IsPlan bouquet.costing.block) contour.plans) bouquet.contours
-          → Tells (Ok (Some report)) → AnswersLearned bouquet block first.database most after.account.spent last.result.rows (Ok (record { report = report; skips = noted }))
+          → Tells old.block.now old.max_work old.meter.now.database (Ok (Some report)) → AnswersLearned bouquet (block_tree first.block.now) first.meter.now.database first.max_work new.meter.now.account.spent new.space.now.result.rows (Ok (record { report = report; skips = noted }))
       learning-answered report noted same_skips costing plans tells =
           let so = stepped (Ok (Some report)) tells in
-          let done = done-ends most old.meter.account.spent (old.runs + 1) (work (plan_tree step.plan.now)) (attempt_tree step) (told_end report) (tells-so (Ok (Some report)) tells).0 in
+          let done = done-ends first.max_work old.meter.now.account.spent (runs + 1) (work (plan_tree step.plan.now)) (attempt_tree step) (told_end report) (tells-so (Ok (Some report)) tells).0 in
           let total : ending.total ≡ report.work = sym (ap (λ (one : RunEnd). one.total) so.0.end) in (
             record {
               rows = so.0.rows;
@@ -308,12 +314,12 @@ module _ (bouquet : BouquetTree) (block : BlockTree) (most : ℕ) (first : Meter
 
       -- it is exhausted, and this lesson is drawn
       pub learning-on : (after_it : Lesson) → IsGrid bouquet.costing.grid → IfSome step.budget (λ _. after_it.some ≡ true)
-          → IfSome step.budget (λ budget. RulesOut bouquet.costing (plan_tree step.plan.now) budget lesson.least after_it.least) → IfSome after_it.least (IsPoint bouquet.costing.grid) → Tells (Ok None)
-          → IsLearning bouquet block most first empty (record { schedule = next; meter = after; space = last; runs = old.runs + 1 }) skips after_it
+          → IfSome step.budget (λ budget. RulesOut bouquet.costing (plan_tree step.plan.now) budget lesson.least after_it.least) → IfSome after_it.least (IsPoint bouquet.costing.grid) → Tells old.block.now old.max_work old.meter.now.database (Ok None)
+          → IsLearning bouquet first new next (runs + 1) skips after_it
       learning-on after_it is_grid learns rules of_grid tells =
           let costing = bouquet.costing in
           let on = stepped (Ok None) tells in
-          let over = over-goes most old.meter.account.spent (old.runs + 1) (work (plan_tree step.plan.now)) (attempt_tree step) after.account.spent (tells-so (Ok None) tells).0 in
+          let over = over-goes first.max_work old.meter.now.account.spent (runs + 1) (work (plan_tree step.plan.now)) (attempt_tree step) new.meter.now.account.spent (tells-so (Ok None) tells).0 in
           let so = exhausts-first bouquet work is.exhausted step left is.members stands tried over in
           let more = is.exhausted ++ so.member ∷ [] in
           let some : after_it.some ≡ true = subst (λ (budget : Option ℕ). IfSome budget (λ _. after_it.some ≡ true)) so.budget learns in
@@ -321,11 +327,10 @@ module _ (bouquet : BouquetTree) (block : BlockTree) (most : ℕ) (first : Meter
           subst (λ (budget : Option ℕ). IfSome budget (λ b. RulesOut costing (plan_tree step.plan.now) b lesson.least after_it.least)) so.budget rules in
           let learned_more = learned-more costing is.exhausted so.member lesson.some lesson.least after_it.least is_grid is.learned
           (subst (λ p. RulesOut costing p so.member.budget lesson.least after_it.least) so.plan ruled) of_grid in
-          let run : RunState = record { schedule = next; meter = after; space = last; runs = old.runs + 1 } in
           record {
             exhausted = more;
             learned = subst (λ (one : Bool). IsLearned costing more one after_it.least) (sym some) learned_more;
-            running = subst (λ (members : List Member). IsRunning bouquet block most ending first empty members run) (so.due ∙ ap (due_among bouquet more) (sym takes.left)) on;
+            running = subst (λ (members : List Member). IsRunning bouquet (block_tree first.block.now) first.max_work ending first.meter.now first.space.now members (run_state next new (runs + 1))) (so.due ∙ ap (due_among bouquet more) (sym takes.left)) on;
             told = is.told ∙ ap (λ (others : List Skip). skips ++ others) (so.skips ∙ ap (skips_due bouquet work more) (sym takes.left));
             exist = is.exist;
             members = subst (All (IsMemberOf bouquet)) (sym takes.left) so.members;
@@ -335,9 +340,3 @@ module _ (bouquet : BouquetTree) (block : BlockTree) (most : ℕ) (first : Meter
 pub refused-told : (Answers : Report → Type 0) (Refuses : RunFault → Type 0) (told : Result Report RunFault) (fault : RunFault) → IsErrAnd told (λ one. one ≡ fault) → Refuses fault → MatchResult told Answers Refuses
 refused-told Answers Refuses (Ok report) fault is refused = absurd is
 refused-told Answers Refuses (Err one) fault is refused = subst Refuses (sym is) refused
-
-pub refused-answer : (bouquet : BouquetTree) (block : BlockTree) (database : DatabaseState) (most spent : ℕ) (results : List (List ℤ)) (answer : Result Learned RunFault) (fault : RunFault)
-    → IsErrAnd answer (λ told. told ≡ fault) → AnswersLearned bouquet block database most spent results (Err fault) → AnswersLearned bouquet block database most spent results answer
-refused-answer bouquet block database most spent results (Ok learned) fault is refused = absurd is
-refused-answer bouquet block database most spent results (Err told) fault is refused =
-    subst (λ (one : RunFault). AnswersLearned bouquet block database most spent results (Err one)) (sym is) refused

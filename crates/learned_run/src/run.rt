@@ -3,6 +3,7 @@
 ghost use Rattle.std.specs.Prelude.{◌≡◌, ◌<◌, ◌≤◌, ◌^◌, ◌++◌, [], ◌∷◌, MatchResult, OnOk, Ok, Err};
 ghost use Rattle.query_block.specs.Blocks.{block_tree, IsPutOf};
 ghost use Rattle.exec_pipe.specs.Scenes.{IsEmptyContext};
+ghost use Rattle.exec_pipe.specs.Engines.{IsEngine, KeepsEngine, engine_of};
 ghost use Rattle.exec_pipe.specs.Runs.{OnlyRuns};
 ghost use Rattle.bouquet_type.specs.Trees.{bouquet_tree};
 ghost use Rattle.learned_run.specs.Outcomes.{AnswersLearned};
@@ -14,6 +15,7 @@ use bouquet_run::execute;
 use bouquet_type::{Attempt, Bouquet, Kept, Report, RunFault, Schedule};
 use db_catalog::Metered;
 use ess_grid::Point;
+use exec_pipe::Engine;
 use known_rows::KnownRows;
 use query_block::Block;
 use row_stack::Space;
@@ -41,33 +43,31 @@ fn note(skips: &mut Vec<Skip>, step: Attempt<'_>, point: Point) -> Result<(), Al
 fn execute_unskipped(
     alloc: Global,
     b: &Bouquet,
-    block: &Block,
     frontiers: &mut Frontiers<'_>,
     skips: &mut Vec<Skip>,
-    meter: &mut Metered<'_>,
-    space: &mut Space,
-    max_work: u64,
+    engine: &mut Engine<'_, '_>,
 ) -> Result<Report, RunFault>
-    requires block { IsPutOf (block_tree b.now.block) (block_tree block.now) }
+    requires block { IsPutOf (block_tree b.now.block) (block_tree engine.old.block.now) }
     requires frontiers { frontiers.old.bouquet ≡ b.now }
     requires skips { skips.old.items ≡ [] }
-    requires context { IsEmptyContext meter.old (block_tree block.now) space.old }
-    requires unspent { meter.old.account.spent ≡ 0 }
+    requires engine { IsEngine (engine_of engine.old) }
+    requires context { IsEmptyContext engine.old.meter.now (block_tree engine.old.block.now)
+        engine.old.space.now }
+    requires unspent { engine.old.meter.now.account.spent ≡ 0 }
     ensures answers { MatchResult result
-        (λ report. AnswersLearned (bouquet_tree b.now) (block_tree block.now) meter.old.database
-        max_work meter.new.account.spent space.new.result.rows
-        (Ok (record { report = report; skips = skips.new })))
-        (λ fault. AnswersLearned (bouquet_tree b.now) (block_tree block.now) meter.old.database
-        max_work meter.new.account.spent space.new.result.rows (Err fault)) }
-    ensures within { meter.new.account.spent ≤ max_work }
-    ensures leaves { OnlyRuns meter.old meter.new space.old space.new }
+        (λ report. AnswersLearned (bouquet_tree b.now) (block_tree engine.old.block.now)
+        engine.old.meter.now.database engine.old.max_work engine.new.meter.now.account.spent
+        engine.new.space.now.result.rows (Ok (record { report = report; skips = skips.new })))
+        (λ fault. AnswersLearned (bouquet_tree b.now) (block_tree engine.old.block.now)
+        engine.old.meter.now.database engine.old.max_work engine.new.meter.now.account.spent
+        engine.new.space.now.result.rows (Err fault)) }
+    ensures keeps { KeepsEngine engine.old engine.new }
 {
     let _block = b.block();
     let costing = b.costing();
     let costs = b.optimal_costs();
     let mut lesson = Lesson::new(&costing);
     let mut schedule = Schedule::new(Kept::new(b));
-    let mut known = KnownRows::new();
     let mut runs = 0;
     'steps: loop {
         schedule.next(alloc)?;
@@ -77,9 +77,7 @@ fn execute_unskipped(
             continue;
         }
         runs += 1;
-        if let Some(report) = execute(
-            alloc, block, step, runs, meter, space, &mut known, max_work,
-        )? {
+        if let Some(report) = execute(alloc, engine, step, runs)? {
             return Ok(report);
         }
         lesson.learn(&costing, costs, step);
@@ -115,15 +113,16 @@ pub fn learn(
     let costing = b.costing();
     let mut frontiers = Frontiers::new(alloc, b, &costing);
     let mut skips = Vec::new(alloc);
-    let report = execute_unskipped(
-        alloc,
-        b,
+    let mut known = KnownRows::new();
+    let mut engine = Engine {
         block,
-        &mut frontiers,
-        &mut skips,
         meter,
         space,
+        known: &mut known,
         max_work,
-    )?;
-    Ok(Learned { report, skips })
+    };
+    match execute_unskipped(alloc, b, &mut frontiers, &mut skips, &mut engine) {
+        Ok(report) => Ok(Learned { report, skips }),
+        Err(fault) => Err(fault),
+    }
 }

@@ -1,8 +1,14 @@
 // A job: a query that is answered by turns. It has a meter, two stacks and what its executions learned of its own.
-ghost use Rattle.std.specs.Prelude.{◌≡◌, option_map};
+ghost use Rattle.std.specs.Prelude.{◌≡◌, ◌≤◌, option_map};
 ghost use Rattle.query_block.specs.Blocks.{block_tree, IsPutOf};
 ghost use Rattle.db_catalog.specs.Fits.{Fits};
+ghost use Rattle.exec_pipe.specs.Counting.{Knows};
+ghost use Rattle.exec_pipe.specs.Runs.{OnlyRunsWithin};
+ghost use Rattle.exec_pipe.specs.Scenes.{MayRun};
+ghost use Rattle.exec_pipe.specs.Starting.{plan_work};
+ghost use Rattle.bouquet_type.specs.Cursor.{attempt_tree};
 ghost use Rattle.bouquet_type.specs.Trees.{bouquet_tree};
+ghost use Rattle.bouquet_run.specs.Coming.{TellsStep, coming};
 ghost use Rattle.turns.specs.Standing.{fresh_job};
 ghost use Rattle.turns.specs.Jobs.{IsJob, job_tree, report_of, job_state_of, task_of};
 ghost use Rattle.turns.specs.Taking.{TakesTurn, is_running};
@@ -12,13 +18,45 @@ use crate::progress::{Progress, progress_by};
 use crate::state::JobState;
 use crate::turn::Turn;
 use bouquet_run::execute;
-use bouquet_type::{Bouquet, Kept, Report, RunFault, Schedule};
+use bouquet_type::{Attempt, Bouquet, Kept, Report, RunFault, Schedule};
 use db_catalog::{Database, Metered};
+use exec_pipe::Engine;
 use known_rows::KnownRows;
 use query_block::Block;
 use row_stack::{RowStack, Space};
 use std::alloc::{AllocError, Global};
 use std::marker::Model;
+
+// Executes a plan over what a job holds, as the execution of this number.
+fn execute_over(
+    alloc: Global,
+    block: &Block,
+    attempt: Attempt<'_>,
+    runs: u32,
+    meter: &mut Metered<'_>,
+    space: &mut Space,
+    known: &mut KnownRows,
+    max_work: u64,
+) -> Result<Option<Report>, RunFault>
+    requires runs { MayRun meter.old block.now attempt.plan.now space.old }
+    requires known { Knows meter.old block.now known.old }
+    requires left { meter.old.account.spent ≤ max_work }
+    ensures tells { TellsStep meter.old.database (block_tree block.now) max_work
+        (coming max_work meter.old.account.spent runs
+        (plan_work meter.old block.now attempt.entry.plan.now) (attempt_tree attempt.entry))
+        meter.new.account.spent space.new.result.rows result }
+    ensures leaves { OnlyRunsWithin max_work meter.old meter.new space.old space.new }
+    ensures known { Knows meter.old block.now known.new }
+{
+    let mut engine = Engine {
+        block,
+        meter,
+        space,
+        known,
+        max_work,
+    };
+    execute(alloc, &mut engine, attempt, runs)
+}
 
 /// A query that is answered by turns: the run of a bouquet, which may stop after each execution and go on later.
 #[derive(Drop)]
@@ -158,7 +196,7 @@ impl<'d> Job<'d> {
         self.schedule.next(alloc)?;
         let attempt = self.schedule.attempt();
         let contour = attempt.contour;
-        let made = execute(
+        let made = execute_over(
             alloc,
             self.block,
             attempt,

@@ -1,5 +1,5 @@
-use Rattle.std.proofs.Common.{rules, ◌∙◌, ◌+◌, List, [], refl, ap, sym, subst, arith}
-use Rattle.std.specs.Prelude.{Option, Ok, Err, IfSome}
+use Rattle.std.proofs.Common.{rules, ◌∙◌, List, [], refl, ap, sym, subst, arith}
+use Rattle.std.specs.Prelude.{Ok, Err, IfSome}
 use Rattle.query_block.specs.Blocks.{block_tree}
 use Rattle.plan_tree.specs.Plans.{plan_tree}
 use Rattle.plan_tree.specs.Enumerated.{IsPlan}
@@ -8,46 +8,37 @@ use Rattle.cost_model.specs.Costing.{CostingShape, costing_tree}
 use Rattle.bouquet_type.specs.Shapes.{BouquetShape}
 use Rattle.bouquet_type.specs.Trees.{BouquetTree, bouquet_tree}
 use Rattle.bouquet_type.specs.Kept.{ladder_of}
-use Rattle.bouquet_type.specs.Cursor.{IsWholeSchedule, attempt_tree, schedule_of}
-use Rattle.bouquet_type.specs.declared.report.Report.{Report}
+use Rattle.bouquet_type.specs.Cursor.{IsWholeSchedule, attempt_tree, members_left, schedule_of}
 use Rattle.bouquet_type.proofs.Meets.{plans-of-bouquet}
-use Rattle.db_catalog.specs.Database.{DatabaseState}
-use Rattle.known_rows.specs.Known.{AreKnown}
-use Rattle.known_rows.proofs.Laws.{nothing-known}
-use Rattle.bouquet_run.specs.Coming.{TellsStep, coming}
-use Rattle.bouquet_run.specs.Outcomes.{works_over}
-use Rattle.bouquet_run.specs.Running.{RunState}
-use Rattle.bouquet_run.proofs.Stepping.{plan-of-put}
+use Rattle.bouquet_run.proofs.Stepping.{keeps-on, may-execute}
 use Rattle.learned_run.specs.declared.learned.Skip.{Skip}
 use Rattle.learned_run.specs.Outcomes.{AnswersLearned}
 use Rattle.learned_run.specs.Raising.{IsLearned, RulesOut}
+use Rattle.learned_run.specs.Skips.{learned_end}
 use Rattle.learned_run.specs.Covering.{IsStepOf, step_skip}
-use Rattle.learned_run.proofs.Between.{IsLearning, learning-answered, learning-begun, learning-on, learning-refused, learning-skipped, place-few, refused-told, step-of}
+use Rattle.learned_run.proofs.Between.{IsLearning, TellsOk, due_among, learning-answered, learning-begun, learning-on, learning-refused, learning-skipped, place-few, refused-told, step-of, works_of}
 use Rattle.learned_run.proofs.run.execute_unskipped.Goals as goal
 
 pub steps-init : goal.steps-init
 steps-init c =
     let bouquet = bouquet_tree c.args.b.now in
-    let block = block_tree c.args.block.now in
-    let first = c.args.meter.now in
+    let first = c.args.engine.now in
     let lesson = c.new-lesson.result in
     let schedule = schedule_of ladder_of c.new-schedule.result in
     let learned : IsLearned bouquet.costing [] lesson.some lesson.least =
     subst (λ (shape : CostingShape). IsLearned (costing_tree shape) [] lesson.some lesson.least) c.costing-costing.ensures c.new-lesson.ensures in
     let whole = subst (λ (b : BouquetTree). IsWholeSchedule b schedule) c.new.ensures.whole c.new-schedule.ensures in
     record {
-      learning = subst (λ (skips : List Skip). IsLearning bouquet block c.args.max_work first c.args.space.now (record { schedule = schedule; meter = first; space = c.args.space.now; runs = 0 }) skips lesson)
-          (sym c.requires.skips) (learning-begun bouquet block c.args.max_work first c.args.space.now schedule lesson learned c.requires.unspent c.requires.context.result whole);
+      learning = subst (λ (skips : List Skip). IsLearning bouquet first first schedule 0 skips lesson) (sym c.requires.skips)
+          (learning-begun bouquet first schedule lesson learned c.requires.unspent c.requires.context.result whole);
       frontiers = c.requires.frontiers;
-      known = rw c.new-known.ensures (nothing-known first.database.tables block);
+      keeps = search rules;
     }
 
 pub skip_point-requires-clause-step : goal.skip_point-requires-clause-step
 skip_point-requires-clause-step c =
-    let bouquet = bouquet_tree c.args.b.now in
     let step = c.attempt-step.result in
-    let old : RunState = record { schedule = schedule_of ladder_of c.steps.schedule; meter = c.steps.meter; space = c.steps.space; runs = c.steps.runs } in
-    let of = step-of bouquet (block_tree c.args.block.now) c.args.max_work c.args.meter.now c.args.space.now old c.steps.skips.items c.steps.lesson (schedule_of ladder_of c.next.new.self) step
+    let of = step-of (bouquet_tree c.args.b.now) c.args.engine.now c.steps.engine (schedule_of ladder_of c.steps.schedule) (schedule_of ladder_of c.next.new.self) c.steps.runs c.steps.skips.items c.steps.lesson step
     c.steps.invariant.learning c.in_ok-next.ensures.goes_on c.attempt-step.ensures.step c.attempt-step.ensures.place c.attempt-step.ensures.cost in
     subst (λ (one : BouquetShape). IsStepOf (bouquet_tree one) step step.budget) (sym c.steps.invariant.frontiers) of
 
@@ -64,81 +55,72 @@ note-requires c =
 pub steps-preserved-in-Some : goal.steps-preserved-in-Some
 steps-preserved-in-Some c =
     let bouquet = bouquet_tree c.args.b.now in
-    let block = block_tree c.args.block.now in
+    let first = c.args.engine.now in
     let next = schedule_of ladder_of c.next.new.self in
     let step = c.attempt-step.result in
-    let old : RunState = record { schedule = schedule_of ladder_of c.steps.schedule; meter = c.steps.meter; space = c.steps.space; runs = c.steps.runs } in
     let same = ap (λ (one : BouquetShape). step_skip (bouquet_tree one) step c.point.result step.budget) c.steps.invariant.frontiers in
-    let skipped = learning-skipped bouquet block c.args.max_work c.args.meter.now c.args.space.now old c.steps.skips.items c.steps.lesson next step
+    let skipped = learning-skipped bouquet first c.steps.engine (schedule_of ladder_of c.steps.schedule) next c.steps.runs c.steps.skips.items c.steps.lesson step
     c.steps.invariant.learning c.in_ok-next.ensures.goes_on c.attempt-step.ensures.step c.attempt-step.ensures.place c.attempt-step.ensures.cost
     c.point.result c.point.ensures c.in-Some.point (sym c.in-Some.is ∙ c.in_ok-point.ensures.skip ∙ same) in
     record {
-      learning = subst (λ (skips : List Skip). IsLearning bouquet block c.args.max_work c.args.meter.now c.args.space.now (record { schedule = next; meter = old.meter; space = old.space; runs = old.runs }) skips c.steps.lesson)
-          (sym c.in_ok-note.ensures) skipped;
+      learning = subst (λ (skips : List Skip). IsLearning bouquet first c.steps.engine next c.steps.runs skips c.steps.lesson) (sym c.in_ok-note.ensures) skipped;
       frontiers = c.in_ok-point.ensures.same ∙ c.steps.invariant.frontiers;
-      known = c.steps.invariant.known;
+      keeps = c.steps.invariant.keeps;
     }
 
-pub execute-requires-clause-runs : goal.execute-requires-clause-runs
-execute-requires-clause-runs c =
+pub execute-requires : goal.execute-requires
+execute-requires c =
     let bouquet = bouquet_tree c.args.b.now in
-    let plan = plan_tree c.attempt-step.result.plan.now in
-    record {
-      plan = plan-of-put bouquet.costing.block (block_tree c.args.block.now) plan c.requires.block
-          (subst (λ (whole : BouquetTree). IsPlan whole.costing.block plan) (c.in_ok-next.ensures.goes_on.whole ∙ c.steps.invariant.learning.running.of) c.attempt-step.ensures.plan);
-      context = search rules;
-    }
+    let first = c.args.engine.now in
+    let old = c.steps.engine in
+    let now = schedule_of ladder_of c.steps.schedule in
+    let step = c.attempt-step.result in
+    let is = c.steps.invariant.learning in
+    may-execute bouquet (learned_end bouquet (works_of first)) first old old (due_among bouquet is.exhausted (members_left now)) now (schedule_of ladder_of c.next.new.self) c.steps.runs (attempt_tree step)
+    is.running c.steps.invariant.keeps c.in_ok-next.ensures.goes_on c.attempt-step.ensures.step step.plan.now c.requires.block c.attempt-step.ensures.plan c.requires.context.work
 
 pub returns-in_err-report-clause-answers : goal.returns-in_err-report-clause-answers
 returns-in_err-report-clause-answers c =
     let bouquet = bouquet_tree c.args.b.now in
-    let block = block_tree c.args.block.now in
-    let first = c.args.meter.now in
+    let first = c.args.engine.now in
+    let block = block_tree first.block.now in
+    let new = c.execute.new.engine in
     let step = c.attempt-step.result in
-    let old : RunState = record { schedule = schedule_of ladder_of c.steps.schedule; meter = c.steps.meter; space = c.steps.space; runs = c.steps.runs } in
     let same = ap (λ (one : BouquetShape). step_skip (bouquet_tree one) step c.point.result step.budget) c.steps.invariant.frontiers in
-    let paid = c.execute.new.meter.account.spent in
-    let results = c.execute.new.space.result.rows in
+    let paid = new.meter.now.account.spent in
+    let results = new.space.now.result.rows in
     let fault = c.in_err-report.field-0.0 in
-    let refused = learning-refused bouquet block c.args.max_work first c.args.space.now old c.steps.skips.items c.steps.lesson (schedule_of ladder_of c.next.new.self) step
+    let refused = learning-refused bouquet first c.steps.engine (schedule_of ladder_of c.steps.schedule) (schedule_of ladder_of c.next.new.self) c.steps.runs c.steps.skips.items c.steps.lesson step
     c.steps.invariant.learning c.in_ok-next.ensures.goes_on c.attempt-step.ensures.step c.attempt-step.ensures.place c.attempt-step.ensures.cost
-    c.point.result c.point.ensures (sym c.in_default.is ∙ c.in_ok-point.ensures.skip ∙ same) c.execute.new.meter c.execute.new.space c.execute.ensures.leaves fault c.in_err-report.ensures.tells in
-    refused-told (λ report. AnswersLearned bouquet block first.database c.args.max_work paid results (Ok (record { report = report; skips = c.steps.skips })))
-    (λ one. AnswersLearned bouquet block first.database c.args.max_work paid results (Err one)) c.from_residual-in_err-report.result fault c.from_residual-in_err-report.ensures.1 refused
+    c.point.result c.point.ensures (sym c.in_default.is ∙ c.in_ok-point.ensures.skip ∙ same) c.steps.invariant.keeps new c.execute.ensures.keeps fault c.in_err-report.ensures.tells in
+    refused-told (λ report. AnswersLearned bouquet block first.meter.now.database first.max_work paid results (Ok (record { report = report; skips = c.steps.skips })))
+    (λ one. AnswersLearned bouquet block first.meter.now.database first.max_work paid results (Err one)) c.from_residual-in_err-report.result fault c.from_residual-in_err-report.ensures.1 refused
 
 pub returns-in-Some-2-clause-answers : goal.returns-in-Some-2-clause-answers
 returns-in-Some-2-clause-answers c =
     let b = c.args.b.now in
-    let block = block_tree c.args.block.now in
+    let old = c.steps.engine in
     let step = c.attempt-step.result in
-    let old : RunState = record { schedule = schedule_of ladder_of c.steps.schedule; meter = c.steps.meter; space = c.steps.space; runs = c.steps.runs } in
     let same = ap (λ (one : BouquetShape). step_skip (bouquet_tree one) step c.point.result step.budget) c.steps.invariant.frontiers in
-    let Tells : Option Report → Type 0 = λ (told : Option Report).
-    TellsStep old.meter.database block c.args.max_work (coming c.args.max_work old.meter.account.spent (old.runs + 1) (works_over old.meter.database block (plan_tree step.plan.now)) (attempt_tree step))
-    c.execute.new.meter.account.spent c.execute.new.space.result.rows (Ok told) in
-    learning-answered (bouquet_tree b) block c.args.max_work c.args.meter.now c.args.space.now old c.steps.skips.items c.steps.lesson (schedule_of ladder_of c.next.new.self) step
+    learning-answered (bouquet_tree b) c.args.engine.now old (schedule_of ladder_of c.steps.schedule) (schedule_of ladder_of c.next.new.self) c.steps.runs c.steps.skips.items c.steps.lesson step
     c.steps.invariant.learning c.in_ok-next.ensures.goes_on c.attempt-step.ensures.step c.attempt-step.ensures.place c.attempt-step.ensures.cost
-    c.point.result c.point.ensures (sym c.in_default.is ∙ c.in_ok-point.ensures.skip ∙ same) c.execute.new.meter c.execute.new.space c.execute.ensures.leaves
-    c.in-Some-2.report c.steps.skips refl c.block-block.ensures.bouquet.costing (plans-of-bouquet b c.block-block.ensures.bouquet) (subst Tells c.in-Some-2.is c.in_ok-report.ensures.tells)
+    c.point.result c.point.ensures (sym c.in_default.is ∙ c.in_ok-point.ensures.skip ∙ same) c.steps.invariant.keeps c.execute.new.engine c.execute.ensures.keeps
+    c.in-Some-2.report c.steps.skips refl c.block-block.ensures.bouquet.costing (plans-of-bouquet b c.block-block.ensures.bouquet)
+    (subst (TellsOk old c.execute.new.engine c.steps.runs step) c.in-Some-2.is c.in_ok-report.ensures.tells)
 
 pub steps-preserved : goal.steps-preserved
 steps-preserved c =
-    let bouquet = bouquet_tree c.args.b.now in
-    let block = block_tree c.args.block.now in
+    let old = c.steps.engine in
     let step = c.attempt-step.result in
-    let old : RunState = record { schedule = schedule_of ladder_of c.steps.schedule; meter = c.steps.meter; space = c.steps.space; runs = c.steps.runs } in
     let same = ap (λ (one : BouquetShape). step_skip (bouquet_tree one) step c.point.result step.budget) c.steps.invariant.frontiers in
-    let Tells : Option Report → Type 0 = λ (told : Option Report).
-    TellsStep old.meter.database block c.args.max_work (coming c.args.max_work old.meter.account.spent (old.runs + 1) (works_over old.meter.database block (plan_tree step.plan.now)) (attempt_tree step))
-    c.execute.new.meter.account.spent c.execute.new.space.result.rows (Ok told) in
     let lesson = c.learn.new.self in
     let ruled = subst (λ (shape : CostingShape). IfSome step.budget (λ budget. RulesOut (costing_tree shape) (plan_tree step.plan.now) budget c.steps.lesson.least lesson.least)) c.costing-costing.ensures c.learn.ensures.levels in
     let of_grid = subst (λ (shape : CostingShape). IfSome lesson.least (IsPoint shape.grid)) c.costing-costing.ensures c.learn.ensures.of_grid in
     record {
-      learning = learning-on bouquet block c.args.max_work c.args.meter.now c.args.space.now old c.steps.skips.items c.steps.lesson (schedule_of ladder_of c.next.new.self) step
+      learning = learning-on (bouquet_tree c.args.b.now) c.args.engine.now old (schedule_of ladder_of c.steps.schedule) (schedule_of ladder_of c.next.new.self) c.steps.runs c.steps.skips.items c.steps.lesson step
           c.steps.invariant.learning c.in_ok-next.ensures.goes_on c.attempt-step.ensures.step c.attempt-step.ensures.place c.attempt-step.ensures.cost
-          c.point.result c.point.ensures (sym c.in_default.is ∙ c.in_ok-point.ensures.skip ∙ same) c.execute.new.meter c.execute.new.space c.execute.ensures.leaves
-          lesson c.block-block.ensures.bouquet.costing.grid c.learn.ensures.some ruled of_grid (subst Tells c.in_default-2.is c.in_ok-report.ensures.tells);
+          c.point.result c.point.ensures (sym c.in_default.is ∙ c.in_ok-point.ensures.skip ∙ same) c.steps.invariant.keeps c.execute.new.engine c.execute.ensures.keeps
+          lesson c.block-block.ensures.bouquet.costing.grid c.learn.ensures.some ruled of_grid (subst (TellsOk old c.execute.new.engine c.steps.runs step) c.in_default-2.is c.in_ok-report.ensures.tells);
       frontiers = c.in_ok-point.ensures.same ∙ c.steps.invariant.frontiers;
-      known = subst (λ (database : DatabaseState). AreKnown database.tables block c.execute.new.known) c.steps.invariant.learning.running.leaves.database c.execute.ensures.known;
+      keeps = keeps-on c.args.engine.now old c.execute.new.engine c.steps.invariant.keeps c.execute.ensures.keeps;
     }
