@@ -8,6 +8,7 @@
 
 mod bare;
 mod corners;
+mod cover;
 mod frontiers;
 mod learned;
 mod lesson;

@@ -11,6 +11,7 @@ ghost use Rattle.cost_model.specs.Greedy.{covers_at};
 ghost use Rattle.cost_model.specs.Optimal.{optimal_cost};
 ghost use Rattle.learned_run.specs.Skips.{covers_above, is_at_or_below};
 
+use crate::cover::cost_covers;
 use crate::optima::optimal_at;
 use cost_model::Costing;
 use ess_grid::{Point, below};
@@ -29,8 +30,7 @@ fn covers_at(costing: &Costing<'_>, costs: &[u128], threshold: u32, p: &Plan, po
     ensures { result ≡ covers_at (costing_tree costing.now) threshold (plan_tree p.now) point.now }
 {
     let cost = costing.cost(p, point);
-    let limit = u128::from(100 + threshold) * optimal_at(costing, costs, point);
-    100 * cost <= limit
+    cost_covers(threshold, cost, optimal_at(costing, costs, point))
 }
 
 /// Whether a plan is found to cover one of some points at or above this one: of each few points the last is looked at, from the

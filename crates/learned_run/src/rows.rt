@@ -1,5 +1,6 @@
 // Which plans of a contour cover which points of its frontier: a row for each point, worked out when it is first looked at.
-ghost use Rattle.std.specs.Prelude.{◌≡◌, ◌*◌, ◌<◌, ◌&&◌, All, IfOk, Some, length, map, nat_le};
+ghost use Rattle.std.specs.Prelude.{◌≡◌, ◌+◌, ◌*◌, ◌<◌, ◌≤◌, ◌&&◌, All, IfOk, Some, length, map, nat_le};
+ghost use Rattle.sql_values.specs.Limits.{cost_bound, max_threshold};
 ghost use Rattle.cost_model.specs.Costing.{costing_tree};
 ghost use Rattle.cost_model.specs.Costs.{cost_of};
 ghost use Rattle.cost_model.specs.Greedy.{covers_at};
@@ -7,6 +8,7 @@ ghost use Rattle.plan_space.specs.Parts.{nth_plan};
 ghost use Rattle.learned_run.specs.Skips.{covers_above, is_at_or_below};
 ghost use Rattle.learned_run.specs.Covering.{AreTriedPlans, IsRowOfPlans, KeepsPlans, covers_point};
 
+use crate::cover::cost_covers;
 use ess_grid::{Point, below};
 use plan_space::CostedPlans;
 use std::alloc::{AllocError, Global};
@@ -33,21 +35,19 @@ pub(crate) struct TriedPlans<'c> {
     pub(crate) threshold: u32,
 }
 
-// Which plans, costed at a point, cost at most this there, a hundredfold. An error is want of memory.
-fn tests(
-    alloc: Global,
-    plans: &TriedPlans<'_>,
-    point: &Point,
-    limit: u128,
-) -> Result<Vec<bool>, AllocError>
+// Which plans, costed at the point of a row, cover it. An error is want of memory.
+fn tests(alloc: Global, plans: &TriedPlans<'_>, row: &FrontierRow) -> Result<Vec<bool>, AllocError>
     requires count { plans.now.count ≡ length plans.now.all.plans }
-    requires costed { plans.now.all.point ≡ Some point.now }
+    requires threshold { plans.now.threshold ≤ max_threshold }
+    requires costed { plans.now.all.point ≡ Some row.now.point }
+    requires cost { row.now.cost ≤ cost_bound }
     ensures { IfOk result (λ tests. tests.items ≡ map (λ p. nat_le
-        (100 * cost_of (costing_tree plans.now.all.costing) p point.now) limit) plans.now.all.plans) }
+        (100 * cost_of (costing_tree plans.now.all.costing) p row.now.point)
+        ((100 + plans.now.threshold) * row.now.cost)) plans.now.all.plans) }
 {
     let mut tests = Vec::with_capacity(alloc, plans.count)?;
     for place in 0..plans.count {
-        tests.push(100 * plans.all.cost(place) <= limit)?;
+        tests.push(cost_covers(plans.threshold, plans.all.cost(place), row.cost))?;
     }
     Ok(tests)
 }
@@ -65,8 +65,7 @@ fn tests_at(
         (costing_tree plans.old.all.costing) plans.old.threshold p row.now.point) plans.old.all.plans) }
 {
     plans.all.cost_at(&row.point);
-    let limit = u128::from(100 + plans.threshold) * row.cost;
-    tests(alloc, plans, &row.point, limit)
+    tests(alloc, plans, row)
 }
 
 // Whether the plan at this place covers the point of a row. Where that isn't worked out yet, it is, for each plan. An error is
