@@ -1,6 +1,6 @@
 -- What holds between two steps of a run that learns.
 use Rattle.std.proofs.Common.{◌≡◌, ◌∙◌, inl, inr, ℕ, ◌+◌, ◌-◌, ◌<◌, ◌≤◌, ◌++◌, List, [], ◌∷◌, length, refl, ap, ap₂, sym, subst, arith, append_assoc}
-use Rattle.std.specs.Prelude.{All, Bool, Vec, true, false, Option, Some, None, IfSome, IsSomeAnd, IsErrAnd, MatchResult, Result, Ok, Err, is_some, nat_le, if◌then◌else◌}
+use Rattle.std.specs.Prelude.{All, Bool, Vec, true, false, Option, Some, None, IfSome, IsSomeAnd, Result, Ok, Err, is_some, nat_le, if◌then◌else◌}
 use Rattle.std.specs.declared.alloc.Global.{Global}
 use Rattle.std.proofs.lemmas.Bool.{cases_Bool}
 use Rattle.std.proofs.lemmas.List.{append-nil}
@@ -335,8 +335,3 @@ module _ (bouquet : BouquetTree) (first old : Engine) (now next : ScheduleState)
             exist = is.exist;
             members = subst (All (IsMemberOf bouquet)) (sym takes.left) so.members;
           }
-
--- why a run is refused is handed on
-pub refused-told : (Answers : Report → Type 0) (Refuses : RunFault → Type 0) (told : Result Report RunFault) (fault : RunFault) → IsErrAnd told (λ one. one ≡ fault) → Refuses fault → MatchResult told Answers Refuses
-refused-told Answers Refuses (Ok report) fault is refused = absurd is
-refused-told Answers Refuses (Err one) fault is refused = subst Refuses (sym is) refused

@@ -77,10 +77,11 @@ fn execute_unskipped(
             continue;
         }
         runs += 1;
-        if let Some(report) = execute(alloc, engine, step, runs)? {
-            return Ok(report);
+        match execute(alloc, engine, step, runs) {
+            Ok(Some(report)) => return Ok(report),
+            Ok(None) => lesson.learn(&costing, costs, step),
+            Err(fault) => return Err(fault),
         }
-        lesson.learn(&costing, costs, step);
     }
 }
 

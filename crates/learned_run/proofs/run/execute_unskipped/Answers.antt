@@ -1,6 +1,5 @@
 use Rattle.std.proofs.Common.{rules, ◌∙◌, List, [], refl, ap, sym, subst, arith}
-use Rattle.std.specs.Prelude.{Ok, Err, IfSome}
-use Rattle.query_block.specs.Blocks.{block_tree}
+use Rattle.std.specs.Prelude.{IfSome}
 use Rattle.plan_tree.specs.Plans.{plan_tree}
 use Rattle.plan_tree.specs.Enumerated.{IsPlan}
 use Rattle.ess_grid.specs.Points.{IsPoint}
@@ -12,11 +11,10 @@ use Rattle.bouquet_type.specs.Cursor.{IsWholeSchedule, attempt_tree, members_lef
 use Rattle.bouquet_type.proofs.Meets.{plans-of-bouquet}
 use Rattle.bouquet_run.proofs.Stepping.{keeps-on, may-execute}
 use Rattle.learned_run.specs.declared.learned.Skip.{Skip}
-use Rattle.learned_run.specs.Outcomes.{AnswersLearned}
 use Rattle.learned_run.specs.Raising.{IsLearned, RulesOut}
 use Rattle.learned_run.specs.Skips.{learned_end}
 use Rattle.learned_run.specs.Covering.{IsStepOf, step_skip}
-use Rattle.learned_run.proofs.Between.{IsLearning, TellsOk, due_among, learning-answered, learning-begun, learning-on, learning-refused, learning-skipped, place-few, refused-told, step-of, works_of}
+use Rattle.learned_run.proofs.Between.{IsLearning, TellsOk, due_among, learning-answered, learning-begun, learning-on, learning-refused, learning-skipped, place-few, step-of, works_of}
 use Rattle.learned_run.proofs.run.execute_unskipped.Goals as goal
 
 pub steps-init : goal.steps-init
@@ -79,25 +77,16 @@ execute-requires c =
     may-execute bouquet (learned_end bouquet (works_of first)) first old old (due_among bouquet is.exhausted (members_left now)) now (schedule_of ladder_of c.next.new.self) c.steps.runs (attempt_tree step)
     is.running c.steps.invariant.keeps c.in_ok-next.ensures.goes_on c.attempt-step.ensures.step step.plan.now c.requires.block c.attempt-step.ensures.plan c.requires.context.work
 
-pub returns-in_err-report-clause-answers : goal.returns-in_err-report-clause-answers
-returns-in_err-report-clause-answers c =
-    let bouquet = bouquet_tree c.args.b.now in
-    let first = c.args.engine.now in
-    let block = block_tree first.block.now in
-    let new = c.execute.new.engine in
+pub returns-in-Err-clause-answers : goal.returns-in-Err-clause-answers
+returns-in-Err-clause-answers c =
     let step = c.attempt-step.result in
     let same = ap (λ (one : BouquetShape). step_skip (bouquet_tree one) step c.point.result step.budget) c.steps.invariant.frontiers in
-    let paid = new.meter.now.account.spent in
-    let results = new.space.now.result.rows in
-    let fault = c.in_err-report.field-0.0 in
-    let refused = learning-refused bouquet first c.steps.engine (schedule_of ladder_of c.steps.schedule) (schedule_of ladder_of c.next.new.self) c.steps.runs c.steps.skips.items c.steps.lesson step
+    learning-refused (bouquet_tree c.args.b.now) c.args.engine.now c.steps.engine (schedule_of ladder_of c.steps.schedule) (schedule_of ladder_of c.next.new.self) c.steps.runs c.steps.skips.items c.steps.lesson step
     c.steps.invariant.learning c.in_ok-next.ensures.goes_on c.attempt-step.ensures.step c.attempt-step.ensures.place c.attempt-step.ensures.cost
-    c.point.result c.point.ensures (sym c.in_default.is ∙ c.in_ok-point.ensures.skip ∙ same) c.steps.invariant.keeps new c.execute.ensures.keeps fault c.in_err-report.ensures.tells in
-    refused-told (λ report. AnswersLearned bouquet block first.meter.now.database first.max_work paid results (Ok (record { report = report; skips = c.steps.skips })))
-    (λ one. AnswersLearned bouquet block first.meter.now.database first.max_work paid results (Err one)) c.from_residual-in_err-report.result fault c.from_residual-in_err-report.ensures.1 refused
+    c.point.result c.point.ensures (sym c.in_default.is ∙ c.in_ok-point.ensures.skip ∙ same) c.steps.invariant.keeps c.execute.new.engine c.execute.ensures.keeps c.in-Err.fault c.in-Err.ensures.tells
 
-pub returns-in-Some-2-clause-answers : goal.returns-in-Some-2-clause-answers
-returns-in-Some-2-clause-answers c =
+pub returns-in-Ok-Some-clause-answers : goal.returns-in-Ok-Some-clause-answers
+returns-in-Ok-Some-clause-answers c =
     let b = c.args.b.now in
     let old = c.steps.engine in
     let step = c.attempt-step.result in
@@ -105,8 +94,8 @@ returns-in-Some-2-clause-answers c =
     learning-answered (bouquet_tree b) c.args.engine.now old (schedule_of ladder_of c.steps.schedule) (schedule_of ladder_of c.next.new.self) c.steps.runs c.steps.skips.items c.steps.lesson step
     c.steps.invariant.learning c.in_ok-next.ensures.goes_on c.attempt-step.ensures.step c.attempt-step.ensures.place c.attempt-step.ensures.cost
     c.point.result c.point.ensures (sym c.in_default.is ∙ c.in_ok-point.ensures.skip ∙ same) c.steps.invariant.keeps c.execute.new.engine c.execute.ensures.keeps
-    c.in-Some-2.report c.steps.skips refl c.block-block.ensures.bouquet.costing (plans-of-bouquet b c.block-block.ensures.bouquet)
-    (subst (TellsOk old c.execute.new.engine c.steps.runs step) c.in-Some-2.is c.in_ok-report.ensures.tells)
+    c.in-Ok-Some.report c.steps.skips refl c.block-block.ensures.bouquet.costing (plans-of-bouquet b c.block-block.ensures.bouquet)
+    (subst (TellsOk old c.execute.new.engine c.steps.runs step) c.in-Ok-Some.field-0-is c.in-Ok-Some.ensures.tells)
 
 pub steps-preserved : goal.steps-preserved
 steps-preserved c =
@@ -120,7 +109,7 @@ steps-preserved c =
       learning = learning-on (bouquet_tree c.args.b.now) c.args.engine.now old (schedule_of ladder_of c.steps.schedule) (schedule_of ladder_of c.next.new.self) c.steps.runs c.steps.skips.items c.steps.lesson step
           c.steps.invariant.learning c.in_ok-next.ensures.goes_on c.attempt-step.ensures.step c.attempt-step.ensures.place c.attempt-step.ensures.cost
           c.point.result c.point.ensures (sym c.in_default.is ∙ c.in_ok-point.ensures.skip ∙ same) c.steps.invariant.keeps c.execute.new.engine c.execute.ensures.keeps
-          lesson c.block-block.ensures.bouquet.costing.grid c.learn.ensures.some ruled of_grid (subst (TellsOk old c.execute.new.engine c.steps.runs step) c.in_default-2.is c.in_ok-report.ensures.tells);
+          lesson c.block-block.ensures.bouquet.costing.grid c.learn.ensures.some ruled of_grid (subst (TellsOk old c.execute.new.engine c.steps.runs step) c.in-Ok-None.field-0-is c.in-Ok-None.ensures.tells);
       frontiers = c.in_ok-point.ensures.same ∙ c.steps.invariant.frontiers;
       keeps = keeps-on c.args.engine.now old c.execute.new.engine c.steps.invariant.keeps c.execute.ensures.keeps;
     }
