@@ -1,18 +1,21 @@
 -- What lies between two executions of a run, and what comes of an execution.
 use Rattle.std.specs.Prelude.{◌≡◌, ℕ, ◌+◌, ◌≤◌, ◌^◌, List, [], length, Option, None, Some, Result, Ok, Err}
 use Rattle.row_stack.specs.declared.space.Space.{Space}
-use Rattle.query_block.specs.Blocks.{BlockTree}
+use Rattle.query_block.specs.Blocks.{BlockTree, block_tree}
 use Rattle.plan_tree.specs.Plans.{PlanTree}
 use Rattle.db_catalog.specs.Meter.{MeterState}
 use Rattle.exec_pipe.specs.Executions.{AreRowsOf}
 use Rattle.exec_pipe.specs.declared.engine.Engine.{Engine}
 use Rattle.exec_pipe.specs.Runs.{OnlyRuns}
+use Rattle.exec_pipe.specs.Starting.{plan_work}
 use Rattle.bouquet_type.specs.Trees.{BouquetTree}
 use Rattle.bouquet_type.specs.Schedule.{Member, final_plan}
-use Rattle.bouquet_type.specs.Cursor.{ScheduleState, IsSchedule, members_behind, members_left}
+use Rattle.bouquet_type.specs.Cursor.{ScheduleState, IsSchedule, attempt_tree, members_behind, members_left}
+use Rattle.bouquet_type.specs.declared.schedule.Attempt.{Attempt}
 use Rattle.bouquet_type.specs.Runs.{RunEnd, end_behind, end_of}
 use Rattle.bouquet_type.specs.declared.report.Report.{Report}
 use Rattle.bouquet_type.specs.declared.report.RunFault.{RunFault}
+use Rattle.bouquet_run.specs.Coming.{TellsStep, coming}
 use Rattle.bouquet_run.specs.Outcomes.{ReportsRun, RefusesRun, works_over}
 
 -- the end of a run of which these executions are due, where so many before spent so much
@@ -29,6 +32,13 @@ pub record RunState : Type 0 where
 -- that of a run over an engine
 abbrev pub run_state : ScheduleState → Engine → (runs : ℕ) → RunState
 run_state schedule engine runs = record { schedule = schedule; meter = engine.meter.now; space = engine.space.now; runs = runs }
+
+-- an execution of this number, from 1, over an engine tells what comes of it
+abbrev pub TellsExecution : (old new : Engine) → (runs : ℕ) → Attempt → Result (Option Report) RunFault → Type 0
+TellsExecution old new runs attempt told =
+    TellsStep old.meter.now.database (block_tree old.block.now) old.max_work
+    (coming old.max_work old.meter.now.account.spent runs (plan_work old.meter.now old.block.now attempt.plan.now) (attempt_tree attempt))
+    new.meter.now.account.spent new.space.now.result.rows told
 
 -- a run that ends so began with this meter and these stacks, and these executions are due: those before weren't done and spent
 -- what the meter says, and no row stands on the stacks

@@ -1,12 +1,10 @@
 // The step. It relies on the execution for rows and work; what it adds is what is told of it.
 ghost use Rattle.std.specs.Prelude.{◌≡◌};
-ghost use Rattle.query_block.specs.Blocks.{block_tree};
 ghost use Rattle.plan_tree.specs.Plans.{plan_tree};
 ghost use Rattle.exec_pipe.specs.Engines.{KeepsEngine, MayExecute, engine_of};
 ghost use Rattle.exec_pipe.specs.Runs.{OnlyRuns};
-ghost use Rattle.exec_pipe.specs.Starting.{plan_work};
-ghost use Rattle.bouquet_type.specs.Cursor.{attempt_tree};
-ghost use Rattle.bouquet_run.specs.Coming.{TellsEnd, TellsStep, coming};
+ghost use Rattle.bouquet_run.specs.Coming.{TellsEnd};
+ghost use Rattle.bouquet_run.specs.Running.{TellsExecution};
 
 use bouquet_type::{Attempt, Report, RunFault};
 use db_catalog::Metered;
@@ -67,11 +65,7 @@ pub fn execute(
     runs: u32,
 ) -> Result<Option<Report>, RunFault>
     requires { MayExecute (engine_of engine.old) attempt.plan.now }
-    ensures tells { TellsStep engine.old.meter.now.database (block_tree engine.old.block.now) engine.old.max_work
-        (coming engine.old.max_work engine.old.meter.now.account.spent runs
-        (plan_work engine.old.meter.now engine.old.block.now attempt.entry.plan.now)
-        (attempt_tree attempt.entry))
-        engine.new.meter.now.account.spent engine.new.space.now.result.rows result }
+    ensures tells { TellsExecution engine.old engine.new runs attempt.entry result }
     ensures keeps { KeepsEngine engine.old engine.new }
 {
     match engine.execute(alloc, attempt.plan, attempt.budget) {

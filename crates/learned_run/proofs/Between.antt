@@ -27,7 +27,7 @@ use Rattle.bouquet_type.specs.Skipping.{without_skipped}
 use Rattle.bouquet_type.specs.declared.schedule.Attempt.{Attempt}
 use Rattle.bouquet_type.specs.declared.report.Report.{Report}
 use Rattle.bouquet_type.specs.declared.report.RunFault.{RunFault}
-use Rattle.bouquet_run.specs.Coming.{TellsStep, coming, is_done}
+use Rattle.bouquet_run.specs.Coming.{is_done}
 use Rattle.bouquet_run.specs.Outcomes.{works_over}
 use Rattle.bouquet_run.specs.Running.{IsRunning, Steps, run_from, run_state}
 use Rattle.bouquet_run.proofs.Stepping.{EngineTells, begun, engine-steps, engine-tells}
@@ -53,12 +53,6 @@ skips_due bouquet work exhausted left = skips_among bouquet.costing bouquet.thre
 -- what each plan works in a run that began with this engine
 abbrev pub works_of : Engine → PlanTree → ℕ
 works_of first = works_over first.meter.now.database (block_tree first.block.now)
-
--- what an execution tells that stopped or ended well, between two engines
-abbrev pub TellsOk : (old new : Engine) → (runs : ℕ) → Attempt → Option Report → Type 0
-TellsOk old new runs step told =
-    TellsStep old.meter.now.database (block_tree old.block.now) old.max_work (coming old.max_work old.meter.now.account.spent (runs + 1) (works_of old (plan_tree step.plan.now)) (attempt_tree step))
-    new.meter.now.account.spent new.space.now.result.rows (Ok told)
 
 -- a run of a bouquet that began with one engine learns: its executions were exhausted, these were skipped, and this lesson was
 -- drawn of them

@@ -1,5 +1,5 @@
-use Rattle.std.proofs.Common.{rules, ◌∙◌, List, [], refl, ap, sym, subst, arith}
-use Rattle.std.specs.Prelude.{IfSome}
+use Rattle.std.proofs.Common.{rules, ◌∙◌, ◌+◌, List, [], refl, ap, sym, subst, arith}
+use Rattle.std.specs.Prelude.{IfSome, Ok, Option}
 use Rattle.plan_tree.specs.Plans.{plan_tree}
 use Rattle.plan_tree.specs.Enumerated.{IsPlan}
 use Rattle.ess_grid.specs.Points.{IsPoint}
@@ -9,12 +9,14 @@ use Rattle.bouquet_type.specs.Trees.{BouquetTree, bouquet_tree}
 use Rattle.bouquet_type.specs.Kept.{ladder_of}
 use Rattle.bouquet_type.specs.Cursor.{IsWholeSchedule, attempt_tree, members_left, schedule_of}
 use Rattle.bouquet_type.proofs.Meets.{plans-of-bouquet}
+use Rattle.bouquet_type.specs.declared.report.Report.{Report}
+use Rattle.bouquet_run.specs.Running.{TellsExecution}
 use Rattle.bouquet_run.proofs.Stepping.{keeps-on, may-execute}
 use Rattle.learned_run.specs.declared.learned.Skip.{Skip}
 use Rattle.learned_run.specs.Raising.{IsLearned, RulesOut}
 use Rattle.learned_run.specs.Skips.{learned_end}
 use Rattle.learned_run.specs.Covering.{IsStepOf, step_skip}
-use Rattle.learned_run.proofs.Between.{IsLearning, TellsOk, due_among, learning-answered, learning-begun, learning-on, learning-refused, learning-skipped, place-few, step-of, works_of}
+use Rattle.learned_run.proofs.Between.{IsLearning, due_among, learning-answered, learning-begun, learning-on, learning-refused, learning-skipped, place-few, step-of, works_of}
 use Rattle.learned_run.proofs.run.execute_unskipped.Goals as goal
 
 pub steps-init : goal.steps-init
@@ -95,7 +97,7 @@ returns-in-Ok-Some-clause-answers c =
     c.steps.invariant.learning c.in_ok-next.ensures.goes_on c.attempt-step.ensures.step c.attempt-step.ensures.place c.attempt-step.ensures.cost
     c.point.result c.point.ensures (sym c.in_default.is ∙ c.in_ok-point.ensures.skip ∙ same) c.steps.invariant.keeps c.execute.new.engine c.execute.ensures.keeps
     c.in-Ok-Some.report c.steps.skips refl c.block-block.ensures.bouquet.costing (plans-of-bouquet b c.block-block.ensures.bouquet)
-    (subst (TellsOk old c.execute.new.engine c.steps.runs step) c.in-Ok-Some.field-0-is c.in-Ok-Some.ensures.tells)
+    (subst (λ (told : Option Report). TellsExecution old c.execute.new.engine (c.steps.runs + 1) step (Ok told)) c.in-Ok-Some.field-0-is c.in-Ok-Some.ensures.tells)
 
 pub steps-preserved : goal.steps-preserved
 steps-preserved c =
@@ -109,7 +111,7 @@ steps-preserved c =
       learning = learning-on (bouquet_tree c.args.b.now) c.args.engine.now old (schedule_of ladder_of c.steps.schedule) (schedule_of ladder_of c.next.new.self) c.steps.runs c.steps.skips.items c.steps.lesson step
           c.steps.invariant.learning c.in_ok-next.ensures.goes_on c.attempt-step.ensures.step c.attempt-step.ensures.place c.attempt-step.ensures.cost
           c.point.result c.point.ensures (sym c.in_default.is ∙ c.in_ok-point.ensures.skip ∙ same) c.steps.invariant.keeps c.execute.new.engine c.execute.ensures.keeps
-          lesson c.block-block.ensures.bouquet.costing.grid c.learn.ensures.some ruled of_grid (subst (TellsOk old c.execute.new.engine c.steps.runs step) c.in-Ok-None.field-0-is c.in-Ok-None.ensures.tells);
+          lesson c.block-block.ensures.bouquet.costing.grid c.learn.ensures.some ruled of_grid (subst (λ (told : Option Report). TellsExecution old c.execute.new.engine (c.steps.runs + 1) step (Ok told)) c.in-Ok-None.field-0-is c.in-Ok-None.ensures.tells);
       frontiers = c.in_ok-point.ensures.same ∙ c.steps.invariant.frontiers;
       keeps = keeps-on c.args.engine.now old c.execute.new.engine c.steps.invariant.keeps c.execute.ensures.keeps;
     }
