@@ -1,9 +1,24 @@
--- A well-formed condition has at least one predicate, and no more conjuncts than predicates.
-use Rattle.std.proofs.Common.{◌≤◌, length, length-append, arith}
+-- How many predicates a condition has. If it is well-formed, it has at least one, and no more conjuncts than predicates.
+use Rattle.std.proofs.Common.{◌≡◌, ◌≤◌, refl, length, length-append, arith}
+use Rattle.sql_bind.specs.Predicates.{predicates, predicates_of_all}
 use Rattle.sql_parse.specs.Trees.{ConditionTree, ConditionTrees, Compare, Between, OneOf, IsNull, Not, And, Or, NoMore, More}
 use Rattle.sql_parse.specs.Counts.{predicates_in, predicates_in_all}
 use Rattle.sql_parse.specs.WellFormed.{HasOperand, IsWellFormedCondition, AreWellFormedConditions}
 use Rattle.sql_bind.specs.Conjuncts.{conjuncts, conjuncts_of_all}
+
+mutual
+  pub predicates-count : (tree : ConditionTree) → length (predicates tree) ≡ predicates_in tree
+  predicates-count (Compare op left right) = refl
+  predicates-count (Between negated of low high) = refl
+  predicates-count (OneOf negated of terms) = refl
+  predicates-count (IsNull negated column) = refl
+  predicates-count (Not inner) = predicates-count inner
+  predicates-count (And parts) = predicates-count_all parts
+  predicates-count (Or parts) = predicates-count_all parts
+
+  predicates-count_all : (parts : ConditionTrees) → length (predicates_of_all parts) ≡ predicates_in_all parts
+  predicates-count_all NoMore = refl
+  predicates-count_all (More part parts) = omega (arith, length-append (predicates part) (predicates_of_all parts), predicates-count part, predicates-count_all parts)
 
 mutual
   predicates-some : (tree : ConditionTree) → IsWellFormedCondition tree → 1 ≤ predicates_in tree

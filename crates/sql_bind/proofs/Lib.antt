@@ -1,5 +1,7 @@
 pub mod Found
 pub mod Faults
+pub mod Walked
+pub mod Bounds
 pub mod Tables
 pub mod Chains
 pub mod Joined

@@ -5,7 +5,7 @@ use Rattle.std.proofs.lemmas.List.Sums.{sum_by-cons}
 use Rattle.query_block.specs.Conditions.{FilterTree}
 use Rattle.query_block.specs.Parameters.{is_open}
 use Rattle.query_block.specs.Blocks.{has_parameter}
-use Rattle.sql_parse.specs.Trees.{ConditionTree}
+use Rattle.sql_bind.specs.Conjuncts.{Conjunct}
 use Rattle.sql_bind.specs.Named.{NamedTable}
 use Rattle.sql_bind.specs.Binding.{relation_with, relations_from, filter_of}
 use Rattle.sql_bind.specs.Collected.{more_filters, with_filters}
@@ -23,19 +23,19 @@ with_filters-push (first ∷ tables) (one ∷ filters) filter table below is =
     ap (λ more. relation_with first one ∷ more) (with_filters-push tables filters filter table (omega (arith, below)) is)
 
 -- with what all conjuncts add to no filter, they are those of the block
-pub relations-of_parts : (tables : List NamedTable) (parts : List ConditionTree) (relation : ℕ) (rest : List NamedTable)
-    → with_filters rest (more_filters tables parts relation (replicate (length rest) [])) ≡ relations_from tables parts relation rest
-relations-of_parts tables parts relation [] = refl
-relations-of_parts tables parts relation (table ∷ rest) =
-    ap (λ more. relation_with table (filter_of tables parts relation) ∷ more) (relations-of_parts tables parts (relation + 1) rest)
+pub relations-of_parts : (conjuncts : List Conjunct) (relation : ℕ) (tables : List NamedTable)
+    → with_filters tables (more_filters conjuncts relation (replicate (length tables) [])) ≡ relations_from conjuncts relation tables
+relations-of_parts conjuncts relation [] = refl
+relations-of_parts conjuncts relation (table ∷ tables) =
+    ap (λ more. relation_with table (filter_of conjuncts relation) ∷ more) (relations-of_parts conjuncts (relation + 1) tables)
 
 -- how many of them have a parameter
-pub open-count : (tables : List NamedTable) (parts : List ConditionTree) (relation : ℕ) (rest : List NamedTable)
-    → count_by (list_any is_open) (more_filters tables parts relation (replicate (length rest) [])) ≡ count_by has_parameter (relations_from tables parts relation rest)
-open-count tables parts relation [] = refl
-open-count tables parts relation (table ∷ rest) =
+pub open-count : (conjuncts : List Conjunct) (relation : ℕ) (tables : List NamedTable)
+    → count_by (list_any is_open) (more_filters conjuncts relation (replicate (length tables) [])) ≡ count_by has_parameter (relations_from conjuncts relation tables)
+open-count conjuncts relation [] = refl
+open-count conjuncts relation (table ∷ tables) =
     let one : List FilterTree → ℕ = λ filter. cond (list_any is_open filter) 1 0 in
-    let filter = filter_of tables parts relation in
-    let more = more_filters tables parts (relation + 1) (replicate (length rest) []) in
-    sum_by-cons one filter more ∙ ap (λ n. one filter + n) (open-count tables parts (relation + 1) rest)
-    ∙ sym (sum_by-cons (λ some. one some.filter) (relation_with table filter) (relations_from tables parts (relation + 1) rest))
+    let filter = filter_of conjuncts relation in
+    let more = more_filters conjuncts (relation + 1) (replicate (length tables) []) in
+    sum_by-cons one filter more ∙ ap (λ n. one filter + n) (open-count conjuncts (relation + 1) tables)
+    ∙ sym (sum_by-cons (λ some. one some.filter) (relation_with table filter) (relations_from conjuncts (relation + 1) tables))

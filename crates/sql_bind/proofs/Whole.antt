@@ -24,18 +24,16 @@ use Rattle.sql_bind.specs.declared.binding.Asked.{Asked}
 use Rattle.sql_bind.specs.declared.conjuncts.Parts.{Parts}
 use Rattle.sql_bind.specs.declared.fault.BindFault.{BindFault}
 use Rattle.sql_bind.specs.Named.{NamedTable}
+use Rattle.sql_bind.specs.Conjuncts.{Conjunct}
 use Rattle.sql_bind.specs.Binding.{named_table, named_tables, table_fault, alias_fault, from_fault, relation_with, relations_from, filter_of, block_of, conjuncts_in, parameter_kinds, projection_of, edges_of, past_limit, projection_fault, condition_fault, bind_fault}
 use Rattle.sql_bind.specs.Collected.{HasParts, IsAsked, filter_trees, more_filters, with_filters, axes_with, where_fault}
+use Rattle.sql_bind.proofs.Faults.{neither}
 use Rattle.sql_bind.proofs.Collected.{trees-count}
 use Rattle.sql_bind.proofs.Relations.{relations-of_parts, open-count}
 
 -- checks of which none refuses
 pub none_of : (a b : Option BindFault) → a ≡ None → b ≡ None → option_or a b ≡ None
 none_of a b first second = ap (λ o. option_or o b) first ∙ second
-
-neither : (a b : Option BindFault) → option_or a b ≡ None → (a ≡ None) × (b ≡ None)
-neither None b none = (refl, none)
-neither (Some fault) b none = cc
 
 abbrev name_of : StoredTable → List ℕ
 name_of table = table.name
@@ -50,28 +48,28 @@ table-there database item none = by (table_number database item.table) refl none
         let names = map name_of database.tables in
         omega (arith, (position-Some (bytes_eq item.table) names number [] is).0, length-map database.tables name_of)
 
-tables-fit : (database : DatabaseState) (tables : List NamedTable) (parts : List ConditionTree) (relation : ℕ) (before : List (List ℕ)) (items : List Item) → from_fault database before items ≡ None
-    → All (FitsTable database) (relations_from tables parts relation (named_tables database items))
-tables-fit database tables parts relation before [] none = All-nil (FitsTable database)
-tables-fit database tables parts relation before (item ∷ items) none =
+tables-fit : (database : DatabaseState) (conjuncts : List Conjunct) (relation : ℕ) (before : List (List ℕ)) (items : List Item) → from_fault database before items ≡ None
+    → All (FitsTable database) (relations_from conjuncts relation (named_tables database items))
+tables-fit database conjuncts relation before [] none = All-nil (FitsTable database)
+tables-fit database conjuncts relation before (item ∷ items) none =
     let first = neither (table_fault item (table_number database item.table)) (option_or (alias_fault before item) (from_fault database (before ++ item.alias ∷ []) items)) none in
     let rest = neither (alias_fault before item) (from_fault database (before ++ item.alias ∷ []) items) first.1 in
     let table = named_table database item in
-    All-cons (FitsTable database) (relation_with table (filter_of tables parts relation)) (relations_from tables parts (relation + 1) (named_tables database items))
+    All-cons (FitsTable database) (relation_with table (filter_of conjuncts relation)) (relations_from conjuncts (relation + 1) (named_tables database items))
     (record { there = table-there database item first.0; columns = refl; indexes = All-contains_itself table.indexed })
-    (tables-fit database tables parts (relation + 1) (before ++ item.alias ∷ []) items rest.1)
+    (tables-fit database conjuncts (relation + 1) (before ++ item.alias ∷ []) items rest.1)
 
 pub block-fits : (database : DatabaseState) (query : QueryTree) → from_fault database [] query.from ≡ None → Fits database (block_of database query)
-block-fits database query none = tables-fit database (named_tables database query.from) (conjuncts_in query.condition) 0 [] query.from none
+block-fits database query none = tables-fit database (conjuncts_in (named_tables database query.from) query.condition) 0 [] query.from none
 
-filters-count : (tables : List NamedTable) (parts : List ConditionTree) (relation : ℕ) (filters : List (List FilterTree)) → length (more_filters tables parts relation filters) ≡ length filters
-filters-count tables parts relation [] = refl
-filters-count tables parts relation (filter ∷ filters) = omega (arith, filters-count tables parts (relation + 1) filters)
+filters-count : (conjuncts : List Conjunct) (relation : ℕ) (filters : List (List FilterTree)) → length (more_filters conjuncts relation filters) ≡ length filters
+filters-count conjuncts relation [] = refl
+filters-count conjuncts relation (filter ∷ filters) = omega (arith, filters-count conjuncts (relation + 1) filters)
 
 -- there is a filter for each table
-pub one_filter_each : (tables : List NamedTable) (conjuncts : List ConditionTree) (parts : Parts) → HasParts tables conjuncts parts → length parts.filters.items ≡ length tables
-one_filter_each tables conjuncts parts has =
-    sym (trees-count parts.filters.items) ∙ ap length has.filters ∙ filters-count tables conjuncts 0 (replicate (length tables) []) ∙ length-replicate (length tables) []
+pub one_filter_each : (relations : ℕ) (conjuncts : List Conjunct) (parts : Parts) → HasParts relations conjuncts parts → length parts.filters.items ≡ relations
+one_filter_each relations conjuncts parts has =
+    sym (trees-count parts.filters.items) ∙ ap length has.filters ∙ filters-count conjuncts 0 (replicate relations []) ∙ length-replicate relations []
 
 same_block : (relations other : List RelationTree) (edges edges' : List Edge) (projection projection' : List ColumnAt) (parameters parameters' : List Kind)
     → relations ≡ other → edges ≡ edges' → projection ≡ projection' → parameters ≡ parameters'
@@ -84,13 +82,14 @@ same_block relations other edges edges' projection projection' parameters parame
     ∙ ap (λ k. record { relations = other; edges = edges'; projection = projection'; parameters = k }) same_parameters
 
 -- of a condition that isn't refused, the parts tell how many axes it asks for
-pub axes-due : (tables : List NamedTable) (condition : Option ConditionTree) (parts : Parts) → condition_fault tables condition ≡ None → HasParts tables (conjuncts_in condition) parts
+pub axes-due : (tables : List NamedTable) (condition : Option ConditionTree) (parts : Parts) → condition_fault tables condition ≡ None
+    → HasParts (length tables) (conjuncts_in tables condition) parts
     → where_fault tables condition ≡ past_limit limit.Axes max_axes (length parts.edges.items + count_by (list_any is_open) (filter_trees parts.filters.items))
 axes-due tables condition parts none has =
-    let conjuncts = conjuncts_in condition in
-    let of_edges : length parts.edges.items ≡ length (edges_of tables conjuncts) = ap length has.edges in
-    let of_filters : count_by (list_any is_open) (filter_trees parts.filters.items) ≡ count_by has_parameter (relations_from tables conjuncts 0 tables) =
-    ap (count_by (list_any is_open)) has.filters ∙ open-count tables conjuncts 0 tables in
+    let conjuncts = conjuncts_in tables condition in
+    let of_edges : length parts.edges.items ≡ length (edges_of conjuncts) = ap length has.edges in
+    let of_filters : count_by (list_any is_open) (filter_trees parts.filters.items) ≡ count_by has_parameter (relations_from conjuncts 0 tables) =
+    ap (count_by (list_any is_open)) has.filters ∙ open-count conjuncts 0 tables in
     let same : axes_with tables conjuncts ≡ length parts.edges.items + count_by (list_any is_open) (filter_trees parts.filters.items) = omega (arith, of_edges, of_filters) in
     ap (λ fault. option_or fault (past_limit limit.Axes max_axes (axes_with tables conjuncts))) none ∙ ap (past_limit limit.Axes max_axes) same
 
@@ -101,11 +100,11 @@ pub whole : (database : DatabaseState) (query : QueryTree) (from : List Item) (t
     → from_fault database [] from ≡ None → projection_fault tables query.columns ≡ None → where_fault tables query.condition ≡ None
     → ((let block : BlockTree = record { relations = relations; edges = asked.parts.edges.items; projection = projection; parameters = asked.parameters.items } in block) ≡ block_of database query) × (bind_fault database query ≡ None)
 whole database query from tables asked relations projection items is has made named_are few from_none projection_none where_none =
-    let conjuncts = conjuncts_in query.condition in
+    let conjuncts = conjuncts_in tables query.condition in
     let named = is ∙ ap (named_tables database) items in
-    let blocks : List NamedTable → BlockTree = λ some. record { relations = relations_from some conjuncts 0 some; edges = edges_of some conjuncts; projection = projection_of some query.columns; parameters = parameter_kinds some query.condition } in (
-      same_block relations (relations_from tables conjuncts 0 tables) asked.parts.edges.items (edges_of tables conjuncts) projection (projection_of tables query.columns) asked.parameters.items (parameter_kinds tables query.condition)
-          (made ∙ ap (with_filters tables) has.parts.filters ∙ relations-of_parts tables conjuncts 0 tables) has.parts.edges named_are has.parameters
+    let blocks : List NamedTable → BlockTree = λ some. record { relations = relations_from (conjuncts_in some query.condition) 0 some; edges = edges_of (conjuncts_in some query.condition); projection = projection_of some query.columns; parameters = parameter_kinds some query.condition } in (
+      same_block relations (relations_from conjuncts 0 tables) asked.parts.edges.items (edges_of conjuncts) projection (projection_of tables query.columns) asked.parameters.items (parameter_kinds tables query.condition)
+          (made ∙ ap (with_filters tables) has.parts.filters ∙ relations-of_parts conjuncts 0 tables) has.parts.edges named_are has.parameters
           ∙ ap blocks named,
       none_of _ _ (ap (λ some. past_limit limit.Relations max_relations (length some)) (sym items) ∙ few)
           (none_of _ _ (ap (from_fault database []) (sym items) ∙ from_none)

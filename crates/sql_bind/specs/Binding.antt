@@ -1,5 +1,5 @@
 -- The block of a query, and what refuses it: the first check that fails, in this order.
-use Rattle.std.specs.Prelude.{ℕ, ◌+◌, Bool, nat_lt, List, [], ◌∷◌, ◌++◌, filter, length, map, Option, Some, None, if◌then◌else◌, unwrap_or}
+use Rattle.std.specs.Prelude.{ℕ, ◌+◌, nat_lt, List, [], ◌∷◌, ◌++◌, filter, length, map, Option, Some, None, if◌then◌else◌, unwrap_or}
 use Rattle.std.specs.List.{filter_map}
 use Rattle.std.specs.Option.{option_or}
 use Rattle.sql_values.specs.declared.limit.LimitName.{LimitName}
@@ -19,9 +19,9 @@ use Rattle.db_catalog.specs.Database.{DatabaseState, table_at, table_number}
 use Rattle.sql_bind.specs.declared.fault.BindFault.{BindFault}
 use Rattle.sql_bind.specs.declared.fault.BindFault.TheVariants.{UnknownTable, DuplicateAlias, Limit}
 use Rattle.sql_bind.specs.Named.{NamedTable}
-use Rattle.sql_bind.specs.Names.{place_of, written_columns_fault}
-use Rattle.sql_bind.specs.Predicates.{predicates_fault, condition_parameters}
-use Rattle.sql_bind.specs.Conjuncts.{conjuncts, reach_of, filtered, is_relation, edge_of, conjuncts_fault, bound_condition}
+use Rattle.sql_bind.specs.Names.{place_of, written_columns_fault, first_fault_from}
+use Rattle.sql_bind.specs.Predicates.{predicates, predicates_fault, parameters_of}
+use Rattle.sql_bind.specs.Conjuncts.{Conjunct, conjuncts, conjunct_of, is_filter_of, edge_in, conjunct_fault}
 
 -- a table of FROM, where the database has it
 abbrev pub named_table : DatabaseState → Item → NamedTable
@@ -64,27 +64,25 @@ projection_fault tables (Some columns) =
     option_or (past_limit limit.Projection max_projection (length columns)) (written_columns_fault tables columns)
 
 -- the conjuncts of WHERE; without WHERE there are none
-abbrev pub conjuncts_in : Option ConditionTree → List ConditionTree
-conjuncts_in None = []
-conjuncts_in (Some condition) = conjuncts condition
+abbrev pub conjuncts_in : List NamedTable → Option ConditionTree → List Conjunct
+conjuncts_in tables None = []
+conjuncts_in tables (Some condition) = map (conjunct_of tables) (conjuncts condition)
 
 -- the condition of WHERE: its predicates, then its conjuncts, each numbered from 1
 abbrev pub condition_fault : List NamedTable → Option ConditionTree → Option BindFault
 condition_fault tables None = None
 condition_fault tables (Some condition) =
-    option_or (predicates_fault tables 1 condition) (conjuncts_fault tables 1 condition)
+    option_or (predicates_fault tables 1 (predicates condition))
+    (first_fault_from conjunct_fault 1 (map (conjunct_of tables) (conjuncts condition)))
 
 -- the edges among conjuncts, in written order
-abbrev pub edges_of : List NamedTable → List ConditionTree → List Edge
-edges_of tables parts = filter_map (edge_of tables) parts
-
--- whether a conjunct is a filter of this relation
-abbrev pub is_filter_of : List NamedTable → ℕ → ConditionTree → Bool
-is_filter_of tables relation conjunct = is_relation relation (filtered (reach_of tables conjunct))
+abbrev pub edges_of : List Conjunct → List Edge
+edges_of conjuncts = filter_map (λ conjunct. edge_in conjunct.reach conjunct.equality) conjuncts
 
 -- the filter of a relation: its conjuncts, in written order
-abbrev pub filter_of : List NamedTable → List ConditionTree → ℕ → List FilterTree
-filter_of tables parts relation = map (bound_condition tables) (filter (is_filter_of tables relation) parts)
+abbrev pub filter_of : List Conjunct → (relation : ℕ) → List FilterTree
+filter_of conjuncts relation =
+    map (λ conjunct. conjunct.tree) (filter (λ conjunct. is_filter_of relation conjunct.reach) conjuncts)
 
 -- every column of a relation, of which the first has this number
 abbrev pub columns_from : (relation number : ℕ) → List ColumnDef → List ColumnAt
@@ -100,7 +98,7 @@ every_column relation (table ∷ tables) = columns_from relation 0 table.columns
 -- the columns that SELECT asks for: those named, or every column in order
 abbrev pub projection_of : List NamedTable → Option (List ColRef) → List ColumnAt
 projection_of tables None = every_column 0 tables
-projection_of tables (Some columns) = map (place_of tables) columns
+projection_of tables (Some columns) = filter_map (place_of tables) columns
 
 -- a table of FROM with its filter
 abbrev pub relation_with : NamedTable → List FilterTree → RelationTree
@@ -112,24 +110,24 @@ relation_with table filter = record {
 }
 
 -- the relations of a block, of which the first is this one
-abbrev pub relations_from : List NamedTable → List ConditionTree → (relation : ℕ) → List NamedTable → List RelationTree
-relations_from tables parts relation [] = []
-relations_from tables parts relation (table ∷ rest) =
-    relation_with table (filter_of tables parts relation) ∷ relations_from tables parts (relation + 1) rest
+abbrev pub relations_from : List Conjunct → (relation : ℕ) → List NamedTable → List RelationTree
+relations_from conjuncts relation [] = []
+relations_from conjuncts relation (table ∷ tables) =
+    relation_with table (filter_of conjuncts relation) ∷ relations_from conjuncts (relation + 1) tables
 
 -- the kinds of the parameters in WHERE, in written order
 abbrev pub parameter_kinds : List NamedTable → Option ConditionTree → List Kind
 parameter_kinds tables None = []
-parameter_kinds tables (Some condition) = condition_parameters tables condition
+parameter_kinds tables (Some condition) = parameters_of tables (predicates condition)
 
 -- the block of a query that nothing refuses
 abbrev pub block_of : DatabaseState → QueryTree → BlockTree
 block_of database query =
     let tables = named_tables database query.from in
-    let parts = conjuncts_in query.condition in
+    let conjuncts = conjuncts_in tables query.condition in
     record {
-      relations = relations_from tables parts 0 tables;
-      edges = edges_of tables parts;
+      relations = relations_from conjuncts 0 tables;
+      edges = edges_of conjuncts;
       projection = projection_of tables query.columns;
       parameters = parameter_kinds tables query.condition;
     }

@@ -1,6 +1,6 @@
 pub mod Named
 pub mod Names
-pub mod Kinds
+pub mod Located
 pub mod Predicates
 pub mod Conjuncts
 pub mod Binding

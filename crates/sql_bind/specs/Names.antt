@@ -29,9 +29,6 @@ places_from relation (table ∷ tables) written =
     (if may_name written.alias table then places_among relation 0 table.columns written.column else [])
     ++ places_from (relation + 1) tables written
 
-abbrev pub named_places : List NamedTable → ColRef → List ColumnAt
-named_places tables written = places_from 0 tables written
-
 abbrev pub dotted : Option (List ℕ) → List ℕ → List ℕ
 dotted None name = name
 dotted (Some alias) name = alias ++ 46 ∷ name
@@ -47,15 +44,16 @@ named_once written (place ∷ []) = None
 named_once written (place ∷ other ∷ more) = Some (Ambiguous written.column)
 
 abbrev pub written_column_fault : List NamedTable → ColRef → Option BindFault
-written_column_fault tables written = named_once written (named_places tables written)
+written_column_fault tables written = named_once written (places_from 0 tables written)
 
-abbrev pub first_place : List ColumnAt → ColumnAt
-first_place [] = record { relation = 0; column = 0 }
-first_place (place ∷ more) = place
+abbrev pub the_one : List ColumnAt → Option ColumnAt
+the_one [] = None
+the_one (place ∷ []) = Some place
+the_one (place ∷ other ∷ more) = None
 
--- the column that a written column names; where it names none, the first of all
-abbrev pub place_of : List NamedTable → ColRef → ColumnAt
-place_of tables written = first_place (named_places tables written)
+-- the column that a written column names, where it names exactly one
+abbrev pub place_of : List NamedTable → ColRef → Option ColumnAt
+place_of tables written = the_one (places_from 0 tables written)
 
 -- the first fault of a list, whose items are numbered from this number on
 abbrev pub first_fault_from : {A : Type 0} → (ℕ → A → Option BindFault) → ℕ → List A → Option BindFault

@@ -1,5 +1,5 @@
 -- The predicates of a condition, what refuses each, and the kinds of its parameters.
-use Rattle.std.specs.Prelude.{ℕ, List, [], ◌∷◌, ◌++◌, Option, Some, None, if◌then◌else◌, flat_map, map}
+use Rattle.std.specs.Prelude.{◌≡◌, ℕ, ◌+◌, length, List, [], ◌∷◌, ◌++◌, Option, Some, None, if◌then◌else◌, flat_map, map}
 use Rattle.std.specs.Option.{option_or}
 use Rattle.query_block.specs.declared.kind.Kind.{Kind}
 use Rattle.sql_parse.specs.declared.tree.Cond.{Cond}
@@ -10,7 +10,8 @@ use Rattle.sql_bind.specs.declared.fault.BindFault.{BindFault}
 use Rattle.sql_bind.specs.declared.fault.BindFault.TheVariants.{TypeMismatch}
 use Rattle.sql_bind.specs.Named.{NamedTable}
 use Rattle.sql_bind.specs.Names.{written_column_fault, first_fault_from}
-use Rattle.sql_bind.specs.Kinds.{is_same_kind, kind_of_term, kind_of_terms, parameters_among}
+use Rattle.sql_bind.specs.declared.walk.Walk.{Walk}
+use Rattle.sql_bind.specs.Located.{is_same_kind, kinds_of, first_kind, parameters_among}
 
 abbrev mutual
   -- each comparison, BETWEEN, IN and IS NULL of a condition, in written order
@@ -53,45 +54,40 @@ terms_fault tables [] = None
 terms_fault tables (term ∷ terms) = option_or (term_fault tables term) (terms_fault tables terms)
 
 -- an operand of a predicate of this kind, by its own: that is the same, or it is a parameter
-abbrev pub term_kind_fault : ℕ → Kind → Option Kind → Option BindFault
-term_kind_fault number kind None = None
-term_kind_fault number kind (Some own) = if is_same_kind kind own then None else Some (TypeMismatch number)
+abbrev pub own_fault : ℕ → Kind → Option Kind → Option BindFault
+own_fault number kind None = None
+own_fault number kind (Some own) = if is_same_kind kind own then None else Some (TypeMismatch number)
 
 -- operands of a predicate of this kind, from left to right
-abbrev pub term_kinds_fault : List NamedTable → ℕ → Kind → List Term → Option BindFault
-term_kinds_fault tables number kind [] = None
-term_kinds_fault tables number kind (term ∷ terms) =
-    option_or (term_kind_fault number kind (kind_of_term tables term)) (term_kinds_fault tables number kind terms)
+abbrev pub kinds_fault : ℕ → Kind → List (Option Kind) → Option BindFault
+kinds_fault number kind [] = None
+kinds_fault number kind (own ∷ kinds) = option_or (own_fault number kind own) (kinds_fault number kind kinds)
 
 -- operands of a predicate of a kind; it has none if all of them are parameters
-abbrev pub kinds_fault : List NamedTable → ℕ → Option Kind → List Term → Option BindFault
-kinds_fault tables number None terms = Some (TypeMismatch number)
-kinds_fault tables number (Some kind) terms = term_kinds_fault tables number kind terms
+abbrev pub alike_fault : ℕ → Option Kind → List (Option Kind) → Option BindFault
+alike_fault number None kinds = Some (TypeMismatch number)
+alike_fault number (Some kind) kinds = kinds_fault number kind kinds
 
--- the operands of a predicate, by its number: their columns from left to right, then their kinds
-abbrev pub operands_fault : List NamedTable → ℕ → List Term → Option BindFault
-operands_fault tables number terms =
-    option_or (terms_fault tables terms) (kinds_fault tables number (kind_of_terms tables terms) terms)
-
+-- a predicate, by its number: its columns from left to right, then the kinds of its operands
 abbrev pub predicate_fault : List NamedTable → ℕ → ConditionTree → Option BindFault
-predicate_fault tables number predicate = operands_fault tables number (terms_of predicate)
+predicate_fault tables number predicate =
+    let terms = terms_of predicate in
+    let kinds = kinds_of tables terms in
+    option_or (terms_fault tables terms) (alike_fault number (first_kind kinds) kinds)
 
--- the predicates of a condition, numbered from this number on
-abbrev pub predicates_fault : List NamedTable → ℕ → ConditionTree → Option BindFault
-predicates_fault tables number condition = first_fault_from (predicate_fault tables) number (predicates condition)
-
--- the same of the operands of a chain
-abbrev pub all_predicates_fault : List NamedTable → ℕ → List Cond → Option BindFault
-all_predicates_fault tables number parts = first_fault_from (predicate_fault tables) number (all_predicates parts)
+-- predicates, numbered from this number on
+abbrev pub predicates_fault : List NamedTable → ℕ → List ConditionTree → Option BindFault
+predicates_fault tables number predicates = first_fault_from (predicate_fault tables) number predicates
 
 -- the kinds of a predicate's parameters, in written order
 abbrev pub predicate_parameters : List NamedTable → ConditionTree → List Kind
-predicate_parameters tables predicate = parameters_among tables (terms_of predicate)
+predicate_parameters tables predicate = parameters_among (kinds_of tables (terms_of predicate))
 
--- the kinds of a condition's parameters, in written order
-abbrev pub condition_parameters : List NamedTable → ConditionTree → List Kind
-condition_parameters tables condition = flat_map (predicate_parameters tables) (predicates condition)
+-- the kinds of the parameters of predicates, in written order
+abbrev pub parameters_of : List NamedTable → List ConditionTree → List Kind
+parameters_of tables predicates = flat_map (predicate_parameters tables) predicates
 
--- the same of the operands of a chain
-abbrev pub all_condition_parameters : List NamedTable → List Cond → List Kind
-all_condition_parameters tables parts = flat_map (predicate_parameters tables) (all_predicates parts)
+-- these predicates were walked over
+pub record Walks (tables : List NamedTable) (predicates : List ConditionTree) (old new : Walk) : Type 0 where
+  pub next : new.next ≡ old.next + length predicates
+  pub parameters : new.parameters.items ≡ old.parameters.items ++ parameters_of tables predicates

@@ -34,8 +34,7 @@ pub record Binds (database : DatabaseState) (query : QueryTree) (result : Result
 -- a column more is found
 abbrev pub added : Found → ColumnAt → Found
 added Nothing place = One place
-added (One first) place = Several first
-added (Several first) place = Several first
+added other place = Several
 
 -- what is found among these columns, where this was found before
 abbrev pub found_with : Found → List ColumnAt → Found

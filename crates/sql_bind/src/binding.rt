@@ -1,21 +1,22 @@
 // The block of a query: the checks in their order, and then its parts.
-ghost use Rattle.std.specs.Prelude.{◌≡◌, ◌<◌, ◌^◌, [], IfOk, IfSome, length, map, option_map, replicate};
+ghost use Rattle.std.specs.Prelude.{◌≡◌, ◌<◌, ◌^◌, IfOk, IfSome, length, map, option_map};
 ghost use Rattle.query_block.specs.Conditions.{filter_tree};
 ghost use Rattle.query_block.specs.Blocks.{relation_tree};
 ghost use Rattle.sql_parse.specs.Trees.{condition_tree, query_tree};
 ghost use Rattle.sql_parse.specs.Counts.{predicates_in, of_condition};
 ghost use Rattle.sql_parse.specs.WellFormed.{IsWellFormedQuery, IsWellFormedCondition};
 ghost use Rattle.sql_bind.specs.Binding.{condition_fault, relation_with};
-ghost use Rattle.sql_bind.specs.Collected.{IsAsked, filter_trees, HaveFilters, where_fault};
+ghost use Rattle.sql_bind.specs.Collected.{IsAsked, filter_trees, with_filters, where_fault};
 ghost use Rattle.sql_bind.specs.Refused.{Binds, RefusesBlock};
 
 use crate::axes::check_axes;
-use crate::conjuncts::{Parts, add_conjuncts};
+use crate::bound::add_conjuncts;
+use crate::conjuncts::{Parts, check_forms, no_parts, parts_of};
 use crate::fault::BindFault;
 use crate::from::{check_limit, named_tables};
-use crate::predicates::check_predicates;
 use crate::projection::projection;
 use crate::scope::{NamedTable, Scope};
+use crate::walk::Walk;
 use db_catalog::Database;
 use query_block::{Block, Condition, Kind, Relation};
 use sql_parse::{Cond, Query};
@@ -30,42 +31,31 @@ struct Asked {
     parameters: Vec<Kind>,
 }
 
-// No conjunct yet.
-fn no_parts(alloc: Global, scope: &Scope<'_>) -> Result<Parts, AllocError>
-    ensures edges { IfOk result (λ parts. parts.edges.items ≡ []) }
-    ensures filters { IfOk result
-        (λ parts. filter_trees parts.filters.items ≡ replicate (length scope.now) []) }
-{
-    let relations = scope.tables().len();
-    let mut filters = Vec::with_capacity(alloc, relations)?;
-    for _relation in 0..relations {
-        filters.push(Vec::new(alloc))?;
-    }
-    let edges = Vec::new(alloc);
-    Ok(Parts { filters, edges })
-}
-
-// What a condition asks for: its predicates are checked first.
-fn asked_by(alloc: Global, scope: &Scope<'_>, condition: &Cond) -> Result<Asked, BindFault>
+// What a condition asks for: its predicates are checked first, and then its conjuncts.
+fn asked_by(scope: &Scope<'_>, condition: &Cond) -> Result<Asked, BindFault>
     requires well_formed { IsWellFormedCondition (condition_tree condition.now) }
     requires counted { predicates_in (condition_tree condition.now) < 2 ^ 32 }
     ensures refuses { RefusesBlock
         (condition_fault scope.now (Some (condition_tree condition.now))) result }
     ensures asked { IfOk result (IsAsked scope.now (Some (condition_tree condition.now))) }
 {
-    let mut parameters = Vec::new(alloc);
-    let _ = check_predicates(alloc, scope, condition, 1, &mut parameters)?;
-    let mut parts = no_parts(alloc, scope)?;
-    let _ = add_conjuncts(alloc, scope, condition, 1, &mut parts)?;
-    Ok(Asked { parts, parameters })
+    let alloc = scope.alloc();
+    let mut walk = Walk {
+        next: 1,
+        parameters: Vec::new(alloc),
+    };
+    let mut conjuncts = Vec::new(alloc);
+    add_conjuncts(scope, condition, &mut walk, &mut conjuncts)?;
+    check_forms(conjuncts.as_slice())?;
+    let parts = parts_of(alloc, scope.tables().len(), conjuncts)?;
+    Ok(Asked {
+        parts,
+        parameters: walk.parameters,
+    })
 }
 
 // What the condition of WHERE asks for, if there is one.
-fn asked_by_condition(
-    alloc: Global,
-    scope: &Scope<'_>,
-    condition: &Option<Cond>,
-) -> Result<Asked, BindFault>
+fn asked_by_condition(scope: &Scope<'_>, condition: &Option<Cond>) -> Result<Asked, BindFault>
     requires well_formed { IfSome (option_map condition_tree condition.now) IsWellFormedCondition }
     requires counted { of_condition predicates_in
         (option_map condition_tree condition.now) < 2 ^ 32 }
@@ -75,21 +65,17 @@ fn asked_by_condition(
         (IsAsked scope.now (option_map condition_tree condition.now)) }
 {
     match condition {
-        Some(condition) => asked_by(alloc, scope, condition),
+        Some(condition) => asked_by(scope, condition),
         None => {
-            let parts = no_parts(alloc, scope)?;
-            let parameters = Vec::new(alloc);
+            let parts = no_parts(scope.alloc(), scope.tables().len())?;
+            let parameters = Vec::new(scope.alloc());
             Ok(Asked { parts, parameters })
         }
     }
 }
 
 // The same, refused if it asks for too many axes.
-fn asked_by_where(
-    alloc: Global,
-    scope: &Scope<'_>,
-    condition: &Option<Cond>,
-) -> Result<Asked, BindFault>
+fn asked_by_where(scope: &Scope<'_>, condition: &Option<Cond>) -> Result<Asked, BindFault>
     requires well_formed { IfSome (option_map condition_tree condition.now) IsWellFormedCondition }
     requires counted { of_condition predicates_in
         (option_map condition_tree condition.now) < 2 ^ 32 }
@@ -98,7 +84,7 @@ fn asked_by_where(
     ensures asked { IfOk result
         (IsAsked scope.now (option_map condition_tree condition.now)) }
 {
-    let asked = asked_by_condition(alloc, scope, condition)?;
+    let asked = asked_by_condition(scope, condition)?;
     check_axes(&asked.parts)?;
     Ok(asked)
 }
@@ -140,8 +126,8 @@ fn relations_with(
     filters: Vec<Vec<Condition>>,
 ) -> Result<Vec<Relation>, AllocError>
     requires { length filters.items ≡ length scope.now }
-    ensures { IfOk result
-        (λ relations. HaveFilters scope.now (filter_trees filters.items) relations.items) }
+    ensures { IfOk result (λ relations. map relation_tree relations.items
+        ≡ with_filters scope.now (filter_trees filters.items)) }
 {
     let tables = scope.tables();
     let mut relations = Vec::with_capacity(alloc, tables.len())?;
@@ -170,8 +156,8 @@ pub fn bind(alloc: Global, database: &Database, query: &Query) -> Result<Block, 
     let from = query.from.as_slice();
     check_limit(LimitName::Relations, MAX_RELATIONS, from.len())?;
     let scope = named_tables(alloc, database, from)?;
-    let projection = projection(alloc, &scope, &query.columns)?;
-    let asked = asked_by_where(alloc, &scope, &query.condition)?;
+    let projection = projection(&scope, &query.columns)?;
+    let asked = asked_by_where(&scope, &query.condition)?;
     let Asked { parts, parameters } = asked;
     let Parts { filters, edges } = parts;
     let relations = relations_with(alloc, &scope, filters)?;

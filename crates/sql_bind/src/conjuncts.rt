@@ -1,18 +1,15 @@
 // The conjuncts of WHERE: each becomes part of a filter, or an edge.
-ghost use Rattle.std.specs.Prelude.{◌≡◌, ◌≤◌, ◌+◌, ◌^◌, [], ◌∷◌, IfOk, OnOk, length};
+ghost use Rattle.std.specs.Prelude.{◌≡◌, ◌<◌, ◌^◌, [], ◌∷◌, IfOk, OnOk, length, map, replicate};
 ghost use Rattle.query_block.specs.Conditions.{filter_tree};
-ghost use Rattle.sql_parse.specs.Trees.{condition_tree};
-ghost use Rattle.sql_bind.specs.Conjuncts.{conjuncts, all_conjuncts, conjunct_fault, conjuncts_fault, all_conjuncts_fault, edge_between, equality_between, equality_of};
-ghost use Rattle.sql_bind.specs.Collected.{AddsConjuncts, AddsFilter};
-ghost use Rattle.sql_bind.specs.Refused.{RefusesBlock};
+ghost use Rattle.sql_bind.specs.Names.{first_fault_from};
+ghost use Rattle.sql_bind.specs.Conjuncts.{bound_tree, conjunct_fault, edge_between, equality_between, form_fault};
+ghost use Rattle.sql_bind.specs.Collected.{AddsConjuncts, HasParts, filter_trees, with_condition};
+ghost use Rattle.sql_bind.specs.Refused.{RefusesAlways};
 
-use crate::bound::bound_condition;
+use crate::bound::Bound;
 use crate::fault::BindFault;
-use crate::names::place_of;
-use crate::reach::{Reach, reach_of};
-use crate::scope::Scope;
+use crate::reach::Reach;
 use query_block::{ColumnAt, Condition, Edge};
-use sql_parse::{Cond, Term};
 use sql_values::Op;
 use std::alloc::{AllocError, Global};
 
@@ -42,29 +39,21 @@ fn edge_between(a: ColumnAt, b: ColumnAt) -> Edge
     }
 }
 
-// The edge that a conjunct is where it is an equality of two columns of different relations.
-fn equality_of(scope: &Scope<'_>, conjunct: &Cond) -> Option<Edge>
-    ensures { result ≡ equality_of scope.now (condition_tree conjunct.now) }
-{
-    match conjunct {
-        Cond::Compare(op, left, right) => equality_between(scope, *op, left, right),
-        _ => None,
-    }
-}
-
-// The same of a comparison.
-fn equality_between(scope: &Scope<'_>, op: Op, left: &Term, right: &Term) -> Option<Edge>
-    ensures { result ≡ equality_between scope.now op left.now right.now }
+/// The edge that a comparison is where it is an equality of two columns.
+pub(crate) fn equality_between(
+    op: Op,
+    left: Option<ColumnAt>,
+    right: Option<ColumnAt>,
+) -> Option<Edge>
+    ensures { result ≡ equality_between op left right }
 {
     match op {
         Op::Eq => match left {
-            Term::Column(left) => match right {
-                Term::Column(right) => {
-                    Some(edge_between(place_of(scope, left), place_of(scope, right)))
-                }
-                _ => None,
+            Some(left) => match right {
+                Some(right) => Some(edge_between(left, right)),
+                None => None,
             },
-            _ => None,
+            None => None,
         },
         _ => None,
     }
@@ -77,7 +66,8 @@ fn push_filter(
     condition: Condition,
 ) -> Result<(), AllocError>
     ensures { OnOk result
-        (AddsFilter relation (filter_tree condition) filters.old.items filters.new.items) }
+        (filter_trees filters.new.items ≡ with_condition relation (filter_tree condition)
+        (filter_trees filters.old.items)) }
 {
     let at = relation as usize;
     if at < filters.len() {
@@ -86,80 +76,81 @@ fn push_filter(
     Ok(())
 }
 
-// Adds a conjunct of this number.
-fn add_conjunct(
-    alloc: Global,
-    scope: &Scope<'_>,
-    conjunct: &Cond,
-    number: u32,
-    parts: &mut Parts,
-) -> Result<(), BindFault>
-    ensures refuses { RefusesBlock
-        (conjunct_fault scope.now number (condition_tree conjunct.now)) result }
-    ensures added { OnOk result
-        (AddsConjuncts scope.now (condition_tree conjunct.now ∷ []) parts.old parts.new) }
+// Refuses a conjunct of this number that is neither a filter nor an edge.
+fn check_form(conjunct: &Bound, number: u32) -> Result<(), BindFault>
+    ensures { RefusesAlways
+        (form_fault number conjunct.now.reach conjunct.now.equality) result }
 {
-    match reach_of(scope, conjunct) {
+    match conjunct.reach {
         Reach::Nothing => Err(BindFault::PredicateForm { conjunct: number }),
-        Reach::One(relation) => {
-            let condition = bound_condition(alloc, scope, conjunct)?;
-            push_filter(&mut parts.filters, relation, condition)?;
-            Ok(())
-        }
-        Reach::Several => match equality_of(scope, conjunct) {
-            Some(edge) => {
-                parts.edges.push(edge)?;
-                Ok(())
-            }
+        Reach::One(_) => Ok(()),
+        Reach::Several => match conjunct.equality {
+            Some(_) => Ok(()),
             None => Err(BindFault::PredicateForm { conjunct: number }),
         },
     }
 }
 
-/// Adds the conjuncts of a condition, of which the first has this number. Returned is the number behind the last one.
-#[cycle(conjuncts)]
-pub(crate) fn add_conjuncts(
-    alloc: Global,
-    scope: &Scope<'_>,
-    condition: &Cond,
-    number: u64,
-    parts: &mut Parts,
-) -> Result<u64, BindFault>
-    requires { number + length (conjuncts (condition_tree condition.now)) ≤ 2 ^ 32 }
-    ensures refuses { RefusesBlock
-        (conjuncts_fault scope.now number (condition_tree condition.now)) result }
-    ensures added { OnOk result
-        (AddsConjuncts scope.now (conjuncts (condition_tree condition.now)) parts.old parts.new) }
-    ensures next { IfOk result
-        (λ next. next ≡ number + length (conjuncts (condition_tree condition.now))) }
+/// Refuses conjuncts at the first that is neither a filter nor an edge. It takes no memory.
+pub(crate) fn check_forms(conjuncts: &[Bound]) -> Result<(), BindFault>
+    requires { length conjuncts.now < 2 ^ 32 }
+    ensures { RefusesAlways
+        (first_fault_from conjunct_fault 1 (map bound_tree conjuncts.now)) result }
 {
-    match condition {
-        Cond::And(chain) => add_all(alloc, scope, chain.as_slice(), number, parts),
-        _ => {
-            add_conjunct(alloc, scope, condition, number as u32, parts)?;
-            Ok(number + 1)
+    for i in 0..conjuncts.len() {
+        check_form(&conjuncts[i], i as u32 + 1)?;
+    }
+    Ok(())
+}
+
+// Adds a conjunct.
+fn add_conjunct(conjunct: Bound, parts: &mut Parts) -> Result<(), AllocError>
+    ensures { OnOk result (AddsConjuncts (bound_tree conjunct ∷ []) parts.old parts.new) }
+{
+    let Bound {
+        condition,
+        reach,
+        equality,
+    } = conjunct;
+    match reach {
+        Reach::Nothing => Ok(()),
+        Reach::One(relation) => {
+            push_filter(&mut parts.filters, relation, condition)?;
+            Ok(())
         }
+        Reach::Several => match equality {
+            Some(edge) => {
+                parts.edges.push(edge)?;
+                Ok(())
+            }
+            None => Ok(()),
+        },
     }
 }
 
-// The same of the operands of a chain of AND.
-#[cycle(conjuncts)]
-fn add_all(
-    alloc: Global,
-    scope: &Scope<'_>,
-    chain: &[Cond],
-    number: u64,
-    parts: &mut Parts,
-) -> Result<u64, BindFault>
-    requires { number + length (all_conjuncts chain.now) ≤ 2 ^ 32 }
-    ensures refuses { RefusesBlock (all_conjuncts_fault scope.now number chain.now) result }
-    ensures added { OnOk result
-        (AddsConjuncts scope.now (all_conjuncts chain.now) parts.old parts.new) }
-    ensures next { IfOk result (λ next. next ≡ number + length (all_conjuncts chain.now)) }
+/// The parts of no conjunct, of so many relations.
+pub(crate) fn no_parts(alloc: Global, relations: usize) -> Result<Parts, AllocError>
+    ensures { IfOk result (HasParts relations []) }
 {
-    let mut next = number;
-    for i in 0..chain.len() {
-        next = add_conjuncts(alloc, scope, &chain[i], next, parts)?;
+    let mut filters = Vec::with_capacity(alloc, relations)?;
+    for _relation in 0..relations {
+        filters.push(Vec::new(alloc))?;
     }
-    Ok(next)
+    let edges = Vec::new(alloc);
+    Ok(Parts { filters, edges })
+}
+
+/// The parts of conjuncts, of so many relations.
+pub(crate) fn parts_of(
+    alloc: Global,
+    relations: usize,
+    conjuncts: Vec<Bound>,
+) -> Result<Parts, AllocError>
+    ensures { IfOk result (HasParts relations (map bound_tree conjuncts.items)) }
+{
+    let mut parts = no_parts(alloc, relations)?;
+    for conjunct in conjuncts {
+        add_conjunct(conjunct, &mut parts)?;
+    }
+    Ok(parts)
 }

@@ -120,5 +120,5 @@ pub(crate) fn named_tables<'q>(
         let table = next_table(database, &items[..i], &items[i])?;
         tables.push(table)?;
     }
-    Ok(Scope::new(tables))
+    Ok(Scope::new(alloc, tables))
 }

@@ -10,12 +10,12 @@ mod bound;
 mod conjuncts;
 mod fault;
 mod from;
-mod kinds;
+mod located;
 mod names;
-mod predicates;
 mod projection;
 mod reach;
 mod scope;
+mod walk;
 
 pub use binding::bind;
 pub use fault::BindFault;

@@ -1,7 +1,7 @@
 // Written columns, and the columns of the tables of FROM that they name.
-ghost use Rattle.std.specs.Prelude.{◌≡◌, ◌≢◌, ◌≤◌, IfOk, length};
+ghost use Rattle.std.specs.Prelude.{◌≡◌, ◌≢◌, ◌≤◌, IfOk, Some, length};
 ghost use Rattle.sql_values.specs.Limits.{max_columns};
-ghost use Rattle.sql_bind.specs.Names.{places_among, named_places, place_of, written_column_fault, may_name, written_name};
+ghost use Rattle.sql_bind.specs.Names.{places_among, places_from, place_of, written_column_fault, may_name, written_name};
 ghost use Rattle.sql_bind.specs.Refused.{RefusesBlock, added, found_with};
 
 use crate::fault::BindFault;
@@ -16,8 +16,8 @@ use std::alloc::{AllocError, Global};
 pub(crate) enum Found {
     Nothing,
     One(ColumnAt),
-    /// Two or more, of which this is the first.
-    Several(ColumnAt),
+    /// Two or more.
+    Several,
 }
 
 impl Found {
@@ -26,8 +26,7 @@ impl Found {
     {
         match self {
             Found::Nothing => Found::One(place),
-            Found::One(first) => Found::Several(first),
-            Found::Several(first) => Found::Several(first),
+            _ => Found::Several,
         }
     }
 }
@@ -59,7 +58,7 @@ fn may_name(written: &ColRef, table: &NamedTable<'_>) -> bool
 
 // The columns that a written column names.
 fn look_up(scope: &Scope<'_>, written: &ColRef) -> Found
-    ensures { result ≡ found_with Found.Nothing (named_places scope.now written.now) }
+    ensures { result ≡ found_with Found.Nothing (places_from 0 scope.now written.now) }
 {
     let tables = scope.tables();
     let mut found = Found::Nothing;
@@ -106,31 +105,14 @@ fn ambiguous(written: &ColRef) -> BindFault
     }
 }
 
-/// Refuses a written column that doesn't name exactly one.
-pub(crate) fn check_column(
-    alloc: Global,
-    scope: &Scope<'_>,
-    written: &ColRef,
-) -> Result<(), BindFault>
-    ensures { RefusesBlock (written_column_fault scope.now written.now) result }
+/// The column that a written column names: refused where it doesn't name exactly one.
+pub(crate) fn place_of(scope: &Scope<'_>, written: &ColRef) -> Result<ColumnAt, BindFault>
+    ensures refuses { RefusesBlock (written_column_fault scope.now written.now) result }
+    ensures place { IfOk result (λ place. place_of scope.now written.now ≡ Some place) }
 {
     match look_up(scope, written) {
-        Found::Nothing => Err(unknown_column(alloc, written)),
-        Found::One(_) => Ok(()),
-        Found::Several(_) => Err(ambiguous(written)),
-    }
-}
-
-/// The column that a written column names; where it names none, the first of all.
-pub(crate) fn place_of(scope: &Scope<'_>, written: &ColRef) -> ColumnAt
-    ensures { result ≡ place_of scope.now written.now }
-{
-    match look_up(scope, written) {
-        Found::One(place) => place,
-        Found::Several(place) => place,
-        Found::Nothing => ColumnAt {
-            relation: 0,
-            column: 0,
-        },
+        Found::Nothing => Err(unknown_column(scope.alloc(), written)),
+        Found::One(place) => Ok(place),
+        Found::Several => Err(ambiguous(written)),
     }
 }

@@ -1,5 +1,6 @@
 // The columns that SELECT asks for.
-ghost use Rattle.std.specs.Prelude.{◌≡◌, ◌≤◌, ◌++◌, IfOk, OnOk, length, map};
+ghost use Rattle.std.specs.Prelude.{◌≡◌, ◌≤◌, ◌++◌, IfOk, OnOk, length};
+ghost use Rattle.std.specs.List.{filter_map};
 ghost use Rattle.sql_values.specs.Limits.{max_columns};
 ghost use Rattle.sql_bind.specs.Names.{written_columns_fault, place_of};
 ghost use Rattle.sql_bind.specs.Binding.{projection_fault, projection_of, columns_from, every_column};
@@ -7,34 +8,22 @@ ghost use Rattle.sql_bind.specs.Refused.{RefusesBlock};
 
 use crate::fault::BindFault;
 use crate::from::check_limit;
-use crate::names::{check_column, place_of};
+use crate::names::place_of;
 use crate::scope::Scope;
 use query_block::ColumnAt;
 use sql_parse::ColRef;
 use sql_values::{ColumnDef, LimitName, MAX_PROJECTION, Sequence};
-use std::alloc::{AllocError, Global};
-
-// Refuses written columns at the first that doesn't name exactly one.
-fn check_columns(alloc: Global, scope: &Scope<'_>, columns: &[ColRef]) -> Result<(), BindFault>
-    ensures { RefusesBlock (written_columns_fault scope.now columns.now) result }
-{
-    for i in 0..columns.len() {
-        check_column(alloc, scope, &columns[i])?;
-    }
-    Ok(())
-}
+use std::alloc::AllocError;
 
 // The columns that written columns name.
-fn places_of(
-    alloc: Global,
-    scope: &Scope<'_>,
-    columns: &[ColRef],
-) -> Result<Vec<ColumnAt>, AllocError>
-    ensures { IfOk result (λ places. places.items ≡ map (place_of scope.now) columns.now) }
+fn places_of(scope: &Scope<'_>, columns: &[ColRef]) -> Result<Vec<ColumnAt>, BindFault>
+    ensures refuses { RefusesBlock (written_columns_fault scope.now columns.now) result }
+    ensures places { IfOk result
+        (λ places. places.items ≡ filter_map (place_of scope.now) columns.now) }
 {
-    let mut places = Vec::with_capacity(alloc, columns.len())?;
+    let mut places = Vec::with_capacity(scope.alloc(), columns.len())?;
     for i in 0..columns.len() {
-        places.push(place_of(scope, &columns[i]))?;
+        places.push(place_of(scope, &columns[i])?)?;
     }
     Ok(places)
 }
@@ -57,11 +46,11 @@ fn push_columns(
 }
 
 // Every column of all tables.
-fn every_column(alloc: Global, scope: &Scope<'_>) -> Result<Vec<ColumnAt>, AllocError>
+fn every_column(scope: &Scope<'_>) -> Result<Vec<ColumnAt>, AllocError>
     ensures { IfOk result (λ places. places.items ≡ every_column 0 scope.now) }
 {
     let tables = scope.tables();
-    let mut places = Vec::new(alloc);
+    let mut places = Vec::new(scope.alloc());
     for i in 0..tables.len() {
         let table = &tables[i];
         push_columns(i as u8, table.columns, &mut places)?;
@@ -71,7 +60,6 @@ fn every_column(alloc: Global, scope: &Scope<'_>) -> Result<Vec<ColumnAt>, Alloc
 
 /// The columns that SELECT asks for: those that it names, or every column.
 pub(crate) fn projection(
-    alloc: Global,
     scope: &Scope<'_>,
     columns: &Option<Sequence<ColRef>>,
 ) -> Result<Vec<ColumnAt>, BindFault>
@@ -80,15 +68,13 @@ pub(crate) fn projection(
 {
     match columns {
         None => {
-            let places = every_column(alloc, scope)?;
+            let places = every_column(scope)?;
             Ok(places)
         }
         Some(columns) => {
             let columns = columns.as_slice();
             check_limit(LimitName::Projection, MAX_PROJECTION, columns.len())?;
-            check_columns(alloc, scope, columns)?;
-            let places = places_of(alloc, scope, columns)?;
-            Ok(places)
+            places_of(scope, columns)
         }
     }
 }

@@ -3,6 +3,7 @@ ghost use Rattle.std.specs.Prelude.{◌≡◌};
 ghost use Rattle.sql_bind.specs.Named.{IsScope};
 
 use sql_values::ColumnDef;
+use std::alloc::Global;
 use std::marker::Model;
 
 /// A table of FROM.
@@ -34,6 +35,8 @@ impl<'q> Model for NamedTable<'q> {
 /// so the number of a relation and that of a column fit a byte.
 #[derive(Drop)]
 pub(crate) struct Scope<'q> {
+    // Where binding takes its memory from.
+    alloc: Global,
     tables: Vec<NamedTable<'q>>,
 }
 
@@ -50,11 +53,16 @@ impl<'q> Model for Scope<'q> {
 
 impl<'q> Scope<'q> {
     /// That of these tables.
-    pub(crate) fn new(tables: Vec<NamedTable<'q>>) -> Self
+    pub(crate) fn new(alloc: Global, tables: Vec<NamedTable<'q>>) -> Self
         requires { IsScope tables.items }
         ensures { result ≡ tables.entry.items }
     {
-        Scope { tables }
+        Scope { alloc, tables }
+    }
+
+    /// Where binding takes its memory from.
+    pub(crate) fn alloc(&self) -> Global {
+        self.alloc
     }
 
     /// The tables, in FROM order.

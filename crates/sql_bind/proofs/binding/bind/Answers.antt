@@ -13,7 +13,7 @@ use Rattle.sql_bind.proofs.binding.bind.Goals as goal
 
 pub relations_with-requires : goal.relations_with-requires
 relations_with-requires c =
-    one_filter_each c.in_ok-scope.scope (conjuncts_in (query_tree c.args.query.now).condition) c.in_ok-asked.asked.parts c.in_ok-asked.ensures.asked.parts
+    one_filter_each (length c.in_ok-scope.scope) (conjuncts_in c.in_ok-scope.scope (query_tree c.args.query.now).condition) c.in_ok-asked.asked.parts c.in_ok-asked.ensures.asked.parts
 
 pub new-requires : goal.new-requires
 new-requires c =
