@@ -35,7 +35,7 @@ use Rattle.sql_bind.specs.Named.{NamedTable, IsNamed}
 use Rattle.sql_bind.specs.Names.{may_name, places_among, places_from, named_once, the_one, written_column_fault, place_of, first_fault_from, written_columns_fault}
 use Rattle.sql_bind.specs.Located.{kind_in, kind_if, located, located_at, kinds_of, first_kind, given_kinds, parameters_among}
 use Rattle.sql_bind.specs.Predicates.{predicates, predicates_of_all, term_fault, terms_fault, own_fault, kinds_fault, alike_fault, predicate_fault, predicates_fault, parameters_of}
-use Rattle.sql_bind.specs.Conjuncts.{Conjunct, conjuncts, conjuncts_of_all, conjunct_of, conjunct_fault, joined_reach, reach_at, reach_of_term, reach_of_terms, reach_of, reach_of_all, edge_between, equality_between, equality_of, is_filter_of, edge_in, negated_if, null_test, bound_condition, bound_conditions}
+use Rattle.sql_bind.specs.Conjuncts.{Conjunct, conjuncts, conjuncts_of_all, conjunct_of, conjunct_fault, joined_reach, reach_at, reach_of_term, reach_of_terms, reach_of, reach_of_all, edge_between, equality_between, equality_of, is_filter_of, edge_in, negated_if, is_null_at, bound_condition, bound_conditions}
 use Rattle.sql_bind.specs.Binding.{named_table, named_tables, past_limit, from_fault, projection_fault, conjuncts_in, condition_fault, edges_of, filter_of, columns_from, every_column, projection_of, relations_from, parameter_kinds, block_of, bind_fault}
 use Rattle.sql_bind.proofs.Faults.{first_fault-append, neither}
 use Rattle.sql_bind.proofs.Parameters.{HasKind, HaveKinds, column-count, have-own, have-parts, parameter_kinds-count}
@@ -331,7 +331,7 @@ module _ (tables : List NamedTable) (parameters : List Kind) (relation : ℕ) wh
   column-kind of (Some place) is here = ap (λ n. holds_texts (kind_at (kinds (table_named tables n)) place.column)) (sym here) ∙ is.1
 
   null-fits : (of : Kind) (place : Option ColumnAt) → IsPlaced tables of place → IsWithin relation (reach_at (located_at tables place).place)
-      → FitsColumns parameters columns_here (null_test (located_at tables place).place)
+      → FitsColumns parameters columns_here (is_null_at (located_at tables place).place)
   null-fits of None is here = absurd is
   null-fits of (Some place) is here = column-fits of (Some place) is here
 

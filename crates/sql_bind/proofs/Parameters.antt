@@ -14,7 +14,7 @@ use Rattle.sql_bind.specs.Named.{NamedTable}
 use Rattle.query_block.specs.declared.edge.ColumnAt.{ColumnAt}
 use Rattle.sql_bind.specs.Names.{place_of}
 use Rattle.sql_bind.specs.Located.{located_at, kinds_of, first_kind, given_kind, given_kinds, parameters_among}
-use Rattle.sql_bind.specs.Predicates.{predicates, predicates_of_all, predicate_parameters, parameters_of}
+use Rattle.sql_bind.specs.Predicates.{predicates, predicates_of_all, terms_of, parameters_of}
 use Rattle.sql_bind.specs.Binding.{parameter_kinds}
 
 -- a column is given none
@@ -49,7 +49,7 @@ mutual
   parameters-count_all tables (More part parts) =
       omega (
         arith,
-        ap length (flat_map-append (predicate_parameters tables) (predicates part) (predicates_of_all parts)),
+        ap length (flat_map-append (λ predicate. parameters_among (kinds_of tables (terms_of predicate))) (predicates part) (predicates_of_all parts)),
         length-append (parameters_of tables (predicates part)) (parameters_of tables (predicates_of_all parts)),
         length-append (parameters_in part) (parameters_in_all parts),
         parameters-count tables part,
@@ -87,7 +87,7 @@ pub have-parts : (parameters : List Kind) (tables : List NamedTable) (part : Con
 have-parts parameters tables part parts have =
     have-both parameters (parameters_in part) (parameters_in_all parts) (parameters_of tables (predicates part)) (parameters_of tables (predicates_of_all parts))
     (parameters-count tables part)
-    (subst (HaveKinds parameters (parameters_in_all (More part parts))) (flat_map-append (predicate_parameters tables) (predicates part) (predicates_of_all parts)) have)
+    (subst (HaveKinds parameters (parameters_in_all (More part parts))) (flat_map-append (λ predicate. parameters_among (kinds_of tables (terms_of predicate))) (predicates part) (predicates_of_all parts)) have)
 
 abbrev first_of : List Kind → Kind
 first_of [] = kind.Integer

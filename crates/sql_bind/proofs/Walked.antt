@@ -8,7 +8,8 @@ use Rattle.sql_parse.specs.Trees.{ConditionTree, condition_tree}
 use Rattle.sql_bind.specs.declared.fault.BindFault.{BindFault}
 use Rattle.sql_bind.specs.declared.walk.Walk.{Walk}
 use Rattle.sql_bind.specs.Named.{NamedTable}
-use Rattle.sql_bind.specs.Predicates.{Walks, predicates, all_predicates, predicate_fault, predicates_fault, predicate_parameters, parameters_of}
+use Rattle.sql_bind.specs.Located.{kinds_of, parameters_among}
+use Rattle.sql_bind.specs.Predicates.{Walks, predicates, all_predicates, predicate_fault, predicates_fault, terms_of, parameters_of}
 use Rattle.sql_bind.proofs.Faults.{first_fault-append}
 
 -- of those that were due, these are left, and none before them has a fault
@@ -37,7 +38,7 @@ module _ (tables : List NamedTable) (due one left : List ConditionTree) (old mid
     fault = both h ∙ ap (λ first. option_or first (predicates_fault tables (middle.next + length one) left)) none
         ∙ ap (λ n. predicates_fault tables n left) (sym walks.next);
     next = omega (arith, walks.next, h.next, length-append one left);
-    parameters = h.parameters ∙ ap (λ kinds. middle.parameters.items ++ kinds) (flat_map-append (predicate_parameters tables) one left)
+    parameters = h.parameters ∙ ap (λ kinds. middle.parameters.items ++ kinds) (flat_map-append (λ predicate. parameters_among (kinds_of tables (terms_of predicate))) one left)
         ∙ sym (append_assoc middle.parameters.items (parameters_of tables one) (parameters_of tables left))
         ∙ ap (λ kinds. kinds ++ parameters_of tables left) (sym walks.parameters);
   }

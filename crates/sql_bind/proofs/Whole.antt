@@ -26,7 +26,7 @@ use Rattle.sql_bind.specs.declared.fault.BindFault.{BindFault}
 use Rattle.sql_bind.specs.Named.{NamedTable}
 use Rattle.sql_bind.specs.Conjuncts.{Conjunct}
 use Rattle.sql_bind.specs.Binding.{named_table, named_tables, table_fault, alias_fault, from_fault, relation_with, relations_from, filter_of, block_of, conjuncts_in, parameter_kinds, projection_of, edges_of, past_limit, projection_fault, condition_fault, bind_fault}
-use Rattle.sql_bind.specs.Collected.{HasParts, IsAsked, filter_trees, more_filters, with_filters, axes_with, where_fault}
+use Rattle.sql_bind.specs.Collected.{HasParts, IsAsked, filter_trees, more_filters, with_filters, where_fault}
 use Rattle.sql_bind.proofs.Faults.{neither}
 use Rattle.sql_bind.proofs.Collected.{trees-count}
 use Rattle.sql_bind.proofs.Relations.{relations-of_parts, open-count}
@@ -90,8 +90,9 @@ axes-due tables condition parts none has =
     let of_edges : length parts.edges.items ≡ length (edges_of conjuncts) = ap length has.edges in
     let of_filters : count_by (list_any is_open) (filter_trees parts.filters.items) ≡ count_by has_parameter (relations_from conjuncts 0 tables) =
     ap (count_by (list_any is_open)) has.filters ∙ open-count conjuncts 0 tables in
-    let same : axes_with tables conjuncts ≡ length parts.edges.items + count_by (list_any is_open) (filter_trees parts.filters.items) = omega (arith, of_edges, of_filters) in
-    ap (λ fault. option_or fault (past_limit limit.Axes max_axes (axes_with tables conjuncts))) none ∙ ap (past_limit limit.Axes max_axes) same
+    let axes = length (edges_of conjuncts) + count_by has_parameter (relations_from conjuncts 0 tables) in
+    let same : axes ≡ length parts.edges.items + count_by (list_any is_open) (filter_trees parts.filters.items) = omega (arith, of_edges, of_filters) in
+    ap (λ fault. option_or fault (past_limit limit.Axes max_axes axes)) none ∙ ap (past_limit limit.Axes max_axes) same
 
 -- parts that no check refused, put together, are the block, and nothing refuses the query
 pub whole : (database : DatabaseState) (query : QueryTree) (from : List Item) (tables : List NamedTable) (asked : Asked) (relations : List RelationTree) (projection : List ColumnAt)

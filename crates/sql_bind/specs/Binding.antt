@@ -46,10 +46,6 @@ table_fault item (Some number) = None
 abbrev pub alias_fault : List (List ℕ) → Item → Option BindFault
 alias_fault before item = if has_text before item.alias then Some (DuplicateAlias item.alias) else None
 
--- a table of FROM behind those of these aliases
-abbrev pub item_fault : DatabaseState → List (List ℕ) → Item → Option BindFault
-item_fault database before item = option_or (table_fault item (table_number database item.table)) (alias_fault before item)
-
 -- the tables of FROM from left to right, behind those of these aliases
 abbrev pub from_fault : DatabaseState → List (List ℕ) → List Item → Option BindFault
 from_fault database before [] = None

@@ -5,35 +5,18 @@ use Rattle.std.specs.Option.{option_or}
 use Rattle.sql_values.specs.Limits.{max_axes}
 use Rattle.sql_values.specs.declared.limit.LimitName.TheVariants as limit
 use Rattle.query_block.specs.declared.condition.Condition.{Condition}
-use Rattle.query_block.specs.Conditions.{FilterTree, filter_tree, chain}
+use Rattle.query_block.specs.Conditions.{FilterTree, filter_tree}
 use Rattle.std.specs.declared.alloc.Global.{Global}
 use Rattle.std.specs.declared.vec.Vec.{Vec}
-use Rattle.sql_parse.specs.Trees.{ConditionTree, condition_tree, operands}
-use Rattle.sql_parse.specs.declared.tree.Cond.{Cond}
-use Rattle.sql_parse.specs.declared.tree.Term.{Term}
+use Rattle.sql_parse.specs.Trees.{ConditionTree}
 use Rattle.sql_bind.specs.declared.bound.Bound.{Bound}
-use Rattle.sql_bind.specs.declared.bound.Chain.{Chain}
-use Rattle.sql_bind.specs.declared.located.Listed.{Listed}
-use Rattle.query_block.specs.declared.kind.Kind.{Kind}
-use Rattle.sql_bind.specs.Located.{located, kinds_of}
 use Rattle.sql_bind.specs.declared.binding.Asked.{Asked}
 use Rattle.sql_bind.specs.declared.conjuncts.Parts.{Parts}
 use Rattle.sql_bind.specs.declared.fault.BindFault.{BindFault}
 use Rattle.sql_bind.specs.Named.{NamedTable}
-use Rattle.sql_bind.specs.Conjuncts.{Conjunct, bound_conditions, bound_tree, conjunct_of, reach_of_terms, reach_of_all}
+use Rattle.sql_bind.specs.Conjuncts.{Conjunct, bound_tree, conjunct_of}
 use Rattle.query_block.specs.Blocks.{RelationTree, has_parameter}
 use Rattle.sql_bind.specs.Binding.{edges_of, filter_of, relation_with, relations_from, conjuncts_in, parameter_kinds, condition_fault, past_limit}
-
--- the operands of a list, behind one of this kind
-pub record IsListed (tables : List NamedTable) (first : Option Kind) (terms : List Term) (listed : Listed) : Type 0 where
-  pub operands : listed.operands.items ≡ map (λ term. (located tables term).operand) terms
-  pub kinds : listed.kinds.items ≡ first ∷ kinds_of tables terms
-  pub reach : listed.reach ≡ reach_of_terms tables terms
-
--- the operands of a chain with their columns by number
-pub record IsChain (tables : List NamedTable) (parts : List Cond) (bound : Chain) : Type 0 where
-  pub conditions : chain (map filter_tree bound.conditions.items) ≡ bound_conditions tables (operands (map condition_tree parts))
-  pub reach : bound.reach ≡ reach_of_all tables (operands (map condition_tree parts))
 
 -- these conditions more are bound
 abbrev pub AddsBound : List NamedTable → List ConditionTree → (old new : List Bound) → Type 0
@@ -76,11 +59,9 @@ pub record IsAsked (tables : List NamedTable) (condition : Option ConditionTree)
   pub parts : HasParts (length tables) (conjuncts_in tables condition) asked.parts
   pub parameters : asked.parameters.items ≡ parameter_kinds tables condition
 
--- how many axes a block with these conjuncts has
-abbrev pub axes_with : List NamedTable → List Conjunct → ℕ
-axes_with tables conjuncts = length (edges_of conjuncts) + count_by has_parameter (relations_from conjuncts 0 tables)
-
 -- the condition of WHERE, and then how many axes it asks for
 abbrev pub where_fault : List NamedTable → Option ConditionTree → Option BindFault
 where_fault tables condition =
-    option_or (condition_fault tables condition) (past_limit limit.Axes max_axes (axes_with tables (conjuncts_in tables condition)))
+    let conjuncts = conjuncts_in tables condition in
+    let axes = length (edges_of conjuncts) + count_by has_parameter (relations_from conjuncts 0 tables) in
+    option_or (condition_fault tables condition) (past_limit limit.Axes max_axes axes)

@@ -90,9 +90,9 @@ negated_if true condition = bound.Not condition
 negated_if false condition = condition
 
 -- the test of a column; a name that isn't there passes none
-abbrev pub null_test : Option ColumnAt → FilterTree
-null_test None = bound.Or bound.NoMore
-null_test (Some place) = bound.IsNull place.column
+abbrev pub is_null_at : Option ColumnAt → FilterTree
+is_null_at None = bound.Or bound.NoMore
+is_null_at (Some place) = bound.IsNull place.column
 
 abbrev mutual
   -- a condition with its columns by number
@@ -102,7 +102,7 @@ abbrev mutual
       negated_if negated (bound.Between (located tables of).operand (located tables low).operand (located tables high).operand)
   bound_condition tables (OneOf negated of terms) =
       negated_if negated (bound.OneOf (located tables of).operand (map (λ term. (located tables term).operand) terms))
-  bound_condition tables (IsNull negated column) = negated_if negated (null_test (located tables (Column column)).place)
+  bound_condition tables (IsNull negated column) = negated_if negated (is_null_at (located tables (Column column)).place)
   bound_condition tables (Not inner) = bound.Not (bound_condition tables inner)
   bound_condition tables (And parts) = bound.And (bound_conditions tables parts)
   bound_condition tables (Or parts) = bound.Or (bound_conditions tables parts)

@@ -1,5 +1,5 @@
 -- The tables of FROM, and which of their columns a written column names.
-use Rattle.std.specs.Prelude.{ℕ, ◌+◌, Bool, true, List, [], ◌∷◌, ◌++◌, Option, Some, None, if◌then◌else◌}
+use Rattle.std.specs.Prelude.{ℕ, ◌+◌, Bool, true, List, [], ◌∷◌, ◌++◌, Option, Some, None, if◌then◌else◌, option_map, unwrap_or}
 use Rattle.std.specs.Option.{option_or}
 use Rattle.std.specs.Str.{bytes_eq}
 use Rattle.sql_values.specs.declared.column.ColumnDef.{ColumnDef}
@@ -29,13 +29,9 @@ places_from relation (table ∷ tables) written =
     (if may_name written.alias table then places_among relation 0 table.columns written.column else [])
     ++ places_from (relation + 1) tables written
 
-abbrev pub dotted : Option (List ℕ) → List ℕ → List ℕ
-dotted None name = name
-dotted (Some alias) name = alias ++ 46 ∷ name
-
 -- a column as it is written: its alias, if it has one, a dot, and its name
 abbrev pub written_name : ColRef → List ℕ
-written_name written = dotted written.alias written.column
+written_name written = unwrap_or (option_map (λ alias. alias ++ 46 ∷ []) written.alias) [] ++ written.column
 
 -- a written column names exactly one of these
 abbrev pub named_once : ColRef → List ColumnAt → Option BindFault

@@ -79,13 +79,9 @@ predicate_fault tables number predicate =
 abbrev pub predicates_fault : List NamedTable → ℕ → List ConditionTree → Option BindFault
 predicates_fault tables number predicates = first_fault_from (predicate_fault tables) number predicates
 
--- the kinds of a predicate's parameters, in written order
-abbrev pub predicate_parameters : List NamedTable → ConditionTree → List Kind
-predicate_parameters tables predicate = parameters_among (kinds_of tables (terms_of predicate))
-
 -- the kinds of the parameters of predicates, in written order
 abbrev pub parameters_of : List NamedTable → List ConditionTree → List Kind
-parameters_of tables predicates = flat_map (predicate_parameters tables) predicates
+parameters_of tables predicates = flat_map (λ predicate. parameters_among (kinds_of tables (terms_of predicate))) predicates
 
 -- these predicates were walked over
 pub record Walks (tables : List NamedTable) (predicates : List ConditionTree) (old new : Walk) : Type 0 where

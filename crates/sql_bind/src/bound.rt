@@ -1,10 +1,10 @@
 // Conditions with their columns by number: each predicate is checked, and each of its columns looked up, once.
-ghost use Rattle.std.specs.Prelude.{◌≡◌, ◌≤◌, ◌<◌, ◌+◌, ◌^◌, [], ◌∷◌, IfOk, IfErr, OnOk, length, None, false};
-ghost use Rattle.query_block.specs.Conditions.{filter_tree};
-ghost use Rattle.sql_parse.specs.Trees.{Between, Compare, IsNull, OneOf, condition_tree};
+ghost use Rattle.std.specs.Prelude.{◌≡◌, ◌≤◌, ◌<◌, ◌+◌, ◌^◌, [], ◌∷◌, IfOk, IfErr, OnOk, length, map, None, false};
+ghost use Rattle.query_block.specs.Conditions.{chain, filter_tree};
+ghost use Rattle.sql_parse.specs.Trees.{Between, Compare, IsNull, OneOf, condition_tree, operands};
 ghost use Rattle.sql_bind.specs.Predicates.{Walks, predicates, all_predicates, predicates_fault};
-ghost use Rattle.sql_bind.specs.Conjuncts.{all_conjuncts, bound_tree, conjunct_of, conjuncts, negated_if};
-ghost use Rattle.sql_bind.specs.Collected.{AddsBound, IsChain};
+ghost use Rattle.sql_bind.specs.Conjuncts.{all_conjuncts, bound_conditions, bound_tree, conjunct_of, conjuncts, negated_if, reach_of_all};
+ghost use Rattle.sql_bind.specs.Collected.{AddsBound};
 ghost use Rattle.sql_bind.specs.Refused.{RefusesBlock};
 
 use crate::conjuncts::equality_between;
@@ -220,7 +220,10 @@ fn bound_chain(scope: &Scope<'_>, parts: &[Cond], walk: &mut Walk) -> Result<Cha
         (predicates_fault scope.now walk.old.next (all_predicates parts.now)) result }
     ensures walks { OnOk result
         (Walks scope.now (all_predicates parts.now) walk.old walk.new) }
-    ensures bound { IfOk result (IsChain scope.now parts.now) }
+    ensures conditions { IfOk result (λ bound. chain (map filter_tree bound.conditions.items)
+        ≡ bound_conditions scope.now (operands (map condition_tree parts.now))) }
+    ensures reach { IfOk result (λ bound.
+        bound.reach ≡ reach_of_all scope.now (operands (map condition_tree parts.now))) }
 {
     let mut conditions = Vec::with_capacity(scope.alloc(), parts.len())?;
     let mut reach = Reach::Nothing;

@@ -1,9 +1,10 @@
 // The tables of FROM.
 ghost use Rattle.std.specs.Prelude.{◌≡◌, ◌≢◌, ◌≤◌, ◌<◌, [], All, IfOk, length, map};
+ghost use Rattle.std.specs.Option.{option_or};
 ghost use Rattle.sql_values.specs.Limits.{max_relations};
 ghost use Rattle.sql_values.specs.Dictionary.{has_text};
 ghost use Rattle.db_catalog.specs.Database.{table_number};
-ghost use Rattle.sql_bind.specs.Binding.{named_table, named_tables, past_limit, table_fault, item_fault, from_fault};
+ghost use Rattle.sql_bind.specs.Binding.{named_table, named_tables, past_limit, table_fault, alias_fault, from_fault};
 ghost use Rattle.sql_bind.specs.Named.{IsNamed};
 ghost use Rattle.sql_bind.specs.Refused.{RefusesAlways, RefusesBlock};
 
@@ -93,7 +94,8 @@ fn next_table<'q>(
     item: &'q Item,
 ) -> Result<NamedTable<'q>, BindFault>
     ensures refuses { RefusesBlock
-        (item_fault database.now (map (λ item. item.alias) before.now) item.now) result }
+        (option_or (table_fault item.now (table_number database.now item.now.table))
+        (alias_fault (map (λ item. item.alias) before.now) item.now)) result }
     ensures table { IfOk result (λ table. table ≡ named_table database.now item.now) }
     ensures named { IfOk result IsNamed }
 {

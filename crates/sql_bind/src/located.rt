@@ -1,12 +1,12 @@
 // Operands with their columns looked up, each once.
-ghost use Rattle.std.specs.Prelude.{◌≡◌, IfOk, None};
+ghost use Rattle.std.specs.Prelude.{◌≡◌, ◌∷◌, IfOk, None, map};
 ghost use Rattle.query_block.specs.Blocks.{is_text};
 ghost use Rattle.sql_parse.specs.declared.tree.Term.TheVariants.{Column};
-ghost use Rattle.sql_bind.specs.Located.{kind_in, kind_if, located};
+ghost use Rattle.sql_bind.specs.Located.{kind_in, kind_if, kinds_of, located};
 ghost use Rattle.sql_bind.specs.Names.{written_column_fault};
 ghost use Rattle.sql_bind.specs.Predicates.{term_fault, terms_fault};
 ghost use Rattle.sql_bind.specs.Refused.{RefusesBlock};
-ghost use Rattle.sql_bind.specs.Collected.{IsListed};
+ghost use Rattle.sql_bind.specs.Conjuncts.{reach_of_terms};
 
 use crate::fault::BindFault;
 use crate::names::place_of;
@@ -113,7 +113,11 @@ pub(crate) fn locate_list(
     terms: &[Term],
 ) -> Result<Listed, BindFault>
     ensures refuses { RefusesBlock (terms_fault scope.now terms.now) result }
-    ensures listed { IfOk result (IsListed scope.now first terms.now) }
+    ensures operands { IfOk result (λ listed.
+        listed.operands.items ≡ map (λ term. (located scope.now term).operand) terms.now) }
+    ensures kinds { IfOk result (λ listed.
+        listed.kinds.items ≡ first ∷ kinds_of scope.now terms.now) }
+    ensures reach { IfOk result (λ listed. listed.reach ≡ reach_of_terms scope.now terms.now) }
 {
     let alloc = scope.alloc();
     let mut operands = Vec::with_capacity(alloc, terms.len())?;

@@ -1,5 +1,5 @@
-// The predicates of WHERE, in written order: their numbers, and the kinds of what they compare. A parameter has no kind of
-// its own, and is given that of its predicate.
+// The predicates of WHERE, in written order: their numbers, and the kinds of what they compare. A parameter has no kind
+// of its own, and is given that of its predicate.
 ghost use Rattle.std.specs.Prelude.{◌≡◌, ◌<◌, ◌+◌, ◌++◌, ◌^◌, OnOk};
 ghost use Rattle.sql_bind.specs.Located.{is_same_kind, first_kind, given_kind, given_kinds, parameters_among};
 ghost use Rattle.sql_bind.specs.Predicates.{own_fault, kinds_fault, alike_fault};

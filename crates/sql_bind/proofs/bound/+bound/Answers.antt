@@ -1,5 +1,5 @@
 use Rattle.std.proofs.Common.{◌≡◌, ◌∙◌, ◌+◌, ◌++◌, ◌∷◌, [], List, ap, drop, map, sym, take}
-use Rattle.std.proofs.lemmas.List.{at_drop_all, map-append, take_all}
+use Rattle.std.proofs.lemmas.List.{map-append, take_all}
 use Rattle.query_block.specs.Conditions.{FilterTree, chain, filter_tree}
 use Rattle.sql_parse.specs.declared.tree.Cond.{Cond}
 use Rattle.sql_parse.specs.Trees.{condition_tree, operands}
@@ -7,7 +7,7 @@ use Rattle.sql_bind.specs.Predicates.{all_predicates, predicates}
 use Rattle.sql_bind.specs.Conjuncts.{Conjunct, bound_condition, joined_reach, reach_of, reach_of_all}
 use Rattle.sql_bind.proofs.Chains.{bound-chain}
 use Rattle.sql_bind.proofs.Faults.{handed_on}
-use Rattle.sql_bind.proofs.Joined.{joined-nothing, parts-next}
+use Rattle.sql_bind.proofs.Joined.{parts-next}
 use Rattle.sql_bind.proofs.Tables.{items-next}
 use Rattle.sql_bind.proofs.Walked.{leads-at, led, led-refused}
 use Rattle.sql_bind.proofs.bound.+bound.Goals as goal
@@ -44,13 +44,9 @@ bound_chain-loop-i-preserved t c =
           ∙ ap (λ reach. joined_reach reach (reach_of_all tables (operands (map condition_tree left)))) (ap (joined_reach c.loop-i.reach) (sym is_reach) ∙ sym c.joined-reach.ensures),
     )
 
-pub bound_chain-returns-clause-bound : goal.bound_chain-returns-clause-bound
-bound_chain-returns-clause-bound t c =
+pub bound_chain-returns-clause-conditions : goal.bound_chain-returns-clause-conditions
+bound_chain-returns-clause-conditions t c =
     let tables = c.args.scope.now in
     let parts = c.args.parts.now in
     let all : List Cond → List FilterTree = λ some. map (λ part. bound_condition tables (condition_tree part)) some in
-    record {
-      conditions = ap chain (c.loop-i.invariant.1 ∙ ap all (take_all c.loop-i.i parts c.loop-i-test.false)) ∙ bound-chain tables parts;
-      reach = sym (c.loop-i.invariant.2 ∙ at_drop_all (λ some. joined_reach c.loop-i.reach (reach_of_all tables (operands (map condition_tree some)))) parts c.loop-i.i c.loop-i-test.false
-          ∙ joined-nothing c.loop-i.reach);
-    }
+    ap chain (c.loop-i.invariant.1 ∙ ap all (take_all c.loop-i.i parts c.loop-i-test.false)) ∙ bound-chain tables parts
