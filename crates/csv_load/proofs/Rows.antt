@@ -8,7 +8,7 @@ use Rattle.sql_values.specs.declared.column.ColumnDef.{ColumnDef}
 use Rattle.csv_load.specs.declared.fault.LoadFault.{LoadFault}
 use Rattle.csv_load.specs.declared.fault.LoadFault.TheVariants.{FieldCount}
 use Rattle.csv_load.specs.Field.{field_fault, field_value}
-use Rattle.csv_load.specs.Load.{Entry, first_fault, fields_fault, entry_fault, entries_fault, entry_row}
+use Rattle.csv_load.specs.Load.{Entry, first_fault, entry_fault, entries_fault, entry_row}
 use Rattle.csv_load.proofs.Headers.{drop-field_at, field_at-none}
 
 -- what is wrong with an entry's fields, of which the first is field i
@@ -23,7 +23,7 @@ entry_fault-other columns n fields other = rw (ne_eqb _ _ other) refl
 
 -- an entry of the right width
 pub entry_fault-from : (columns : List ColumnDef) (n : ℕ) (fields : Entry) → length fields ≡ length columns → entry_fault columns n fields ≡ fields_fault_from 1 n columns fields
-unfolding entry_fault fields_fault fields_fault_from
+unfolding entry_fault fields_fault_from
 entry_fault-from columns n fields same = rw (eq-eqb _ _ same) refl
 
 -- one field more

@@ -17,10 +17,6 @@ use Rattle.csv_load.specs.declared.fault.LoadFault.TheVariants.{NotUtf8, NotInte
 abbrev pub greatest_integer : ℕ
 greatest_integer = 9223372036854775807
 
--- an empty field stands for NULL
-abbrev pub is_empty_field : List ℕ → Bool
-is_empty_field field = length field == 0
-
 -- one digit or more
 abbrev pub are_digits : List ℕ → Bool
 are_digits text = nat_le 1 (length text) && all_ascii_digits text
@@ -49,13 +45,13 @@ text_fault place kind text =
 unfoldable pub field_fault : Place → ColumnDef → List ℕ → Option LoadFault
 field_fault place column field =
     let refused = fault_where column.not_null (NullInNotNull place.entry place.field) in
-    if is_empty_field field then refused else text_fault place column.kind field
+    if length field == 0 then refused else text_fault place column.kind field
 
 -- the value that a text is in a column of this kind
 abbrev pub kind_value : ColumnType → List ℕ → Value
 kind_value Integer text = value.Int (signed_digits_value 10 text)
 kind_value (Varchar _) text = value.Text text
 
--- the value of a field of a column
+-- the value of a field of a column: an empty one stands for NULL
 unfoldable pub field_value : ColumnDef → List ℕ → Value
-field_value column field = if is_empty_field field then value.Null else kind_value column.kind field
+field_value column field = if length field == 0 then value.Null else kind_value column.kind field

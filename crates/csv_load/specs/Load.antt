@@ -23,18 +23,14 @@ Entry = List (List ℕ)
 abbrev pub first_fault : {A : Type 0} → (A → Option LoadFault) → List A → Option LoadFault
 first_fault fault items = slice_get (filter_map fault items) 0
 
--- what is wrong with the fields of entry n, which is one for each column; they are numbered from 1
-unfoldable pub fields_fault : List ColumnDef → ℕ → Entry → Option LoadFault
-fields_fault columns n fields =
-    first_fault (λ f. field_fault (record { entry = n; field = f.0 }) f.1.0 f.1.1)
-    (enumerate_from 1 (zip columns fields))
-
--- what is wrong with entry n: how many fields it has, or one of them
+-- what is wrong with entry n: how many fields it has, or one of them, numbered from 1
 unfoldable pub entry_fault : List ColumnDef → ℕ → Entry → Option LoadFault
 entry_fault columns n fields =
     let found = length fields in
     let wanted = length columns in
-    if found == wanted then fields_fault columns n fields else Some (FieldCount n found wanted)
+    if found == wanted
+    then first_fault (λ f. field_fault (record { entry = n; field = f.0 }) f.1.0 f.1.1) (enumerate_from 1 (zip columns fields))
+    else Some (FieldCount n found wanted)
 
 -- what is wrong with the entries below a header, which are numbered from 1
 unfoldable pub entries_fault : List ColumnDef → List Entry → Option LoadFault
@@ -65,29 +61,19 @@ rows_unless (Some fault) rows = Err fault
 abbrev pub entries_of : List ℕ → List Entry
 entries_of bytes = records default_config (strip_bom bytes)
 
--- the rows of a file for these columns, or its first fault
-unfoldable pub load_of : List ColumnDef → List ℕ → Result (List ValueRow) LoadFault
-load_of columns bytes =
-    let entries = entries_of bytes in
-    rows_unless (file_fault columns entries) (file_rows columns entries)
-
 -- a limit of the database
 abbrev pub limit_of : DbFault → Option LoadFault
 limit_of (db.Limit name value) = Some (Limit name value)
 limit_of (db.Duplicate name) = None
 limit_of db.NoMemory = None
 
--- rows, unless a table of the database can't take them
-abbrev pub within_limits : DatabaseState → ℕ → Result (List ValueRow) LoadFault
-    → Result (List ValueRow) LoadFault
-within_limits database table (Ok rows) =
-    rows_unless (option_and_then limit_of (append_fault database table rows)) rows
-within_limits database table (Err fault) = Err fault
-
 -- the rows that a table gets from a file, or why not: the file's first fault, or else the first limit
 unfoldable pub load_due : DatabaseState → ℕ → List ℕ → Result (List ValueRow) LoadFault
 load_due database table bytes =
-    within_limits database table (load_of (table_at database table).columns bytes)
+    let columns = (table_at database table).columns in
+    let entries = entries_of bytes in
+    let rows = file_rows columns entries in
+    rows_unless (option_or (file_fault columns entries) (option_and_then limit_of (append_fault database table rows))) rows
 
 -- rows were appended to this table, and they are so many
 pub record Appends (table : ℕ) (old new : DatabaseState) (count : ℕ) (rows : List ValueRow)

@@ -152,7 +152,7 @@ fn append(db: &mut Database, table: u32, batch: Batch) -> Result<u64, LoadFault>
 /// The first entry and field that are faulty are named. An entry's count of fields is looked at before its fields, and a
 /// field may be: not UTF-8, no INTEGER, out of range, NULL where the column refuses it, too long. Limits of the database come
 /// when all entries are good.
-#[tactic(auto, unfolding(crate::specs::Load::load_of, crate::specs::Load::load_due))]
+#[tactic(auto, unfolding(crate::specs::Load::load_due))]
 pub fn load(alloc: Global, db: &mut Database, table: u32, bytes: &[u8]) -> Result<u64, LoadFault>
     requires { table < length db.old.tables }
     ensures { Loads table bytes.now db.old db.new result }
@@ -162,7 +162,7 @@ pub fn load(alloc: Global, db: &mut Database, table: u32, bytes: &[u8]) -> Resul
 }
 
 /// As `load`, of a file that is given up: its bytes are let go before the table takes memory for its rows.
-#[tactic(auto, unfolding(crate::specs::Load::load_of, crate::specs::Load::load_due))]
+#[tactic(auto, unfolding(crate::specs::Load::load_due))]
 pub fn load_file(
     alloc: Global,
     db: &mut Database,
