@@ -1,6 +1,7 @@
 -- What a bouquet answers.
 use Rattle.std.specs.Prelude.{ℕ, nat_le, true, List, Option, Some, None, if◌then◌else◌}
 use Rattle.sql_values.specs.declared.value.Value.{Value}
+use Rattle.sql_parse.specs.declared.tree.RunDef.{RunDef}
 use Rattle.query_block.specs.Blocks.{BlockTree, put_of}
 use Rattle.query_block.specs.Values.{value_fault}
 use Rattle.query_block.specs.declared.values.ValueFault.{ValueFault}
@@ -8,6 +9,7 @@ use Rattle.bouquet_type.specs.Trees.{BouquetTree}
 use Rattle.bouquet_type.specs.Runs.{run_end}
 use Rattle.bouquet_run.specs.Outcomes.{works_over}
 use Rattle.workspace.specs.declared.refusal.Refusal.TheVariants as refusal
+use Rattle.workspace.specs.Present.{at_present}
 use Rattle.workspace.specs.Outcome.{Outcome, Prints, Refuses}
 use Rattle.workspace.specs.World.{World}
 use Rattle.session.specs.Printed.{answer_text}
@@ -16,6 +18,13 @@ use Rattle.session.specs.Printed.{answer_text}
 abbrev pub unless_misfit : Option ValueFault → Outcome → Outcome
 unless_misfit (Some fault) due = Refuses (refusal.NotFitting fault)
 unless_misfit None due = due
+
+-- what comes of the bouquet of this name with the values of a use: its counts have to be those of the tables, and the values have to
+-- fit; then it is asked on its block with them in place of its parameters
+abbrev pub at_used : World → RunDef → (BouquetTree → BlockTree → Outcome) → Outcome
+at_used world run go =
+    at_present world run.name (λ bouquet.
+    unless_misfit (value_fault bouquet.costing.block.parameters run.values) (go bouquet (put_of run.values bouquet.costing.block)))
 
 -- the answer on a block, by a run of a bouquet: the block's rows and how the run ends, for the work of the whole run; where that
 -- is more than may be spent it is refused, when so much is spent
@@ -28,8 +37,3 @@ block_answer max_work world bouquet block =
 -- the answer of a bouquet with values that fit: that on its block with them in place of its parameters
 abbrev pub answer_with : (max_work : ℕ) → World → List Value → BouquetTree → Outcome
 answer_with max_work world values bouquet = block_answer max_work world bouquet (put_of values bouquet.costing.block)
-
--- the answer of a bouquet with values, unless they don't fit
-abbrev pub bouquet_answer : (max_work : ℕ) → World → List Value → BouquetTree → Outcome
-bouquet_answer max_work world values bouquet =
-    unless_misfit (value_fault bouquet.costing.block.parameters values) (answer_with max_work world values bouquet)

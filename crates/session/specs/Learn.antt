@@ -1,17 +1,14 @@
 -- What comes of LEARN.
-use Rattle.std.specs.Prelude.{ℕ, nat_le, false, List, if◌then◌else◌}
+use Rattle.std.specs.Prelude.{ℕ, nat_le, false, if◌then◌else◌}
 use Rattle.sql_parse.specs.declared.tree.RunDef.{RunDef}
-use Rattle.sql_values.specs.declared.value.Value.{Value}
-use Rattle.query_block.specs.Blocks.{BlockTree, put_of}
-use Rattle.query_block.specs.Values.{value_fault}
+use Rattle.query_block.specs.Blocks.{BlockTree}
 use Rattle.bouquet_type.specs.Trees.{BouquetTree}
 use Rattle.bouquet_run.specs.Outcomes.{works_over}
 use Rattle.learned_run.specs.Skips.{learned_end, skips_of}
 use Rattle.workspace.specs.Outcome.{Outcome, Prints, Refuses}
-use Rattle.workspace.specs.Present.{at_present}
 use Rattle.workspace.specs.World.{World}
 use Rattle.workspace.specs.declared.refusal.Refusal.TheVariants as refusal
-use Rattle.session.specs.Answered.{unless_misfit}
+use Rattle.session.specs.Answered.{at_used}
 use Rattle.session.specs.Printed.{learned_text}
 
 -- the answer on a block, by a run of a bouquet that learns: the block's rows, what the run skipped, and how it ends. It costs
@@ -23,15 +20,6 @@ learned_block_answer max_work world bouquet block =
     if nat_le end.total max_work then Prints (learned_text world.database bouquet block (skips_of bouquet work) end) 0 world
     else Refuses (refusal.PastWork max_work false)
 
--- the answer of a bouquet with values that fit: that on its block with them in place of its parameters
-abbrev pub learned_with : (max_work : ℕ) → World → List Value → BouquetTree → Outcome
-learned_with max_work world values bouquet = learned_block_answer max_work world bouquet (put_of values bouquet.costing.block)
-
--- the answer of a bouquet with values, unless they don't fit
-abbrev pub learned_answer : (max_work : ℕ) → World → List Value → BouquetTree → Outcome
-learned_answer max_work world values bouquet =
-    unless_misfit (value_fault bouquet.costing.block.parameters values) (learned_with max_work world values bouquet)
-
--- that of the bouquet of this name with the statement's values, whose counts have to be those of the tables
+-- that of the bouquet of this name with the statement's values
 abbrev pub learn_outcome : (max_work : ℕ) → World → RunDef → Outcome
-learn_outcome max_work world run = at_present world run.name (learned_answer max_work world run.values)
+learn_outcome max_work world run = at_used world run (learned_block_answer max_work world)

@@ -1,11 +1,9 @@
 -- What comes of TURNS.
 use Rattle.std.specs.Prelude.{ℕ, ◌-◌, ◌||◌, nat_eq, nat_lt, Bool, true, false, List, [], ◌∷◌, ◌++◌, length, map, option_map, Option, Some, None, if◌then◌else◌}
 use Rattle.std.specs.List.{flat_map, list_any}
-use Rattle.sql_values.specs.declared.value.Value.{Value}
 use Rattle.sql_parse.specs.declared.tree.RunDef.{RunDef}
 use Rattle.sql_parse.specs.declared.tree.TurnsDef.{TurnsDef}
-use Rattle.query_block.specs.Blocks.{put_of}
-use Rattle.query_block.specs.Values.{value_fault}
+use Rattle.query_block.specs.Blocks.{BlockTree}
 use Rattle.bouquet_type.specs.Trees.{BouquetTree}
 use Rattle.turns.specs.Standing.{JobTask, Standing, Runs, Ended, Past, Lost, fresh_job}
 use Rattle.turns.specs.Jobs.{JobTree}
@@ -13,30 +11,25 @@ use Rattle.turns.specs.Taking.{jobs_turned, numbers_to_end, turns_told}
 use Rattle.turns.specs.declared.turn.Turn.{Turn}
 use Rattle.workspace.specs.Compile.{unless_refused}
 use Rattle.workspace.specs.Outcome.{Outcome, Prints, Refuses}
-use Rattle.workspace.specs.Present.{at_present}
 use Rattle.workspace.specs.World.{World}
 use Rattle.workspace.specs.declared.refusal.Refusal.{Refusal}
 use Rattle.workspace.specs.declared.refusal.Refusal.TheVariants as refusal
-use Rattle.session.specs.Answered.{unless_misfit}
+use Rattle.session.specs.Answered.{at_used}
 use Rattle.session.specs.Printed.{job_text, turn_line}
 
 -- so many bouquets at the most take turns side by side
 abbrev pub max_jobs : ℕ
 max_jobs = 64
 
--- what is asked of the job of a bouquet, with values that fit
-abbrev pub task_with : (max_work : ℕ) → World → List Value → BouquetTree → JobTask
-task_with max_work world values bouquet =
-    record { database = world.database; bouquet = bouquet; block = put_of values bouquet.costing.block; most = max_work }
+-- what is asked of the job of a bouquet on a block
+abbrev pub task_on : (max_work : ℕ) → World → BouquetTree → BlockTree → JobTask
+task_on max_work world bouquet block = record { database = world.database; bouquet = bouquet; block = block; most = max_work }
 
--- what comes of the tasks of these bouquets, each of which has to be present, with values that fit it; the first for which that isn't
--- so refuses all
+-- what comes of the tasks of these bouquets; the first that can't be used with its values refuses all
 abbrev pub at_tasks : (max_work : ℕ) → World → List RunDef → (List JobTask → Outcome) → Outcome
 at_tasks max_work world [] go = go []
 at_tasks max_work world (run ∷ more) go =
-    at_present world run.name (λ bouquet.
-    unless_misfit (value_fault bouquet.costing.block.parameters run.values)
-    (at_tasks max_work world more (λ tasks. go (task_with max_work world run.values bouquet ∷ tasks))))
+    at_used world run (λ bouquet block. at_tasks max_work world more (λ tasks. go (task_on max_work world bouquet block ∷ tasks)))
 
 -- the first of some numbers that isn't one of so many jobs, from 1
 abbrev pub wrong_turn : (count : ℕ) → List ℕ → Option ℕ

@@ -1,6 +1,6 @@
 -- Bouquets that take turns, each with the block that is executed.
-use Rattle.std.specs.Prelude.{◌≡◌, ◌<◌, ◌≤◌, ℕ, ◌∷◌, All, List, IfSome, length, map}
-use Rattle.query_block.specs.Blocks.{IsPutOf, block_tree}
+use Rattle.std.specs.Prelude.{◌≡◌, ◌<◌, ◌≤◌, ℕ, All, List, IfSome, length, map}
+use Rattle.query_block.specs.Blocks.{BlockTree, IsPutOf, block_tree}
 use Rattle.sql_parse.specs.declared.tree.RunDef.{RunDef}
 use Rattle.db_catalog.specs.Database.{DatabaseState}
 use Rattle.db_catalog.specs.Fits.{Fits}
@@ -11,7 +11,8 @@ use Rattle.workspace.specs.Outcome.{Outcome}
 use Rattle.workspace.specs.Stop.{StopsAt}
 use Rattle.workspace.specs.World.{World, bouquet_in}
 use Rattle.workspace.specs.declared.stop.Stop.{Stop}
-use Rattle.session.specs.Bounds.{RunsWithinBound}
+use Rattle.session.specs.Answered.{at_used}
+use Rattle.session.specs.Bounds.{LearnsWithinBound, RunsWithinBound}
 use Rattle.session.specs.Turns.{at_tasks}
 use Rattle.session.specs.declared.uses.Used.{Used}
 
@@ -38,14 +39,14 @@ IsUsedWithin world run = IfSome (bouquet_in run.name world.bouquets) (RunsWithin
 
 -- it is the one of this name, present, with its values, which fit
 pub record IsUsedOf (world : World) (run : RunDef) (used : Used) : Type 0 where
-  pub due : (max_work : ℕ) (more : List RunDef) (go : List JobTask → Outcome)
-      → at_tasks max_work world (run ∷ more) go ≡ at_tasks max_work world more (λ tasks. go (task_of_use max_work world.database used ∷ tasks))
+  pub due : (go : BouquetTree → BlockTree → Outcome) → at_used world run go ≡ go (bouquet_tree used.bouquet.now) (block_tree used.block)
   pub usable : IsExecutable world.database used
   pub within : IsUsedWithin world run
+  pub learns : IfSome (bouquet_in run.name world.bouquets) (LearnsWithinBound world.database run.values)
 
--- there is none: whatever else is asked for stops so
+-- there is none: whatever is asked of it stops so
 abbrev pub RefusesUse : World → RunDef → Stop → Type 0
-RefusesUse world run why = (max_work : ℕ) (more : List RunDef) (go : List JobTask → Outcome) → StopsAt (at_tasks max_work world (run ∷ more) go) why
+RefusesUse world run why = (go : BouquetTree → BlockTree → Outcome) → StopsAt (at_used world run go) why
 
 -- they are those of these names; or there is a name without one
 pub record AreUsedOf (world : World) (runs : List RunDef) (all : List Used) : Type 0 where

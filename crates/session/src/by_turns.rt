@@ -6,7 +6,6 @@ ghost use Rattle.turns.specs.Jobs.{job_tree};
 ghost use Rattle.workspace.specs.Outcome.{RefusesFound};
 ghost use Rattle.workspace.specs.Returns.{ReturnsFree};
 ghost use Rattle.workspace.specs.States.{world_of};
-ghost use Rattle.workspace.specs.World.{World};
 ghost use Rattle.session.specs.Bounds.{IsAnsweredWithin};
 ghost use Rattle.session.specs.Turns.{fresh_jobs, is_past, jobs_refusal, max_jobs, numbers_from_0, turn_refusal, turns_answer, turns_outcome};
 ghost use Rattle.session.specs.Uses.{IsExecutable, task_of_use};
@@ -18,7 +17,7 @@ use db_catalog::Database;
 use sql_parse::TurnsDef;
 use std::alloc::{AllocError, Global};
 use turns::{Job, JobState, finish_turns, take_turns};
-use workspace::{Refusal, Stop};
+use workspace::{Refusal, Stop, Workspace};
 
 // So many bouquets at the most take turns side by side.
 const MAX_JOBS: usize = 64;
@@ -93,21 +92,22 @@ fn any_past(jobs: &[Job<'_>]) -> bool
 fn jobs_answer(
     alloc: Global,
     max_work: u64,
-    database: &Database,
+    workspace: &Workspace,
     all: &[Used<'_>],
     numbers: &[u32],
     jobs: &mut [Job<'_>],
 ) -> Result<Vec<u8>, Stop>
-    requires usable { All (IsExecutable database.now) all.now }
+    requires usable { All (IsExecutable workspace.now.database) all.now }
     requires few { length all.now ≤ max_jobs }
     requires fresh { map job_tree jobs.old
-        ≡ fresh_jobs (map (task_of_use max_work database.now) all.now) }
+        ≡ fresh_jobs (map (task_of_use max_work workspace.now.database) all.now) }
     requires there { All (λ number. number < length all.now) numbers.now }
-    ensures { (world : World) (by : List ℕ) → world.database ≡ database.now
-        → numbers.now ≡ numbers_from_0 by → ReturnsFree
-        (turns_answer max_work world by (map (task_of_use max_work world.database) all.now))
-        result world }
+    ensures { (by : List ℕ) → numbers.now ≡ numbers_from_0 by → ReturnsFree
+        (turns_answer max_work (world_of workspace.now) by
+        (map (task_of_use max_work workspace.now.database) all.now))
+        result (world_of workspace.now) }
 {
+    let database = workspace.database();
     let first = take_turns(alloc, jobs, numbers)?;
     let others = finish_turns(alloc, jobs)?;
     if any_past(jobs) {
@@ -124,20 +124,20 @@ fn jobs_answer(
 fn turns_answer(
     alloc: Global,
     max_work: u64,
-    database: &Database,
+    workspace: &Workspace,
     all: &[Used<'_>],
     by: &[u64],
 ) -> Result<Vec<u8>, Stop>
-    requires usable { All (IsExecutable database.now) all.now }
+    requires usable { All (IsExecutable workspace.now.database) all.now }
     requires few { length all.now ≤ max_jobs }
     requires right { turn_refusal (length all.now) by.now ≡ None }
-    ensures { (world : World) → world.database ≡ database.now → ReturnsFree
-        (turns_answer max_work world by.now (map (task_of_use max_work world.database) all.now))
-        result world }
+    ensures { ReturnsFree (turns_answer max_work (world_of workspace.now) by.now
+        (map (task_of_use max_work workspace.now.database) all.now))
+        result (world_of workspace.now) }
 {
     let numbers = numbers_from_0(alloc, all.len(), by)?;
-    let mut jobs = jobs_of(alloc, max_work, database, all)?;
-    jobs_answer(alloc, max_work, database, all, &numbers, &mut jobs)
+    let mut jobs = jobs_of(alloc, max_work, workspace.database(), all)?;
+    jobs_answer(alloc, max_work, workspace, all, &numbers, &mut jobs)
 }
 
 impl Session {
@@ -157,6 +157,6 @@ impl Session {
         check_jobs(runs.len())?;
         let all = self.all_used(alloc, runs)?;
         check_turns(runs.len(), by)?;
-        turns_answer(alloc, max_work, self.workspace.database(), &all, by)
+        turns_answer(alloc, max_work, &self.workspace, &all, by)
     }
 }

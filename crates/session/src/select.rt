@@ -39,6 +39,6 @@ impl Session {
         let costing = Costing::new(&block, &stats, &grid);
         let outlook = Outlook::new(alloc, &costing)?;
         let ladder = Lazy::new(&outlook, DEFAULT_THRESHOLD as u32);
-        block_answer(alloc, max_work, database, ladder, &block, book)
+        block_answer(alloc, max_work, &self.workspace, ladder, &block, book)
     }
 }

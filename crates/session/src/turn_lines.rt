@@ -14,7 +14,7 @@ use db_catalog::Database;
 use plan_tree::Plan;
 use std::alloc::{AllocError, Global};
 use turns::{Job, Turn};
-use workspace::{header_of, push_labelled, push_plan};
+use workspace::{push_labelled, push_plan};
 
 // The plan of the execution at this place of a bouquet's schedule, from 1.
 fn executed_plan(b: &Bouquet, place: u32) -> &Plan
@@ -88,8 +88,7 @@ fn push_answer(
         return Ok(());
     };
     let block = &used.block;
-    let names = header_of(alloc, database, block)?;
-    let answer = print_answer(alloc, database, block, &names, job.rows(), report)?;
+    let answer = print_answer(alloc, database, block, job.rows(), report)?;
     text.extend_from_slice(&answer)
 }
 

@@ -1,4 +1,5 @@
-// The bouquets of a statement that names several: each is looked up with its values before the next.
+// A bouquet with values: its counts are looked at, then whether the values fit, before a row is read. Of a statement that names
+// several each is looked up before the next.
 ghost use Rattle.std.specs.Prelude.{◌++◌, ◌∷◌, [], IfErr, IfOk, OnOk, ◌≡◌};
 ghost use Rattle.workspace.specs.States.{world_of};
 ghost use Rattle.session.specs.Uses.{AreUsedOf, IsUsedOf, RefusesUse, RefusesUses};
@@ -26,8 +27,8 @@ fn push_used<'s>(all: &mut Vec<Used<'s>>, used: Used<'s>) -> Result<(), AllocErr
 }
 
 impl Session {
-    // The bouquet of this name, whose counts are those of the tables, with the values of a use, which fit.
-    fn used(&self, alloc: Global, run: &RunDef) -> Result<Used<'_>, Stop>
+    /// The bouquet of this name, whose counts are those of the tables, with the values of a use, which fit.
+    pub(crate) fn used(&self, alloc: Global, run: &RunDef) -> Result<Used<'_>, Stop>
         ensures used { IfOk result (IsUsedOf (world_of self.now) run.now) }
         ensures refused { IfErr result (RefusesUse (world_of self.now) run.now) }
     {

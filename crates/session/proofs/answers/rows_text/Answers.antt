@@ -17,6 +17,7 @@ returns c =
     let words = c.args.rows.now.rows in
     let found : printed_rows c.texts.result.now block words ≡ printed_rows database.texts block words =
     ap (λ (texts : List (List ℕ)). printed_rows texts block words) c.texts.ensures.texts in
-    let printed_so : table_text c.args.names.now (printed_rows c.texts.result.now block words) ≡ printed (header_of database block) database.tables block =
-    (λ i. table_text (c.requires.names i) (found i)) ∙ printed_meaning database block words c.requires.rows (header_of database block) in
+    let named : c.deref.result.now ≡ header_of database block = c.deref.ensures.value ∙ c.in_ok-names.ensures in
+    let printed_so : table_text c.deref.result.now (printed_rows c.texts.result.now block words) ≡ printed (header_of database block) database.tables block =
+    (λ i. table_text (named i) (found i)) ∙ printed_meaning database block words c.requires.rows (header_of database block) in
     c.in_ok-text.ensures ∙ printed_so

@@ -1,24 +1,41 @@
--- Where the values fit, the answer is that with them.
-use Rattle.std.proofs.Common.{◌≡◌, Option, None, ap, subst, sym}
-use Rattle.query_block.specs.Values.{value_fault}
-use Rattle.query_block.specs.declared.values.ValueFault.{ValueFault}
+-- The space is wide enough, and what is printed is due.
+use Rattle.std.proofs.Common.{◌≡◌, ◌∙◌, ℕ, List, true, false, nat_le, sym, ap, if◌then◌else◌, arith, rules}
+use Rattle.std.proofs.lemmas.Bool.{le-leb}
+use Rattle.query_block.specs.Blocks.{block_tree}
+use Rattle.db_catalog.specs.Database.{DatabaseState}
+use Rattle.db_catalog.specs.Meter.{MeterState}
+use Rattle.bouquet_type.specs.Runs.{RunEnd}
+use Rattle.bouquet_type.specs.Reports.{told_end}
 use Rattle.bouquet_type.specs.Trees.{bouquet_tree}
-use Rattle.workspace.specs.Outcome.{Outcome}
-use Rattle.workspace.specs.Returns.{ReturnsFree}
-use Rattle.session.specs.Answered.{unless_misfit}
-use Rattle.session.specs.Learn.{learned_with}
-use Rattle.session.proofs.Misfits.{fitting}
+use Rattle.bouquet_type.proofs.Wide.{words_some}
+use Rattle.bouquet_run.specs.Outcomes.{works_over}
+use Rattle.learned_run.specs.Skips.{learned_end, skips_of}
+use Rattle.learned_run.specs.declared.learned.Skip.{Skip}
+use Rattle.workspace.specs.Outcome.{Outcome, Prints, Refuses}
+use Rattle.workspace.specs.States.{world_of}
+use Rattle.workspace.specs.World.{World}
+use Rattle.workspace.specs.declared.refusal.Refusal.TheVariants as refusal
+use Rattle.session.specs.Printed.{learned_text}
 use Rattle.session.proofs.learn.learned_answer.Goals as goal
 
-pub learned_with-requires-clause-values : goal.learned_with-requires-clause-values
-learned_with-requires-clause-values c =
-    fitting c.args.values.now c.args.bouquet.now.block c.block.result.now c.block.ensures.block c.in_ok-fits_values.field-0 c.in_ok-fits_values.ensures
+pub new-space-requires : goal.new-space-requires
+new-space-requires c = record {
+  some_words = omega (arith, c.width.ensures.width, words_some (block_tree c.args.used.now.block) c.relations-relations.ensures.block);
+  few_words = search rules;
+}
 
-pub returns-clause-due : goal.returns-clause-due
-returns-clause-due c = λ world is.
-    let values = c.args.values.now in
-    let bouquet = bouquet_tree c.args.bouquet.now in
-    let due : Option ValueFault → Outcome = λ found. unless_misfit found (learned_with c.args.max_work world values bouquet) in
-    let fit : value_fault bouquet.costing.block.parameters values ≡ None =
-    fitting values c.args.bouquet.now.block c.block.result.now c.block.ensures.block c.in_ok-fits_values.field-0 c.in_ok-fits_values.ensures in
-    subst (λ (due : Outcome). ReturnsFree due c.learned_with.result world) (sym (ap due fit)) (c.learned_with.ensures.due world is)
+pub returns-in-Ok : goal.returns-in-Ok
+returns-in-Ok c =
+    let world : World = world_of c.args.workspace.now in
+    let is : world.database ≡ c.database-database.result.now = sym c.database-database.ensures in
+    let whole = bouquet_tree c.args.used.now.bouquet.now in
+    let block = block_tree c.args.used.now.block in
+    let learned = c.in-Ok.learned in
+    let runs = c.in-Ok.ensures.answers.0 in
+    let due : DatabaseState → List Skip → RunEnd → Outcome = λ database skips end.
+    if nat_le end.total c.args.max_work then Prints (learned_text database whole block skips end) 0 world else Refuses (refusal.PastWork c.args.max_work false) in
+    let seen : world.database ≡ c.new-meter.result.database = is ∙ sym (ap (λ (meter : MeterState). meter.database) c.new-meter.ensures) in
+    let end : learned_end whole (works_over world.database block) ≡ told_end learned.report = ap (λ (database : DatabaseState). learned_end whole (works_over database block)) seen ∙ sym runs.end in
+    let skips : skips_of whole (works_over world.database block) ≡ learned.skips.items = ap (λ (database : DatabaseState). skips_of whole (works_over database block)) seen ∙ sym runs.skips in
+    let within : nat_le learned.report.work c.args.max_work ≡ true = le-leb _ _ runs.fits in
+    (λ i. due (is i) (skips i) (end i)) ∙ rw within (ap (λ (text : List ℕ). Prints text 0 world) (sym c.in_ok-print_learned-in-Ok.ensures))

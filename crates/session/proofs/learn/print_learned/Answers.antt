@@ -12,13 +12,13 @@ use Rattle.session.proofs.learn.print_learned.Goals as goal
 pub returns : goal.returns
 returns c =
     let database = c.args.database.now in
-    let block = block_tree c.args.block.now in
+    let block = block_tree c.args.used.now.block in
     let learned = c.args.learned.now in
     let rows = printed (header_of database block) database.tables block in
-    let skips = flat_map (skip_line (bouquet_tree c.args.bouquet.now)) learned.skips.items in
+    let skips = flat_map (skip_line (bouquet_tree c.args.used.now.bouquet.now)) learned.skips.items in
     let skipped : c.push_skips.new.text.items ≡ rows ++ skips =
     c.in_ok-push_skips.ensures
-    ∙ (λ i. c.in_ok-text.ensures i ++ flat_map (skip_line (bouquet_tree c.args.bouquet.now)) (c.as_slice.ensures.value i)) in
+    ∙ (λ i. c.in_ok-text.ensures i ++ flat_map (skip_line (bouquet_tree c.args.used.now.bouquet.now)) (c.as_slice.ensures.value i)) in
     c.in_ok-push_report.ensures
     ∙ (λ i. skipped i ++ report_line (c.requires.count i) (told_end learned.report))
     ∙ append_assoc rows skips (report_line _ (told_end learned.report))

@@ -10,7 +10,7 @@ use Rattle.workspace.specs.Outcome.{Outcome}
 use Rattle.workspace.specs.States.{world_of}
 use Rattle.workspace.specs.Stop.{StopsAt}
 use Rattle.workspace.specs.World.{World}
-use Rattle.session.specs.Turns.{at_tasks}
+use Rattle.session.specs.Turns.{at_tasks, task_on}
 use Rattle.session.specs.Uses.{IsExecutable, IsUsedWithin, task_of_use}
 use Rattle.session.specs.declared.uses.Used.{Used}
 use Rattle.session.proofs.session.Session.all_used.Goals as goal
@@ -34,7 +34,7 @@ returns-in_err-used-clause-refused c =
     let behind : List JobTask → Outcome = λ tasks. go (map (ask max_work) c.loop-run.all.items ++ tasks) in
     subst (λ due. StopsAt due c.in_err-used.field-0.0)
     (sym (c.loop-run.invariant.due max_work go ∙ ap (λ l. at_tasks max_work world l behind) left))
-    (c.in_err-used.ensures.refused max_work (drop (place + 1) runs) behind))
+    (c.in_err-used.ensures.refused (λ bouquet block. at_tasks max_work world (drop (place + 1) runs) (λ tasks. behind (task_on max_work world bouquet block ∷ tasks)))))
 
 pub loop-run-preserved : goal.loop-run-preserved
 loop-run-preserved c =
@@ -56,7 +56,7 @@ loop-run-preserved c =
       due = λ max_work go.
           c.loop-run.invariant.due max_work go
           ∙ ap (λ l. at_tasks max_work world l (λ tasks. go (map (ask max_work) all ++ tasks))) left
-          ∙ is.due max_work (drop (place + 1) runs) (λ tasks. go (map (ask max_work) all ++ tasks))
+          ∙ is.due (λ bouquet block. at_tasks max_work world (drop (place + 1) runs) (λ tasks. go (map (ask max_work) all ++ (task_on max_work world bouquet block ∷ tasks))))
           ∙ (λ i. at_tasks max_work world (drop (place + 1) runs) (λ tasks. go (one_more (ask max_work) all c.push_used.new.all.items used tasks pushed i)));
       count = omega (arith, ap (λ (l : List Used). length l) pushed, length-append all (used ∷ []), c.loop-run.invariant.count);
       usable = subst (All (IsExecutable world.database)) (sym pushed)

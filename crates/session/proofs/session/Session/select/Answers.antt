@@ -86,7 +86,7 @@ returns c =
     let made = ap (bouquet_over world.database None default_threshold) bound ∙ ap (compiled_over world.database None default_threshold block) sizes.unrefused in
     rw (← c.self.view_is, ← c.database-database.ensures) (record {
       due = λ file. rw due (subst (λ (bouquet : BouquetTree). ReturnsDue (block_answer c.args.max_work world bouquet block) c.block_answer.result world c.args.book.now c.block_answer.new.book)
-          whole (c.block_answer.ensures.due world refl));
+          whole (rw (← c.database-database.ensures) at c.block_answer.ensures.due));
       bounded = rw made (on-ok c.block_answer.result (sound, within world.database block is fit plans sound));
       pays = c.block_answer.ensures.pays;
     })

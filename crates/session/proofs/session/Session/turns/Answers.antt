@@ -67,7 +67,6 @@ returns-clause-due c =
     ∙ ap (λ runs. at_tasks max_work world runs go) (sym c.as_slice-runs.ensures)
     ∙ c.in_ok-all.ensures.used.due max_work go
     ∙ ap (λ found. unless_refused found (turns_answer max_work world turns.by (map ask all))) right in
-    let database : world.database ≡ c.database.result.now = ap (λ one. one.database) (sym c.self.view_is) ∙ sym c.database.ensures in
     let same : turns_answer max_work world c.as_slice-by.result.now (map ask c.deref.result.now) ≡ turns_outcome max_work world turns =
     (λ i. turns_answer max_work world (c.as_slice-by.ensures i) (map ask (c.deref.ensures.value i))) ∙ sym due in
-    subst (λ due. ReturnsFree due c.turns_answer.result world) same (c.turns_answer.ensures world database)
+    subst (λ due. ReturnsFree due c.turns_answer.result world) same (rw c.self.view_is at c.turns_answer.ensures)

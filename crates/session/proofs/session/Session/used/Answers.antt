@@ -1,5 +1,5 @@
 -- The bouquet isn't present, or its values don't fit, or it is used with them.
-use Rattle.std.proofs.Common.{◌≡◌, ◌∙◌, ℕ, List, ◌∷◌, Some, None, ap, subst, sym, refl}
+use Rattle.std.proofs.Common.{◌≡◌, ◌∙◌, Some, None, ap, subst, sym, refl}
 use Rattle.std.proofs.lemmas.Result.{err_from_is_err_and}
 use Rattle.query_block.specs.Blocks.{BlockTree, block_tree, put_of}
 use Rattle.query_block.specs.Values.{value_fault}
@@ -8,28 +8,25 @@ use Rattle.db_catalog.specs.Fits.{Fits}
 use Rattle.db_catalog.proofs.PutBlocks.{put-fits-tables}
 use Rattle.bouquet_type.specs.Trees.{BouquetTree, bouquet_tree}
 use Rattle.bouquet_type.proofs.CompiledSound.{are-sound}
-use Rattle.bouquet_type.proofs.Meets.{bouquet-bound}
+use Rattle.bouquet_type.proofs.Meets.{bouquet-bound, plans-of-bouquet}
 use Rattle.bouquet_run.specs.Outcomes.{works_over}
-use Rattle.turns.specs.Standing.{JobTask}
+use Rattle.learned_run.proofs.Unskipped.{learned-bound}
 use Rattle.workspace.specs.Outcome.{Outcome}
 use Rattle.workspace.specs.States.{world_of}
 use Rattle.workspace.specs.World.{World}
-use Rattle.session.specs.Bounds.{RunsWithinBound}
+use Rattle.session.specs.Bounds.{LearnsWithinBound, RunsWithinBound}
 use Rattle.session.specs.Answered.{unless_misfit}
-use Rattle.session.specs.Turns.{at_tasks, task_with}
 use Rattle.session.proofs.Misfits.{fitting, misfitting}
 use Rattle.session.proofs.session.Session.used.Goals as goal
 
 -- what is asked of a bouquet that is present
-abbrev asked : (max_work : ℕ) → World → RunDef → (more : List RunDef) → (List JobTask → Outcome) → BouquetTree → Outcome
-asked max_work world run more go bouquet =
-    unless_misfit (value_fault bouquet.costing.block.parameters run.values)
-    (at_tasks max_work world more (λ tasks. go (task_with max_work world run.values bouquet ∷ tasks)))
+abbrev asked : RunDef → (BouquetTree → BlockTree → Outcome) → BouquetTree → Outcome
+asked run go bouquet = unless_misfit (value_fault bouquet.costing.block.parameters run.values) (go bouquet (put_of run.values bouquet.costing.block))
 
 pub returns-in_err-bouquet-clause-refused : goal.returns-in_err-bouquet-clause-refused
 returns-in_err-bouquet-clause-refused c =
     let stop = err_from_is_err_and c.from_residual.result c.from_residual.ensures.1 in
-    rw (← c.self.view_is, stop.1, stop.2) (λ max_work more go. c.in_err-bouquet.ensures.refused (asked max_work (world_of c.self.inside.workspace) c.args.run.now more go))
+    rw (← c.self.view_is, stop.1, stop.2) (λ go. c.in_err-bouquet.ensures.refused (asked c.args.run.now go))
 
 pub returns-in_err-fits_values-clause-refused : goal.returns-in_err-fits_values-clause-refused
 returns-in_err-fits_values-clause-refused c =
@@ -41,9 +38,8 @@ returns-in_err-fits_values-clause-refused c =
     let misfit : value_fault bouquet.costing.block.parameters run.values ≡ Some fault =
     rw c.as_slice-values.ensures at (misfitting c.as_slice-values.result.now c.in_ok-bouquet.bouquet.now.block c.block.result.now c.block.ensures.block fault c.in_err-fits_values.ensures) in
     let stop = err_from_is_err_and c.from_residual-in_err-fits_values.result c.from_residual-in_err-fits_values.ensures.1 in
-    rw (← c.self.view_is, stop.1, stop.2) (λ max_work more go. (
-      present.due (asked max_work world run more go)
-          ∙ ap (λ found. unless_misfit found (at_tasks max_work world more (λ tasks. go (task_with max_work world run.values bouquet ∷ tasks)))) misfit,
+    rw (← c.self.view_is, stop.1, stop.2) (λ go. (
+      present.due (asked run go) ∙ ap (λ found. unless_misfit found (go bouquet (put_of run.values bouquet.costing.block))) misfit,
       refl,
     ))
 
@@ -59,21 +55,25 @@ returns-clause-used c =
     let block : BlockTree = block_tree c.in_ok-block.block in
     let put : block ≡ put_of run.values bouquet.costing.block =
     c.in_ok-block.ensures ∙ (λ i. put_of (c.as_slice-values.ensures i) (block_tree (c.block-2.ensures.block i))) in
-    let task : (max_work : ℕ) → BlockTree → JobTask = λ max_work b. record { database = world.database; bouquet = bouquet; block = b; most = max_work } in
     let work = works_over world.database (put_of run.values bouquet.costing.block) in
     let within : RunsWithinBound world.database run.values bouquet = record {
       counts = present.counts;
       bound = bouquet-bound shape c.block.ensures.bouquet work;
       sound = are-sound bouquet c.block.ensures.bouquet.costing;
     } in
+    let learns : LearnsWithinBound world.database run.values bouquet = record {
+      counts = present.counts;
+      bound = learned-bound bouquet work c.block.ensures.bouquet.costing (plans-of-bouquet shape c.block.ensures.bouquet);
+    } in
     rw (← c.self.view_is) (record {
-      due = λ max_work more go.
-          present.due (asked max_work world run more go)
-          ∙ ap (λ found. unless_misfit found (at_tasks max_work world more (λ tasks. go (task_with max_work world run.values bouquet ∷ tasks)))) fit
-          ∙ ap (λ b. at_tasks max_work world more (λ tasks. go (task max_work b ∷ tasks))) (sym put);
+      due = λ go.
+          present.due (asked run go)
+          ∙ ap (λ found. unless_misfit found (go bouquet (put_of run.values bouquet.costing.block))) fit
+          ∙ ap (go bouquet) (sym put);
       usable = record {
         put = record { values = run.values; fit = fit; is = put };
         fits = subst (Fits world.database) (sym put) (put-fits-tables world.database run.values bouquet.costing.block c.in_ok-bouquet.ensures.fits);
       };
       within = rw present.named within;
+      learns = rw present.named learns;
     })
