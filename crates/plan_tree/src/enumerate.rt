@@ -253,7 +253,8 @@ pub fn all_plans(alloc: Global, block: &Block, limit: u64) -> Result<Vec<Plan>, 
 
 /// The law of all plans: the list `plans_of` has each plan of a block once, and nothing else, in plan order.
 pub fn all_plans_are_listed()
-    ensures all { (block : BlockTree) (p : PlanTree) → Contains (plans_of block) p ↔ IsPlan block p }
+    ensures all { (block : BlockTree) (p : PlanTree) →
+        Contains (plans_of block) p ↔ IsPlan block p }
     ensures ascending { (block : BlockTree) →
         AllPairs (λ a b. plan_order_of a b ≡ Less) (plans_of block) }
 {}

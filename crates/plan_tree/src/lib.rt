@@ -2,8 +2,8 @@
 //! To the layers above it promises that `is_plan` finds exactly the plans of a block, whatever tree it is given, that
 //! `covers` is a plan's set of relations, that `plan_order` is a total order of plans, that `plan_text` is a plan's
 //! text, that `read_plan` reads exactly the texts of plans, and that `all_plans` lists each plan of a block once, in plan
-//! order. The definition of a plan's work on stored tables, as one sum, stands here too, and `work` has its lines: what each kind
-//! of node costs by itself, by numbers of rows.
+//! order. The definition of a plan's work on stored tables, as one sum, stands here too, and `work` has its lines: what
+//! each kind of node costs by itself, by numbers of rows.
 //! It never reads a table, and takes memory for texts, copies and plans that it reads or lists alone.
 #![tactic(auto)]
 

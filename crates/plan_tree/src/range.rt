@@ -159,7 +159,8 @@ fn by_compare(
     sides: (&Operand, &Operand),
     texts: &Texts,
 ) -> WordRange
-    ensures { NarrowsBy texts.now column range result (Compare op sides.entry.0.now sides.entry.1.now) }
+    ensures { NarrowsBy texts.now column range result
+        (Compare op sides.entry.0.now sides.entry.1.now) }
 {
     let (left, right) = sides;
     match left {

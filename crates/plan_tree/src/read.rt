@@ -243,7 +243,8 @@ fn plan_at<'s>(alloc: Global, levels: u8, bytes: &'s [u8]) -> Result<(Plan, &'s 
 
 // Whether nothing follows what was read, and it has at most six leaves.
 fn is_whole(p: &Plan, rest: &[u8]) -> bool
-    ensures { result ≡ (nat_eq (length rest.now) 0 && nat_le (length (leaves_of (plan_tree p.now))) 6) }
+    ensures { result
+        ≡ (nat_eq (length rest.now) 0 && nat_le (length (leaves_of (plan_tree p.now))) 6) }
 {
     rest.is_empty() && leaf_count(p) <= MOST_LEAVES
 }
