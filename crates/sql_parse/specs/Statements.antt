@@ -1,6 +1,6 @@
--- The statements of the language. Each has a production, in a file of its name: which tokens are written for it, how it
--- is read, and how it is printed. Here they are put together, with the statements that are a word and a name, or a word
--- and a bouquet with its values.
+-- The statements of the language. Each has a production, in a file of its name: which tokens are written for it, and how
+-- it is read. Here they are put together, with their canonical texts, and with the statements that are a word and a name,
+-- or a word and a bouquet with its values.
 pub mod Audit
 pub mod BouquetUse
 pub mod Compile
@@ -12,7 +12,7 @@ pub mod OpenFile
 pub mod SaveFile
 pub mod Turns
 pub mod Using
-use Rattle.std.specs.Prelude.{codes, ℕ, List, [], ◌∷◌, length, Option, Some, None, if◌then◌else◌, ◌==◌}
+use Rattle.std.specs.Prelude.{codes, ℕ, List, [], ◌∷◌, ◌++◌, length, Option, Some, None, if◌then◌else◌, ◌==◌}
 use Rattle.sql_parse.specs.declared.mark.Mark.{Mark}
 use Rattle.sql_parse.specs.declared.mark.Mark.TheVariants as m
 use Rattle.sql_parse.specs.Lexemes.{Lexeme, Word}
@@ -20,16 +20,18 @@ use Rattle.sql_parse.specs.Trees as tree
 use Rattle.sql_parse.specs.Trees.{StatementTree}
 use Rattle.sql_parse.specs.Grammar.{Rule, IsNameToken, After, IsSelect}
 use Rattle.sql_parse.specs.Reading.{after_word, Reader, ◌>>=◌, choose, after_mark, name_at, select_at}
-use Rattle.sql_parse.specs.Canonical.{Part, Keyword, Name, query_parts, parts_text}
-use Rattle.sql_parse.specs.Statements.Audit.{IsAudit, audit_at, audit_parts}
+use Rattle.sql_parse.specs.Canonical.{Part, Fixed, Keyword, Name, Text, listed, in_parentheses, query_parts, parts_text}
+use Rattle.sql_parse.specs.Statements.Audit.{IsAudit, audit_at}
 use Rattle.sql_parse.specs.Statements.BouquetUse.{IsBouquetUse, bouquet_use_at, bouquet_use_parts}
-use Rattle.sql_parse.specs.Statements.Compile.{IsCompile, compile_at, compile_parts}
-use Rattle.sql_parse.specs.Statements.CreateIndex.{IsCreateIndex, create_index_at, create_index_parts}
-use Rattle.sql_parse.specs.Statements.CreateTable.{IsCreateTable, create_table_at, create_table_parts}
-use Rattle.sql_parse.specs.Statements.Load.{IsLoad, load_at, load_parts}
-use Rattle.sql_parse.specs.Statements.OpenFile.{IsOpenFile, open_file_at, open_file_parts}
-use Rattle.sql_parse.specs.Statements.SaveFile.{IsSaveFile, save_file_at, save_file_parts}
-use Rattle.sql_parse.specs.Statements.Turns.{IsTurns, turns_at, turns_parts}
+use Rattle.sql_parse.specs.Statements.Compile.{IsCompile, compile_at, option_parts}
+use Rattle.sql_parse.specs.Statements.CreateIndex.{IsCreateIndex, create_index_at}
+use Rattle.sql_parse.specs.Statements.CreateTable.{IsCreateTable, create_table_at, definition_parts}
+use Rattle.sql_parse.specs.Statements.Load.{IsLoad, load_at}
+use Rattle.sql_parse.specs.Statements.Numbers.{numbers_parts}
+use Rattle.sql_parse.specs.Statements.OpenFile.{IsOpenFile, open_file_at}
+use Rattle.sql_parse.specs.Statements.SaveFile.{IsSaveFile, save_file_at}
+use Rattle.sql_parse.specs.Statements.Turns.{IsTurns, turns_at}
+use Rattle.sql_parse.specs.Statements.Using.{using_parts}
 
 -- a statement, by its form
 abbrev pub IsStatement : Rule StatementTree
@@ -93,19 +95,27 @@ statement_of tokens = do
 
 -- the parts of its canonical text
 abbrev pub statement_parts : StatementTree → List Part
-statement_parts (tree.CreateTable table) = create_table_parts table
-statement_parts (tree.CreateIndex index) = create_index_parts index
-statement_parts (tree.Load load) = load_parts load
+statement_parts (tree.CreateTable table) =
+    Keyword (codes "CREATE") ∷ Fixed m.Table ∷ Name table.name ∷ in_parentheses (listed definition_parts table.columns)
+statement_parts (tree.CreateIndex index) =
+    Keyword (codes "CREATE") ∷ Keyword (codes "INDEX") ∷ Name index.name ∷ Fixed m.On ∷ Name index.table
+    ∷ in_parentheses (Name index.column ∷ [])
+statement_parts (tree.Load load) = Keyword (codes "LOAD") ∷ Text load.file ∷ Fixed m.Into ∷ Name load.table ∷ []
 statement_parts (tree.Select query) = query_parts query
-statement_parts (tree.Compile name levels threshold query) = compile_parts name levels threshold query
+statement_parts (tree.Compile name levels threshold query) =
+    Keyword (codes "COMPILE") ∷ Name name
+    ∷ (option_parts (codes "LEVELS") levels ++ (option_parts (codes "THRESHOLD") threshold ++ Fixed m.As ∷ query_parts query))
 statement_parts (tree.Run run) = Keyword (codes "RUN") ∷ bouquet_use_parts run
 statement_parts (tree.Explain name) = Keyword (codes "EXPLAIN") ∷ Name name ∷ []
-statement_parts (tree.SaveFile save) = save_file_parts save
-statement_parts (tree.OpenFile name file query) = open_file_parts name file query
-statement_parts (tree.Audit audit) = audit_parts audit
+statement_parts (tree.SaveFile save) = Keyword (codes "SAVE") ∷ Name save.name ∷ Fixed m.To ∷ Text save.file ∷ []
+statement_parts (tree.OpenFile name file query) =
+    Keyword (codes "OPEN") ∷ Name name ∷ Fixed m.From ∷ Text file ∷ Fixed m.As ∷ query_parts query
+statement_parts (tree.Audit audit) =
+    Keyword (codes "AUDIT") ∷ Name audit.name ∷ (numbers_parts (codes "AT") audit.levels ++ using_parts audit.values)
 statement_parts (tree.Check name) = Keyword (codes "CHECK") ∷ Name name ∷ []
 statement_parts (tree.Learn run) = Keyword (codes "LEARN") ∷ bouquet_use_parts run
-statement_parts (tree.Turns turns) = turns_parts turns
+statement_parts (tree.Turns turns) =
+    Keyword (codes "TURNS") ∷ (listed bouquet_use_parts turns.uses ++ numbers_parts (codes "BY") turns.by)
 
 -- the canonical text of a statement
 abbrev pub canonical : StatementTree → List ℕ

@@ -3,7 +3,8 @@ use Rattle.std.proofs.Common.{codes, ◌≡◌, List, [], ◌∷◌, ◌++◌, S
 use Rattle.sql_parse.proofs.Productions.{Lexeme, Word, after_word, after_mark, name_at, statement_at, IsAfter, Reads, then_read, also, name-reads, tokens_of, tokens-append, IsPrintedBy, word-sound, EachSound, IsWritable, sound-front, writable-append, Holds, no_terms, hold-after}
 use Rattle.sql_parse.specs.declared.tree.AuditDef.{AuditDef}
 use Rattle.sql_parse.specs.Trees.{Audit}
-use Rattle.sql_parse.specs.Statements.Audit.{IsAudit, audit_at, audit_parts}
+use Rattle.sql_parse.specs.Statements.{statement_parts}
+use Rattle.sql_parse.specs.Statements.Audit.{IsAudit, audit_at}
 use Rattle.sql_parse.specs.Statements.Numbers.{numbers_parts}
 use Rattle.sql_parse.specs.Statements.Using.{using_parts}
 use Rattle.sql_parse.proofs.SoundForms.{sound-back}
@@ -27,7 +28,7 @@ audit-again tokens audit form =
     let levels = numbers-again (codes "AT") form.0 audit.levels form.1 form.4 (using-begins form.1 audit.values form.5) in
     rw (form.2, form.3, levels, using-again form.1 audit.values form.5) refl
 
-pub audit-printed : IsPrintedBy IsAudit audit_parts
+pub audit-printed : IsPrintedBy IsAudit (λ audit. statement_parts (Audit audit))
 audit-printed tokens audit form = (
   tokens_of (numbers_parts (codes "AT") audit.levels),
   tokens_of (using_parts audit.values),
@@ -37,7 +38,7 @@ audit-printed tokens audit form = (
   using-printed form.1 audit.values form.5,
 )
 
-pub audit-writable : IsWritable IsAudit audit_parts
+pub audit-writable : IsWritable IsAudit (λ audit. statement_parts (Audit audit))
 audit-writable tokens audit sound form =
     let all : EachSound (Word (codes "AUDIT") ∷ Word audit.name ∷ (form.0 ++ form.1)) = subst EachSound form.2 sound in (
       word-sound (codes "AUDIT") refl refl refl refl,

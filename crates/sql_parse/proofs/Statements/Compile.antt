@@ -5,7 +5,8 @@ use Rattle.sql_parse.specs.declared.mark.Mark.TheVariants as m
 use Rattle.sql_parse.specs.Trees.{QueryTree, Compile}
 use Rattle.sql_parse.specs.WellFormed.{IsWellFormedQuery}
 use Rattle.sql_parse.specs.Canonical.{Fixed, query_parts, canonical_query}
-use Rattle.sql_parse.specs.Statements.Compile.{option_of, IsCompile, option_at, compile_at, option_parts, compile_parts}
+use Rattle.sql_parse.specs.Statements.{statement_parts}
+use Rattle.sql_parse.specs.Statements.Compile.{option_of, IsCompile, option_at, compile_at, option_parts}
 use Rattle.sql_parse.proofs.SoundForms.{sound-back}
 use Rattle.sql_parse.proofs.Numbers.{numbers_in}
 use Rattle.sql_parse.proofs.Operands.{terms_of_condition, hold-after_mark, hold-append}
@@ -44,7 +45,7 @@ option-printed : (keyword : List ℕ) (number : Option ℕ) → tokens_of (optio
 option-printed keyword None = refl
 option-printed keyword (Some n) = refl
 
-pub compile-printed : (name : List ℕ) (levels threshold : Option ℕ) → IsPrintedBy (IsCompile name levels threshold) (compile_parts name levels threshold)
+pub compile-printed : (name : List ℕ) (levels threshold : Option ℕ) → IsPrintedBy (IsCompile name levels threshold) (λ query. statement_parts (Compile name levels threshold query))
 compile-printed name levels threshold tokens query form =
     let later = option_parts (codes "THRESHOLD") threshold ++ Fixed m.As ∷ query_parts query in (
       tokens_of (query_parts query),
@@ -64,7 +65,7 @@ threshold-writable : (number : Option ℕ) → EachSound (option_of (codes "THRE
 threshold-writable None sound = tt
 threshold-writable (Some n) sound = (word-sound (codes "THRESHOLD") refl refl refl refl, tt, (sound.1.0, tt, tt))
 
-pub compile-writable : (name : List ℕ) (levels threshold : Option ℕ) → IsWritable (IsCompile name levels threshold) (compile_parts name levels threshold)
+pub compile-writable : (name : List ℕ) (levels threshold : Option ℕ) → IsWritable (IsCompile name levels threshold) (λ query. statement_parts (Compile name levels threshold query))
 compile-writable name levels threshold tokens query sound form =
     let rest = option_of (codes "THRESHOLD") threshold ++ mark m.As ∷ form.0 in
     let all : EachSound (Word (codes "COMPILE") ∷ Word name ∷ (option_of (codes "LEVELS") levels ++ rest)) = subst EachSound form.1 sound in

@@ -5,7 +5,8 @@ use Rattle.sql_parse.specs.declared.mark.Mark.TheVariants as m
 use Rattle.sql_parse.specs.declared.tree.IndexDef.{IndexDef}
 use Rattle.sql_parse.specs.Trees.{CreateIndex}
 use Rattle.sql_parse.specs.Canonical.{Name}
-use Rattle.sql_parse.specs.Statements.CreateIndex.{IsCreateIndex, create_index_at, create_index_parts}
+use Rattle.sql_parse.specs.Statements.{statement_parts}
+use Rattle.sql_parse.specs.Statements.CreateIndex.{IsCreateIndex, create_index_at}
 use Rattle.sql_parse.proofs.SoundForms.{group-writable}
 
 pub create_index-reads : Reads (IsAfter (Word (codes "CREATE") ∷ Word (codes "INDEX") ∷ [])) create_index_at
@@ -32,10 +33,10 @@ pub create_index-again : (tokens : List Lexeme) (index : IndexDef) → IsCreateI
 unfolding statement_at after_mark after_word
 create_index-again tokens index form = rw form.0 (index-again index.name index.table index.column form.1 form.2 form.3)
 
-pub create_index-printed : IsPrintedBy IsCreateIndex create_index_parts
+pub create_index-printed : IsPrintedBy IsCreateIndex (λ index. statement_parts (CreateIndex index))
 create_index-printed tokens index form = (refl, form.1, form.2, form.3)
 
-pub create_index-writable : IsWritable IsCreateIndex create_index_parts
+pub create_index-writable : IsWritable IsCreateIndex (λ index. statement_parts (CreateIndex index))
 create_index-writable tokens index sound form =
     let all = subst EachSound form.0 sound in
     (word-sound (codes "CREATE") refl refl refl refl, tt, (word-sound (codes "INDEX") refl refl refl refl, tt, (all.1.1.0, tt, (mark-sound m.On, tt, (all.1.1.1.1.0, tt, group-writable (Name index.column ∷ []) (all.1.1.1.1.1.1.0, tt, tt))))))

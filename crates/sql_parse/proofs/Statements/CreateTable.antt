@@ -9,7 +9,8 @@ use Rattle.sql_parse.specs.declared.tree.TableDef.{TableDef}
 use Rattle.sql_parse.specs.Trees.{CreateTable}
 use Rattle.sql_parse.specs.Grammar.{InParentheses, written_if}
 use Rattle.sql_parse.specs.Canonical.{listed, in_parentheses, kept_if}
-use Rattle.sql_parse.specs.Statements.CreateTable.{IsColumnType, IsColumn, IsCreateTable, varchar_at, column_type_at, column_at, create_table_at, type_parts, definition_parts, create_table_parts}
+use Rattle.sql_parse.specs.Statements.{statement_parts}
+use Rattle.sql_parse.specs.Statements.CreateTable.{IsColumnType, IsColumn, IsCreateTable, varchar_at, column_type_at, column_at, create_table_at, type_parts, definition_parts}
 use Rattle.sql_parse.proofs.Read.{either_after}
 use Rattle.sql_parse.proofs.Again.{in_parentheses-again}
 use Rattle.sql_parse.proofs.PrintedForms.{kept-printed, in_parentheses-printed}
@@ -105,7 +106,7 @@ definition-printed tokens column form = (
   type-printed form.0 column.kind form.3,
 )
 
-pub create_table-printed : IsPrintedBy IsCreateTable create_table_parts
+pub create_table-printed : IsPrintedBy IsCreateTable (λ table. statement_parts (CreateTable table))
 create_table-printed tokens table form = (
   tokens_of (in_parentheses (listed definition_parts table.columns)),
   refl,
@@ -133,7 +134,7 @@ definition-writable tokens column sound form =
           (type-writable form.0 column.kind (sound-front form.0 nulls all.1) form.3) (nulls-writable column.not_null),
     )
 
-pub create_table-writable : IsWritable IsCreateTable create_table_parts
+pub create_table-writable : IsWritable IsCreateTable (λ table. statement_parts (CreateTable table))
 create_table-writable tokens table sound form =
     let all : EachSound (Word (codes "CREATE") ∷ mark m.Table ∷ Word table.name ∷ form.0) = subst EachSound form.1 sound in (
       word-sound (codes "CREATE") refl refl refl refl,

@@ -4,7 +4,8 @@ use Rattle.sql_parse.proofs.Productions.{IsUtf8, Word, Lexeme, mark, after_word,
 use Rattle.sql_parse.specs.declared.mark.Mark.TheVariants as m
 use Rattle.sql_parse.specs.declared.tree.LoadDef.{LoadDef}
 use Rattle.sql_parse.specs.Trees.{Load}
-use Rattle.sql_parse.specs.Statements.Load.{IsLoad, load_at, load_parts}
+use Rattle.sql_parse.specs.Statements.{statement_parts}
+use Rattle.sql_parse.specs.Statements.Load.{IsLoad, load_at}
 
 pub load-reads : Reads (IsAfter (Word (codes "LOAD") ∷ [])) load_at
 unfolding load_at
@@ -20,10 +21,10 @@ pub load-again : (tokens : List Lexeme) (load : LoadDef) → IsLoad tokens load 
 unfolding statement_at load_at name_at text_token_at after_mark after_word
 load-again tokens load form = rw (form.0, form.1) refl
 
-pub load-printed : IsPrintedBy IsLoad load_parts
+pub load-printed : IsPrintedBy IsLoad (λ load. statement_parts (Load load))
 load-printed tokens load form = (refl, form.1)
 
-pub load-writable : IsWritable IsLoad load_parts
+pub load-writable : IsWritable IsLoad (λ load. statement_parts (Load load))
 load-writable tokens load sound form =
     let all = subst EachSound form.0 sound in
     (word-sound (codes "LOAD") refl refl refl refl, tt, (all.1.0, tt, (mark-sound m.Into, tt, (all.1.1.1.0, tt, tt))))

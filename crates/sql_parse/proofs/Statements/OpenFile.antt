@@ -6,7 +6,8 @@ use Rattle.sql_parse.specs.Lexemes.{Text as TextToken}
 use Rattle.sql_parse.specs.Trees.{QueryTree, OpenFile}
 use Rattle.sql_parse.specs.WellFormed.{IsWellFormedQuery}
 use Rattle.sql_parse.specs.Canonical.{query_parts, canonical_query}
-use Rattle.sql_parse.specs.Statements.OpenFile.{IsOpenFile, open_file_at, open_file_parts}
+use Rattle.sql_parse.specs.Statements.{statement_parts}
+use Rattle.sql_parse.specs.Statements.OpenFile.{IsOpenFile, open_file_at}
 use Rattle.sql_parse.proofs.Operands.{terms_of_condition, hold-after_mark}
 
 pub open_file-reads : Reads (IsAfter (Word (codes "OPEN") ∷ [])) open_file_at
@@ -29,10 +30,10 @@ pub open_file-again : (name file : List ℕ) (query : QueryTree) (tokens : List 
 unfolding statement_at open_file_at name_at text_token_at after_mark after_word
 open_file-again name file query tokens form = rw (form.1, form.2, select-again form.0 query form.3) refl
 
-pub open_file-printed : (name file : List ℕ) → IsPrintedBy (IsOpenFile name file) (open_file_parts name file)
+pub open_file-printed : (name file : List ℕ) → IsPrintedBy (IsOpenFile name file) (λ query. statement_parts (OpenFile name file query))
 open_file-printed name file tokens query form = (tokens_of (query_parts query), refl, form.2, select-printed form.0 query form.3)
 
-pub open_file-writable : (name file : List ℕ) → IsWritable (IsOpenFile name file) (open_file_parts name file)
+pub open_file-writable : (name file : List ℕ) → IsWritable (IsOpenFile name file) (λ query. statement_parts (OpenFile name file query))
 open_file-writable name file tokens query sound form =
     let all : EachSound (Word (codes "OPEN") ∷ Word name ∷ mark m.From ∷ TextToken file ∷ mark m.As ∷ form.0) = subst EachSound form.1 sound in
     (word-sound (codes "OPEN") refl refl refl refl, tt, (all.1.0, tt, (mark-sound m.From, tt, (all.1.1.1.0, tt, (mark-sound m.As, tt, select-writable form.0 query all.1.1.1.1.1 form.3)))))

@@ -4,7 +4,8 @@ use Rattle.sql_parse.proofs.Productions.{IsUtf8, Word, Lexeme, mark, after_word,
 use Rattle.sql_parse.specs.declared.mark.Mark.TheVariants as m
 use Rattle.sql_parse.specs.declared.tree.FileDef.{FileDef}
 use Rattle.sql_parse.specs.Trees.{SaveFile}
-use Rattle.sql_parse.specs.Statements.SaveFile.{IsSaveFile, save_file_at, save_file_parts}
+use Rattle.sql_parse.specs.Statements.{statement_parts}
+use Rattle.sql_parse.specs.Statements.SaveFile.{IsSaveFile, save_file_at}
 
 pub save_file-reads : Reads (IsAfter (Word (codes "SAVE") ∷ [])) save_file_at
 unfolding save_file_at
@@ -20,10 +21,10 @@ pub save_file-again : (tokens : List Lexeme) (save : FileDef) → IsSaveFile tok
 unfolding statement_at save_file_at name_at text_token_at after_mark after_word
 save_file-again tokens save form = rw (form.0, form.1) refl
 
-pub save_file-printed : IsPrintedBy IsSaveFile save_file_parts
+pub save_file-printed : IsPrintedBy IsSaveFile (λ save. statement_parts (SaveFile save))
 save_file-printed tokens save form = (refl, form.1)
 
-pub save_file-writable : IsWritable IsSaveFile save_file_parts
+pub save_file-writable : IsWritable IsSaveFile (λ save. statement_parts (SaveFile save))
 save_file-writable tokens save sound form =
     let all = subst EachSound form.0 sound in
     (word-sound (codes "SAVE") refl refl refl refl, tt, (all.1.0, tt, (mark-sound m.To, tt, (all.1.1.1.0, tt, tt))))

@@ -7,7 +7,8 @@ use Rattle.sql_parse.specs.Trees.{Turns}
 use Rattle.sql_parse.specs.Canonical.{listed}
 use Rattle.sql_parse.specs.Statements.BouquetUse.{IsBouquetUse, bouquet_use_at, bouquet_use_parts}
 use Rattle.sql_parse.specs.Statements.Numbers.{IsNumbers, numbers_at, numbers_parts}
-use Rattle.sql_parse.specs.Statements.Turns.{IsTurns, turns_at, turns_parts}
+use Rattle.sql_parse.specs.Statements.{statement_parts}
+use Rattle.sql_parse.specs.Statements.Turns.{IsTurns, turns_at}
 use Rattle.sql_parse.proofs.SoundForms.{sound-back}
 use Rattle.sql_parse.proofs.Operands.{hold-append, list-held}
 use Rattle.sql_parse.proofs.Statements.BouquetUse.{bouquet_use-reads, bouquet_use-read_again, bouquet_use-printed, bouquet_use-writable, bouquet_use-held}
@@ -40,7 +41,7 @@ turns-again tokens turns form =
     ap (numbers_at by) (sym (append-nil form.1)) ∙ numbers-again by form.1 turns.by [] form.4 (refl, refl) in
     rw (form.2, uses, numbers) refl
 
-pub turns-printed : IsPrintedBy IsTurns turns_parts
+pub turns-printed : IsPrintedBy IsTurns (λ turns. statement_parts (Turns turns))
 turns-printed tokens turns form = (
   tokens_of (listed bouquet_use_parts turns.uses),
   tokens_of (numbers_parts by turns.by),
@@ -49,7 +50,7 @@ turns-printed tokens turns form = (
   numbers-printed by form.1 turns.by form.4,
 )
 
-pub turns-writable : IsWritable IsTurns turns_parts
+pub turns-writable : IsWritable IsTurns (λ turns. statement_parts (Turns turns))
 turns-writable tokens turns sound form =
     let all : EachSound (Word (codes "TURNS") ∷ (form.0 ++ form.1)) = subst EachSound form.2 sound in (
       word-sound (codes "TURNS") refl refl refl refl,

@@ -1,10 +1,10 @@
 -- AUDIT.
 use Rattle.std.specs.Prelude.{codes, ◌≡◌, List, ◌∷◌, ◌++◌, Some}
-use Rattle.sql_parse.specs.Productions.{Lexeme, Word, Rule, IsName, Reader, ◌>>=◌, name_at, Keyword, Part, Name}
+use Rattle.sql_parse.specs.Productions.{Lexeme, Word, Rule, IsName, Reader, ◌>>=◌, name_at}
 use Rattle.sql_parse.specs.declared.tree.AuditDef.{AuditDef}
 use Rattle.sql_parse.specs.Trees.{StatementTree, Audit}
-use Rattle.sql_parse.specs.Statements.Numbers.{IsNumbers, numbers_at, numbers_parts}
-use Rattle.sql_parse.specs.Statements.Using.{IsUsing, using_at, using_parts}
+use Rattle.sql_parse.specs.Statements.Numbers.{IsNumbers, numbers_at}
+use Rattle.sql_parse.specs.Statements.Using.{IsUsing, using_at}
 
 -- AUDIT name [ AT number { "," number } ] [ USING "(" literal { "," literal } ")" ]
 abbrev pub IsAudit : Rule AuditDef
@@ -19,7 +19,3 @@ audit_at tokens = do
   levels ← numbers_at (codes "AT") name.1
   values ← using_at levels.1
   Some (Audit (record { name = name.0; levels = levels.0; values = values.0 }), values.1)
-
-abbrev pub audit_parts : AuditDef → List Part
-audit_parts audit =
-    Keyword (codes "AUDIT") ∷ Name audit.name ∷ (numbers_parts (codes "AT") audit.levels ++ using_parts audit.values)

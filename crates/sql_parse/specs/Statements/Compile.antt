@@ -1,6 +1,6 @@
 -- COMPILE.
 use Rattle.std.specs.Prelude.{codes, ℕ, ◌≡◌, List, [], ◌∷◌, ◌++◌, Some, Option, None}
-use Rattle.sql_parse.specs.Productions.{Lexeme, Word, mark, Rule, IsName, IsSelect, after_word, Reader, ◌>>=◌, choose, after_mark, name_at, number_at, select_at, Keyword, Part, Fixed, Name, Number, query_parts}
+use Rattle.sql_parse.specs.Productions.{Lexeme, Word, mark, Rule, IsName, IsSelect, after_word, Reader, ◌>>=◌, choose, after_mark, name_at, number_at, select_at, Keyword, Part, Number}
 use Rattle.sql_parse.specs.declared.mark.Mark.TheVariants as m
 use Rattle.sql_parse.specs.Lexemes.{Number as NumberToken}
 use Rattle.sql_parse.specs.Trees.{QueryTree, StatementTree, Compile}
@@ -42,8 +42,3 @@ compile_at tokens = do
 abbrev pub option_parts : (keyword : List ℕ) → Option ℕ → List Part
 option_parts keyword None = []
 option_parts keyword (Some n) = Keyword keyword ∷ Number n ∷ []
-
-abbrev pub compile_parts : (name : List ℕ) (levels threshold : Option ℕ) → QueryTree → List Part
-compile_parts name levels threshold query =
-    Keyword (codes "COMPILE") ∷ Name name
-    ∷ (option_parts (codes "LEVELS") levels ++ (option_parts (codes "THRESHOLD") threshold ++ Fixed m.As ∷ query_parts query))

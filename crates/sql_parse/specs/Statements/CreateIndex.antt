@@ -1,6 +1,6 @@
 -- CREATE INDEX.
-use Rattle.std.specs.Prelude.{codes, ◌≡◌, List, [], ◌∷◌, Some}
-use Rattle.sql_parse.specs.Productions.{Word, mark, Rule, IsName, Reader, ◌>>=◌, after_mark, name_at, in_parentheses_at, Keyword, Part, Fixed, Name, in_parentheses}
+use Rattle.std.specs.Prelude.{codes, ◌≡◌, [], ◌∷◌, Some}
+use Rattle.sql_parse.specs.Productions.{Word, mark, Rule, IsName, Reader, ◌>>=◌, after_mark, name_at, in_parentheses_at}
 use Rattle.sql_parse.specs.declared.mark.Mark.TheVariants as m
 use Rattle.sql_parse.specs.declared.tree.IndexDef.{IndexDef}
 use Rattle.sql_parse.specs.Trees.{StatementTree, CreateIndex}
@@ -23,8 +23,3 @@ create_index_at tokens = do
   table ← name_at rest
   column ← in_parentheses_at name_at table.1
   Some (CreateIndex (record { name = name.0; table = table.0; column = column.0 }), column.1)
-
-abbrev pub create_index_parts : IndexDef → List Part
-create_index_parts index =
-    Keyword (codes "CREATE") ∷ Keyword (codes "INDEX") ∷ Name index.name ∷ Fixed m.On ∷ Name index.table
-    ∷ in_parentheses (Name index.column ∷ [])

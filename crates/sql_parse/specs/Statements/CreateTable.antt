@@ -1,6 +1,6 @@
 -- CREATE TABLE.
 use Rattle.std.specs.Prelude.{codes, ◌≡◌, List, [], ◌∷◌, ◌++◌, Some, ◌⊎◌, true, false}
-use Rattle.sql_parse.specs.Productions.{Lexeme, Word, mark, Rule, IsName, Separated, Reader, ◌>>=◌, choose, after_mark, name_at, number_at, list_at, in_parentheses_at, Keyword, Part, Fixed, Name, Number, listed, in_parentheses}
+use Rattle.sql_parse.specs.Productions.{Lexeme, Word, mark, Rule, IsName, Separated, Reader, ◌>>=◌, choose, after_mark, name_at, number_at, list_at, in_parentheses_at, Part, Fixed, Name, Number, in_parentheses}
 use Rattle.sql_values.specs.declared.column.ColumnDef.{ColumnDef}
 use Rattle.sql_values.specs.declared.column.ColumnType.{ColumnType}
 use Rattle.sql_values.specs.declared.column.ColumnType.TheVariants as types
@@ -65,7 +65,3 @@ type_parts (types.Varchar n) = Fixed m.Varchar ∷ in_parentheses (Number n ∷ 
 abbrev pub definition_parts : ColumnDef → List Part
 definition_parts column =
     Name column.name ∷ (type_parts column.kind ++ kept_if column.not_null (m.Not ∷ m.Null ∷ []))
-
-abbrev pub create_table_parts : TableDef → List Part
-create_table_parts table =
-    Keyword (codes "CREATE") ∷ Fixed m.Table ∷ Name table.name ∷ in_parentheses (listed definition_parts table.columns)

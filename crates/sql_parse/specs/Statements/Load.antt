@@ -1,6 +1,6 @@
 -- LOAD.
-use Rattle.std.specs.Prelude.{codes, ◌≡◌, List, [], ◌∷◌, Some}
-use Rattle.sql_parse.specs.Productions.{Word, mark, Rule, IsName, Reader, ◌>>=◌, after_mark, name_at, text_token_at, Keyword, Part, Fixed, Name, Text}
+use Rattle.std.specs.Prelude.{codes, ◌≡◌, [], ◌∷◌, Some}
+use Rattle.sql_parse.specs.Productions.{Word, mark, Rule, IsName, Reader, ◌>>=◌, after_mark, name_at, text_token_at}
 use Rattle.sql_parse.specs.declared.mark.Mark.TheVariants as m
 use Rattle.sql_parse.specs.declared.tree.LoadDef.{LoadDef}
 use Rattle.sql_parse.specs.Lexemes.{Text as TextToken}
@@ -18,6 +18,3 @@ load_at tokens = do
   rest ← after_mark m.Into file.1
   table ← name_at rest
   Some (Load (record { file = file.0; table = table.0 }), table.1)
-
-abbrev pub load_parts : LoadDef → List Part
-load_parts load = Keyword (codes "LOAD") ∷ Text load.file ∷ Fixed m.Into ∷ Name load.table ∷ []

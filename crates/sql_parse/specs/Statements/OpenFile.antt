@@ -1,6 +1,6 @@
 -- OPEN.
 use Rattle.std.specs.Prelude.{codes, ℕ, ◌≡◌, List, ◌∷◌, Some}
-use Rattle.sql_parse.specs.Productions.{Lexeme, Word, mark, Rule, IsName, IsSelect, Reader, ◌>>=◌, after_mark, name_at, text_token_at, select_at, Keyword, Part, Fixed, Name, Text, query_parts}
+use Rattle.sql_parse.specs.Productions.{Lexeme, Word, mark, Rule, IsName, IsSelect, Reader, ◌>>=◌, after_mark, name_at, text_token_at, select_at}
 use Rattle.sql_parse.specs.declared.mark.Mark.TheVariants as m
 use Rattle.sql_parse.specs.Lexemes.{Text as TextToken}
 use Rattle.sql_parse.specs.Trees.{QueryTree, StatementTree, OpenFile}
@@ -21,7 +21,3 @@ open_file_at tokens = do
   later ← after_mark m.As file.1
   query ← select_at later
   Some (OpenFile name.0 file.0 query.0, query.1)
-
-abbrev pub open_file_parts : (name file : List ℕ) → QueryTree → List Part
-open_file_parts name file query =
-    Keyword (codes "OPEN") ∷ Name name ∷ Fixed m.From ∷ Text file ∷ Fixed m.As ∷ query_parts query

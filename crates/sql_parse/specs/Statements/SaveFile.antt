@@ -1,6 +1,6 @@
 -- SAVE.
-use Rattle.std.specs.Prelude.{codes, ◌≡◌, List, [], ◌∷◌, Some}
-use Rattle.sql_parse.specs.Productions.{Word, mark, Rule, IsName, Reader, ◌>>=◌, after_mark, name_at, text_token_at, Keyword, Part, Fixed, Name, Text}
+use Rattle.std.specs.Prelude.{codes, ◌≡◌, [], ◌∷◌, Some}
+use Rattle.sql_parse.specs.Productions.{Word, mark, Rule, IsName, Reader, ◌>>=◌, after_mark, name_at, text_token_at}
 use Rattle.sql_parse.specs.declared.mark.Mark.TheVariants as m
 use Rattle.sql_parse.specs.declared.tree.FileDef.{FileDef}
 use Rattle.sql_parse.specs.Lexemes.{Text as TextToken}
@@ -18,6 +18,3 @@ save_file_at tokens = do
   rest ← after_mark m.To name.1
   file ← text_token_at rest
   Some (SaveFile (record { name = name.0; file = file.0 }), file.1)
-
-abbrev pub save_file_parts : FileDef → List Part
-save_file_parts save = Keyword (codes "SAVE") ∷ Name save.name ∷ Fixed m.To ∷ Text save.file ∷ []

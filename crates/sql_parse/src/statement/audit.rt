@@ -1,8 +1,10 @@
 // AUDIT.
 
 ghost use Rattle.sql_parse.specs.Reading.{GivesStatement};
+ghost use Rattle.sql_parse.specs.Trees.{Audit};
+ghost use Rattle.sql_parse.specs.Statements.{statement_parts};
 ghost use Rattle.sql_parse.specs.Printing.{PutsParts};
-ghost use Rattle.sql_parse.specs.Statements.Audit.{audit_at, audit_parts};
+ghost use Rattle.sql_parse.specs.Statements.Audit.{audit_at};
 
 use super::numbers::{numbers, print_numbers};
 use super::using::{print_using, using};
@@ -34,7 +36,7 @@ pub(crate) fn audit<'s>(
 
 #[tactic(auto, using(crate::proofs::Written::of_lines))]
 pub(crate) fn print_audit(writer: &mut Writer, audit: &AuditDef) -> Result<(), AllocError>
-    ensures { PutsParts result writer.old writer.new (audit_parts audit.now) }
+    ensures { PutsParts result writer.old writer.new (statement_parts (Audit audit.now)) }
 {
     writer.keyword(b"AUDIT")?;
     writer.name(&audit.name)?;

@@ -1,8 +1,10 @@
 // CREATE INDEX.
 
 ghost use Rattle.sql_parse.specs.Reading.{GivesStatement};
+ghost use Rattle.sql_parse.specs.Trees.{CreateIndex};
+ghost use Rattle.sql_parse.specs.Statements.{statement_parts};
 ghost use Rattle.sql_parse.specs.Printing.{PutsParts};
-ghost use Rattle.sql_parse.specs.Statements.CreateIndex.{create_index_at, create_index_parts};
+ghost use Rattle.sql_parse.specs.Statements.CreateIndex.{create_index_at};
 
 use crate::fault::ReadFault;
 use crate::mark::Mark;
@@ -35,7 +37,7 @@ pub(crate) fn create_index<'s>(
 }
 
 pub(crate) fn print_create_index(writer: &mut Writer, index: &IndexDef) -> Result<(), AllocError>
-    ensures { PutsParts result writer.old writer.new (create_index_parts index.now) }
+    ensures { PutsParts result writer.old writer.new (statement_parts (CreateIndex index.now)) }
 {
     writer.keyword(b"CREATE")?;
     writer.keyword(b"INDEX")?;

@@ -1,8 +1,10 @@
 // CREATE TABLE.
 
 ghost use Rattle.sql_parse.specs.Reading.{GivesValue, GivesStatement};
+ghost use Rattle.sql_parse.specs.Trees.{CreateTable};
+ghost use Rattle.sql_parse.specs.Statements.{statement_parts};
 ghost use Rattle.sql_parse.specs.Printing.{PutsParts};
-ghost use Rattle.sql_parse.specs.Statements.CreateTable.{varchar_at, column_type_at, column_at, create_table_at, type_parts, definition_parts, create_table_parts};
+ghost use Rattle.sql_parse.specs.Statements.CreateTable.{varchar_at, column_type_at, column_at, create_table_at, type_parts, definition_parts};
 
 use crate::canonical::{Printed, print_in_parentheses};
 use crate::fault::ReadFault;
@@ -108,7 +110,7 @@ fn print_type(writer: &mut Writer, kind: ColumnType) -> Result<(), AllocError>
 
 #[tactic(auto, using(crate::proofs::Written::of_lines))]
 pub(crate) fn print_create_table(writer: &mut Writer, table: &TableDef) -> Result<(), AllocError>
-    ensures { PutsParts result writer.old writer.new (create_table_parts table.now) }
+    ensures { PutsParts result writer.old writer.new (statement_parts (CreateTable table.now)) }
 {
     writer.keyword(b"CREATE")?;
     writer.mark(Mark::Table)?;

@@ -1,8 +1,10 @@
 // LOAD.
 
 ghost use Rattle.sql_parse.specs.Reading.{GivesStatement};
+ghost use Rattle.sql_parse.specs.Trees.{Load};
+ghost use Rattle.sql_parse.specs.Statements.{statement_parts};
 ghost use Rattle.sql_parse.specs.Printing.{PutsParts};
-ghost use Rattle.sql_parse.specs.Statements.Load.{load_at, load_parts};
+ghost use Rattle.sql_parse.specs.Statements.Load.{load_at};
 
 use crate::fault::ReadFault;
 use crate::mark::Mark;
@@ -24,7 +26,7 @@ pub(crate) fn load<'s>(alloc: Global, piece: Piece<'s>) -> Result<(Statement, Pi
 }
 
 pub(crate) fn print_load(writer: &mut Writer, load: &LoadDef) -> Result<(), AllocError>
-    ensures { PutsParts result writer.old writer.new (load_parts load.now) }
+    ensures { PutsParts result writer.old writer.new (statement_parts (Load load.now)) }
 {
     writer.keyword(b"LOAD")?;
     writer.text(&load.file)?;

@@ -1,8 +1,10 @@
 // SAVE.
 
 ghost use Rattle.sql_parse.specs.Reading.{GivesStatement};
+ghost use Rattle.sql_parse.specs.Trees.{SaveFile};
+ghost use Rattle.sql_parse.specs.Statements.{statement_parts};
 ghost use Rattle.sql_parse.specs.Printing.{PutsParts};
-ghost use Rattle.sql_parse.specs.Statements.SaveFile.{save_file_at, save_file_parts};
+ghost use Rattle.sql_parse.specs.Statements.SaveFile.{save_file_at};
 
 use crate::fault::ReadFault;
 use crate::mark::Mark;
@@ -27,7 +29,7 @@ pub(crate) fn save_file<'s>(
 }
 
 pub(crate) fn print_save_file(writer: &mut Writer, save: &FileDef) -> Result<(), AllocError>
-    ensures { PutsParts result writer.old writer.new (save_file_parts save.now) }
+    ensures { PutsParts result writer.old writer.new (statement_parts (SaveFile save.now)) }
 {
     writer.keyword(b"SAVE")?;
     writer.name(&save.name)?;

@@ -1,8 +1,10 @@
 // TURNS.
 
 ghost use Rattle.sql_parse.specs.Reading.{GivesStatement};
+ghost use Rattle.sql_parse.specs.Trees.{Turns};
+ghost use Rattle.sql_parse.specs.Statements.{statement_parts};
 ghost use Rattle.sql_parse.specs.Printing.{PutsParts};
-ghost use Rattle.sql_parse.specs.Statements.Turns.{turns_at, turns_parts};
+ghost use Rattle.sql_parse.specs.Statements.Turns.{turns_at};
 
 use super::numbers::{numbers, print_numbers};
 use crate::canonical::print_list;
@@ -29,7 +31,7 @@ pub(crate) fn turns<'s>(
 
 #[tactic(auto, using(crate::proofs::Written::of_lines))]
 pub(crate) fn print_turns(writer: &mut Writer, turns: &TurnsDef) -> Result<(), AllocError>
-    ensures { PutsParts result writer.old writer.new (turns_parts turns.now) }
+    ensures { PutsParts result writer.old writer.new (statement_parts (Turns turns.now)) }
 {
     writer.keyword(b"TURNS")?;
     print_list(writer, turns.uses.as_slice())?;
