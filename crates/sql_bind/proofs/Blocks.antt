@@ -1,5 +1,5 @@
 -- A query that nothing refuses binds to a block of which holds what is always so of blocks.
-use Rattle.std.proofs.Common.{◌≡◌, ◌≢◌, ◌∙◌, ℕ, zero, suc, ◌+◌, ◌<◌, ◌≤◌, ◌^◌, Bool, true, false, nat_lt, ◌==◌, if◌then◌else◌, List, [], ◌∷◌, ◌++◌, length, map, filter, slice_index_or, All, IfSome, Option, Some, None, refl, sym, ap, subst, arith, append-nil, ltb-true, ltb-false, eqb-true, true≢false}
+use Rattle.std.proofs.Common.{◌≡◌, ◌≢◌, ◌∙◌, ℕ, zero, suc, ◌+◌, ◌<◌, ◌≤◌, ◌^◌, Bool, true, false, nat_lt, ◌==◌, if◌then◌else◌, List, [], ◌∷◌, ◌++◌, length, map, filter, slice_index_or, All, IfSome, Option, Some, None, refl, sym, ap, subst, arith, append-nil, ltb-true, ltb-false, eqb-true, true≢false, flat_map}
 use Rattle.std.specs.Prelude.{unwrap_or}
 use Rattle.std.specs.List.{AllByRecursion, cons_option, filter_map}
 use Rattle.std.specs.Option.{option_or}
@@ -33,7 +33,7 @@ use Rattle.sql_bind.specs.declared.reach.Reach.{Reach}
 use Rattle.sql_bind.specs.declared.reach.Reach.TheVariants.{Nothing, One, Several}
 use Rattle.sql_bind.specs.Named.{NamedTable, IsNamed}
 use Rattle.sql_bind.specs.Names.{may_name, places_among, places_from, named_once, the_one, written_column_fault, place_of, first_fault_from, written_columns_fault}
-use Rattle.sql_bind.specs.Located.{kind_in, kind_if, located, located_at, kinds_of, first_kind, given_kinds, parameters_among}
+use Rattle.sql_bind.specs.Located.{kind_in, kind_if, located, located_at, kinds_of, first_kind, given_kind, parameters_among}
 use Rattle.sql_bind.specs.Predicates.{predicates, predicates_of_all, term_fault, terms_fault, own_fault, kinds_fault, alike_fault, predicate_fault, predicates_fault, parameters_of}
 use Rattle.sql_bind.specs.Conjuncts.{Conjunct, conjuncts, conjuncts_of_all, conjunct_of, conjunct_fault, joined_reach, reach_at, reach_of_term, reach_of_terms, reach_of, reach_of_all, edge_between, equality_between, equality_of, is_filter_of, edge_in, negated_if, is_null_at, bound_condition, bound_conditions}
 use Rattle.sql_bind.specs.Binding.{named_table, named_tables, past_limit, from_fault, projection_fault, conjuncts_in, condition_fault, edges_of, filter_of, columns_from, every_column, projection_of, relations_from, parameter_kinds, block_of, bind_fault}
@@ -217,12 +217,12 @@ column-good tables number of (Some place) there none = (there, kind-is number of
 
 module _ (tables : List NamedTable) (parameters : List Kind) where
   terms-good : (number : ℕ) (of : Kind) (terms : List Term) → terms_fault tables terms ≡ None → kinds_fault number of (kinds_of tables terms) ≡ None → AreNotNull terms
-      → HaveKinds parameters (filter_map parameter_of terms) (given_kinds of (kinds_of tables terms)) → AllByRecursion (IsGood tables parameters of) terms
+      → HaveKinds parameters (filter_map parameter_of terms) (flat_map (given_kind of) (kinds_of tables terms)) → AllByRecursion (IsGood tables parameters of) terms
   terms-good number of [] none alike null have = tt
   terms-good number of (term.Column written ∷ terms) none alike null have =
       let columns = neither (term_fault tables (term.Column written)) (terms_fault tables terms) none in
       let own = neither (own_fault number of (located tables (term.Column written)).kind) (kinds_fault number of (kinds_of tables terms)) alike in
-      let kinds = given_kinds of (kinds_of tables terms) in (
+      let kinds = flat_map (given_kind of) (kinds_of tables terms) in (
         column-good tables number of (place_of tables written) (column-there tables written columns.0) own.0,
         terms-good number of terms columns.1 own.1 null.1
             (subst (HaveKinds parameters (filter_map parameter_of terms)) (column-count tables of (place_of tables written) kinds) have),
@@ -241,7 +241,7 @@ module _ (tables : List NamedTable) (parameters : List Kind) where
       by (first_kind kinds) both.0 both.1 (subst (HaveKinds parameters (filter_map parameter_of terms)) (append-nil (parameters_among kinds)) have)
     where
       by : (of : Option Kind) → terms_fault tables terms ≡ None → alike_fault number of (kinds_of tables terms) ≡ None
-          → HaveKinds parameters (filter_map parameter_of terms) (given_kinds (unwrap_or of kind.Integer) (kinds_of tables terms)) → AreGood tables parameters terms
+          → HaveKinds parameters (filter_map parameter_of terms) (flat_map (given_kind (unwrap_or of kind.Integer)) (kinds_of tables terms)) → AreGood tables parameters terms
       by None columns alike have = cc
       by (Some of) columns alike have = record { of = of; all = terms-good number of terms columns alike null have }
 

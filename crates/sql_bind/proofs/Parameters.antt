@@ -1,5 +1,5 @@
 -- A condition has a kind for each of its parameters, at the place of its number.
-use Rattle.std.proofs.Common.{◌≡◌, ◌∙◌, ℕ, ◌+◌, ◌<◌, List, [], ◌∷◌, ◌++◌, Option, Some, None, length, drop, get_or, slice_index_or, refl, sym, ap, subst, arith, append-nil, length-append}
+use Rattle.std.proofs.Common.{◌≡◌, ◌∙◌, ℕ, ◌+◌, ◌<◌, List, [], ◌∷◌, ◌++◌, Option, Some, None, length, drop, get_or, slice_index_or, refl, sym, ap, subst, arith, append-nil, length-append, flat_map}
 use Rattle.std.specs.List.{filter_map}
 use Rattle.std.specs.Prelude.{unwrap_or}
 use Rattle.std.proofs.lemmas.List.{at_drop_more}
@@ -13,7 +13,7 @@ use Rattle.sql_parse.specs.Parameters.{parameter_of, parameters_in, parameters_i
 use Rattle.sql_bind.specs.Named.{NamedTable}
 use Rattle.query_block.specs.declared.edge.ColumnAt.{ColumnAt}
 use Rattle.sql_bind.specs.Names.{place_of}
-use Rattle.sql_bind.specs.Located.{located_at, kinds_of, first_kind, given_kind, given_kinds, parameters_among}
+use Rattle.sql_bind.specs.Located.{located_at, kinds_of, first_kind, given_kind, parameters_among}
 use Rattle.sql_bind.specs.Predicates.{predicates, predicates_of_all, terms_of, parameters_of}
 use Rattle.sql_bind.specs.Binding.{parameter_kinds}
 
@@ -22,10 +22,10 @@ pub column-count : (tables : List NamedTable) (of : Kind) (place : Option Column
 column-count tables of None kinds = refl
 column-count tables of (Some place) kinds = refl
 
-given-count : (tables : List NamedTable) (of : Kind) (terms : List Term) → length (given_kinds of (kinds_of tables terms)) ≡ length (filter_map parameter_of terms)
+given-count : (tables : List NamedTable) (of : Kind) (terms : List Term) → length (flat_map (given_kind of) (kinds_of tables terms)) ≡ length (filter_map parameter_of terms)
 given-count tables of [] = refl
 given-count tables of (term.Column written ∷ terms) =
-    ap length (column-count tables of (place_of tables written) (given_kinds of (kinds_of tables terms))) ∙ given-count tables of terms
+    ap length (column-count tables of (place_of tables written) (flat_map (given_kind of) (kinds_of tables terms))) ∙ given-count tables of terms
 given-count tables of (term.Literal literal ∷ terms) = given-count tables of terms
 given-count tables of (term.Parameter number ∷ terms) = omega (arith, given-count tables of terms)
 

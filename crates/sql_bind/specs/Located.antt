@@ -57,10 +57,6 @@ abbrev pub given_kind : Kind → Option Kind → List Kind
 given_kind kind None = kind ∷ []
 given_kind kind (Some own) = []
 
--- the kinds of the parameters among operands of a predicate of this kind, in written order
-abbrev pub given_kinds : Kind → List (Option Kind) → List Kind
-given_kinds kind kinds = flat_map (given_kind kind) kinds
-
 -- the kinds of the parameters among operands, in written order
 abbrev pub parameters_among : List (Option Kind) → List Kind
-parameters_among kinds = given_kinds (unwrap_or (first_kind kinds) kind.Integer) kinds
+parameters_among kinds = flat_map (given_kind (unwrap_or (first_kind kinds) kind.Integer)) kinds

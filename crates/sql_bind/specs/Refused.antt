@@ -1,5 +1,5 @@
 -- When a check refuses, what comes of a query, and what a look-up has found so far.
-use Rattle.std.specs.Prelude.{◌≡◌, ◌≢◌, List, fold, length, Option, Some, None, Result, Err, OnOk, IfOk, IfErr, IfSome, MatchResult}
+use Rattle.std.specs.Prelude.{◌≡◌, ◌≢◌, length, Option, Some, None, Result, Err, OnOk, IfOk, IfErr, IfSome, MatchResult}
 use Rattle.query_block.specs.Shape.{BlockShape}
 use Rattle.query_block.specs.declared.edge.ColumnAt.{ColumnAt}
 use Rattle.query_block.specs.Blocks.{block_tree}
@@ -35,7 +35,3 @@ pub record Binds (database : DatabaseState) (query : QueryTree) (result : Result
 abbrev pub added : Found → ColumnAt → Found
 added Nothing place = One place
 added other place = Several
-
--- what is found among these columns, where this was found before
-abbrev pub found_with : Found → List ColumnAt → Found
-found_with found places = fold added found places

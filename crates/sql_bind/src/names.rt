@@ -1,8 +1,8 @@
 // Written columns, and the columns of the tables of FROM that they name.
-ghost use Rattle.std.specs.Prelude.{◌≡◌, ◌≢◌, ◌≤◌, IfOk, Some, length};
+ghost use Rattle.std.specs.Prelude.{◌≡◌, ◌≢◌, ◌≤◌, IfOk, Some, length, fold};
 ghost use Rattle.sql_values.specs.Limits.{max_columns};
 ghost use Rattle.sql_bind.specs.Names.{places_among, places_from, place_of, written_column_fault, may_name, written_name};
-ghost use Rattle.sql_bind.specs.Refused.{RefusesBlock, added, found_with};
+ghost use Rattle.sql_bind.specs.Refused.{RefusesBlock, added};
 
 use crate::fault::BindFault;
 use crate::scope::{NamedTable, Scope};
@@ -34,7 +34,7 @@ impl Found {
 // What is found with the columns of this name of one relation.
 fn found_among(found: Found, relation: u8, columns: &[ColumnDef], name: &[u8]) -> Found
     requires { length columns.now ≤ max_columns }
-    ensures { result ≡ found_with found (places_among relation 0 columns.now name.now) }
+    ensures { result ≡ fold added found (places_among relation 0 columns.now name.now) }
 {
     let mut found = found;
     for number in 0..columns.len() {
@@ -58,7 +58,7 @@ fn may_name(written: &ColRef, table: &NamedTable<'_>) -> bool
 
 // The columns that a written column names.
 fn look_up(scope: &Scope<'_>, written: &ColRef) -> Found
-    ensures { result ≡ found_with Found.Nothing (places_from 0 scope.now written.now) }
+    ensures { result ≡ fold added Found.Nothing (places_from 0 scope.now written.now) }
 {
     let tables = scope.tables();
     let mut found = Found::Nothing;

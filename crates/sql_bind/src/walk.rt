@@ -1,7 +1,7 @@
 // The predicates of WHERE, in written order: their numbers, and the kinds of what they compare. A parameter has no kind
 // of its own, and is given that of its predicate.
-ghost use Rattle.std.specs.Prelude.{◌≡◌, ◌<◌, ◌+◌, ◌++◌, ◌^◌, OnOk};
-ghost use Rattle.sql_bind.specs.Located.{is_same_kind, first_kind, given_kind, given_kinds, parameters_among};
+ghost use Rattle.std.specs.Prelude.{◌≡◌, ◌<◌, ◌+◌, ◌++◌, ◌^◌, OnOk, flat_map};
+ghost use Rattle.sql_bind.specs.Located.{is_same_kind, first_kind, given_kind, parameters_among};
 ghost use Rattle.sql_bind.specs.Predicates.{own_fault, kinds_fault, alike_fault};
 ghost use Rattle.sql_bind.specs.Refused.{RefusesBlock};
 
@@ -80,7 +80,7 @@ fn check_kinds(
 ) -> Result<(), BindFault>
     ensures refuses { RefusesBlock (kinds_fault predicate kind kinds.now) result }
     ensures given { OnOk result
-        (parameters.new.items ≡ parameters.old.items ++ given_kinds kind kinds.now) }
+        (parameters.new.items ≡ parameters.old.items ++ flat_map (given_kind kind) kinds.now) }
 {
     for i in 0..kinds.len() {
         check_kind(kinds[i], kind, predicate, parameters)?;
