@@ -25,7 +25,7 @@ use Rattle.bouquet_type.specs.declared.report.RunFault.TheVariants.{WorkLimit, N
 use Rattle.bouquet_type.proofs.Bound.{bound}
 use Rattle.bouquet_run.specs.Coming.{Coming, Passes, Ends, GoesOn, TellsStep, coming}
 use Rattle.bouquet_run.specs.Outcomes.{works_over}
-use Rattle.bouquet_run.specs.Running.{IsRunning, RunState, Steps, run_from, run_state}
+use Rattle.bouquet_run.specs.Running.{IsUnderWay, RunState, Steps, run_from, run_state}
 use Rattle.bouquet_run.proofs.Onward.{LeadsOn, leads-on}
 
 -- a plan of a bouquet's block is one of the block with values put in
@@ -56,7 +56,7 @@ behind-none end =
 -- before the first execution
 pub begun : (bouquet : BouquetTree) (block : BlockTree) (most : ℕ) (ending : RunEnd) (first : MeterState) (empty : Space) (due : List Member) (schedule : ScheduleState)
     → ending ≡ end_of (works_over first.database block) due (final_plan bouquet) → first.account.spent ≡ 0 → empty.result.rows ≡ [] → IsWholeSchedule bouquet schedule
-    → IsRunning bouquet block most ending first empty due (record { schedule = schedule; meter = first; space = empty; runs = 0 })
+    → IsUnderWay bouquet block most ending first empty due (record { schedule = schedule; meter = first; space = empty; runs = 0 })
 begun bouquet block most ending first empty due schedule ends unspent rows whole =
     let work = works_over first.database block in
     let final = final_plan bouquet in
@@ -77,7 +77,7 @@ bounded bouquet work report plans end = subst (MeetsBound bouquet work) (sym (ap
 
 -- a run that ends so takes the next execution of its schedule, which is the first that is due
 module _ (bouquet : BouquetTree) (block : BlockTree) (most : ℕ) (ending : RunEnd) (first : MeterState) (empty : Space) (due : List Member) (old : RunState) (next : ScheduleState) (attempt : AttemptTree)
-    (is : IsRunning bouquet block most ending first empty due old) (takes : TakesNext old.schedule next) (at : attempt ≡ attempt_at next)
+    (is : IsUnderWay bouquet block most ending first empty due old) (takes : TakesNext old.schedule next) (at : attempt ≡ attempt_at next)
     (same : first_attempt (members_left old.schedule) (final_plan bouquet) ≡ first_attempt due (final_plan bouquet)) where
   abbrev work : PlanTree → ℕ
   work = works_over first.database block
@@ -160,7 +160,7 @@ keeps-on first old new before after = record {
 
 -- so a run does over an engine, which it keeps
 module _ (bouquet : BouquetTree) (ending : RunEnd) (first old new : Engine) (due : List Member) (schedule next : ScheduleState) (runs : ℕ) (attempt : AttemptTree)
-    (is : IsRunning bouquet (block_tree first.block.now) first.max_work ending first.meter.now first.space.now due (run_state schedule old runs)) (keeps : KeepsEngine first old)
+    (is : IsUnderWay bouquet (block_tree first.block.now) first.max_work ending first.meter.now first.space.now due (run_state schedule old runs)) (keeps : KeepsEngine first old)
     (takes : TakesNext schedule next) (at : attempt ≡ attempt_at next) where
   -- its plan may be executed, where there were no work rows
   pub may-execute : (plan : Plan) → IsPutOf bouquet.costing.block (block_tree first.block.now) → IsPlan next.ladder.whole.costing.block (plan_tree plan) → first.space.now.work.rows ≡ []

@@ -42,7 +42,7 @@ TellsExecution old new runs attempt told =
 
 -- a run that ends so began with this meter and these stacks, and these executions are due: those before weren't done and spent
 -- what the meter says, and no row stands on the stacks
-pub record IsRunning (bouquet : BouquetTree) (block : BlockTree) (most : ℕ) (ending : RunEnd) (first : MeterState) (empty : Space) (due : List Member) (run : RunState) : Type 0 where
+pub record IsUnderWay (bouquet : BouquetTree) (block : BlockTree) (most : ℕ) (ending : RunEnd) (first : MeterState) (empty : Space) (due : List Member) (run : RunState) : Type 0 where
   pub end : ending ≡ run_from (works_over first.database block) (final_plan bouquet) run.meter.account.spent run.runs due
   pub few : run.runs + length (members_left run.schedule) ≤ 2 ^ 19
   pub is : IsSchedule run.schedule
@@ -53,7 +53,7 @@ pub record IsRunning (bouquet : BouquetTree) (block : BlockTree) (most : ℕ) (e
 
 -- an execution more was made: it wasn't done, and the run goes on behind it; or the run is answered, or refused
 abbrev pub Steps : BouquetTree → BlockTree → (most : ℕ) → (ending : RunEnd) → (first : MeterState) → (empty : Space) → (due : List Member) → RunState → Result (Option Report) RunFault → Type 0
-Steps bouquet block most ending first empty due run (Ok None) = IsRunning bouquet block most ending first empty (members_behind due) run
+Steps bouquet block most ending first empty due run (Ok None) = IsUnderWay bouquet block most ending first empty (members_behind due) run
 Steps bouquet block most ending first empty due run (Ok (Some report)) =
     ReportsRun block first.database most ending run.meter.account.spent report × AreRowsOf first.database block run.space.result.rows
 Steps bouquet block most ending first empty due run (Err fault) =

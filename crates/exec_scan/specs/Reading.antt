@@ -69,9 +69,9 @@ kept_rows database own (way.Index reader) = filter (meets_filter own.filter) (wa
 
 -- the reader stands in its table, where the words of the rows that meet the filter may be known, or in its index, which leads
 -- to such words by itself
-abbrev pub IsReading : DatabaseState → RelationTree → Way → Type 0
-IsReading database own (way.Table table) = IsTableReader database table.reader × IsKnownOf database.texts own table.known
-IsReading database own (way.Index reader) = IsReaderOf database reader
+abbrev pub IsWayIn : DatabaseState → RelationTree → Way → Type 0
+IsWayIn database own (way.Table table) = IsTableReader database table.reader × IsKnownOf database.texts own table.known
+IsWayIn database own (way.Index reader) = IsReaderOf database reader
 
 -- a relation of a block, whose table is in the database and whose filter has no parameter
 pub record IsRelationIn (database : DatabaseState) (own : RelationTree) : Type 0 where
@@ -82,7 +82,7 @@ pub record IsRelationIn (database : DatabaseState) (own : RelationTree) : Type 0
 pub record IsWayTo (database : DatabaseState) (own : RelationTree) (way : Way) : Type 0 where
   pub relation : IsRelationIn database own
   pub table : table_of way ≡ own.table
-  pub reading : IsReading database own way
+  pub reading : IsWayIn database own way
 
 -- the words are those of the first of these rows, which then isn't one of them
 pub record IsFirstRow (texts : List (List ℕ)) (own : RelationTree) (old new : List ValueRow) (words : List ℤ) : Type 0 where

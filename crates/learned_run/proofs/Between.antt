@@ -29,7 +29,7 @@ use Rattle.bouquet_type.specs.declared.report.Report.{Report}
 use Rattle.bouquet_type.specs.declared.report.RunFault.{RunFault}
 use Rattle.bouquet_run.specs.Coming.{is_done}
 use Rattle.bouquet_run.specs.Outcomes.{works_over}
-use Rattle.bouquet_run.specs.Running.{IsRunning, Steps, run_from, run_state}
+use Rattle.bouquet_run.specs.Running.{IsUnderWay, Steps, run_from, run_state}
 use Rattle.bouquet_run.proofs.Stepping.{EngineTells, begun, engine-steps, engine-tells}
 use Rattle.learned_run.specs.declared.learned.Skip.{Skip}
 use Rattle.learned_run.specs.declared.lesson.Lesson.{Lesson}
@@ -59,7 +59,7 @@ works_of first = works_over first.meter.now.database (block_tree first.block.now
 pub record IsLearning (bouquet : BouquetTree) (first engine : Engine) (schedule : ScheduleState) (runs : ℕ) (skips : List Skip) (lesson : Lesson) : Type 0 where
   pub exhausted : List Member
   pub learned : IsLearned bouquet.costing exhausted lesson.some lesson.least
-  pub running : IsRunning bouquet (block_tree first.block.now) first.max_work (learned_end bouquet (works_of first)) first.meter.now first.space.now
+  pub running : IsUnderWay bouquet (block_tree first.block.now) first.max_work (learned_end bouquet (works_of first)) first.meter.now first.space.now
       (due_among bouquet exhausted (members_left schedule)) (run_state schedule engine runs)
   pub told : skips_of bouquet (works_of first) ≡ skips ++ skips_due bouquet (works_of first) exhausted (members_left schedule)
   pub exist : All (IsSkipOf bouquet) skips
@@ -324,7 +324,7 @@ module _ (bouquet : BouquetTree) (first old : Engine) (now next : ScheduleState)
           record {
             exhausted = more;
             learned = subst (λ (one : Bool). IsLearned costing more one after_it.least) (sym some) learned_more;
-            running = subst (λ (members : List Member). IsRunning bouquet (block_tree first.block.now) first.max_work ending first.meter.now first.space.now members (run_state next new (runs + 1))) (so.due ∙ ap (due_among bouquet more) (sym takes.left)) on;
+            running = subst (λ (members : List Member). IsUnderWay bouquet (block_tree first.block.now) first.max_work ending first.meter.now first.space.now members (run_state next new (runs + 1))) (so.due ∙ ap (due_among bouquet more) (sym takes.left)) on;
             told = is.told ∙ ap (λ (others : List Skip). skips ++ others) (so.skips ∙ ap (skips_due bouquet work more) (sym takes.left));
             exist = is.exist;
             members = subst (All (IsMemberOf bouquet)) (sym takes.left) so.members;

@@ -8,7 +8,7 @@ use Rattle.bouquet_type.specs.Schedule.{final_plan}
 use Rattle.bouquet_type.specs.Cursor.{ScheduleState, IsWholeSchedule, members_left}
 use Rattle.bouquet_type.specs.Runs.{end_of, run_end}
 use Rattle.bouquet_run.specs.Outcomes.{works_over}
-use Rattle.bouquet_run.specs.Running.{IsRunning, RunState}
+use Rattle.bouquet_run.specs.Running.{IsUnderWay, RunState}
 use Rattle.bouquet_run.proofs.Stepping.{begun}
 use Rattle.turns.specs.Jobs.{IsJobOf, fresh_meter, fresh_space, task_at}
 use Rattle.turns.specs.declared.progress.Progress.TheVariants.{Running}
@@ -29,7 +29,7 @@ fresh database bouquet schedule block most put fits whole =
         within = omega arith;
         leaves = record { never_falls = omega arith; database = refl; work = record { rows = refl; width = refl; room = omega arith }; width = refl; room = omega arith };
       };
-      has_run = subst (λ (b : BouquetTree). IsRunning b block most (run_end b works) (fresh_meter database) (fresh_space (width_of block)) (members_left schedule) begins) bouquet_is
+      has_run = subst (λ (b : BouquetTree). IsUnderWay b block most (run_end b works) (fresh_meter database) (fresh_space (width_of block)) (members_left schedule) begins) bouquet_is
           (begun bouquet block most (run_end bouquet works) (fresh_meter database) (fresh_space (width_of block)) (members_left schedule) schedule
           (ap (λ left. end_of works left (final_plan bouquet)) (sym whole.members)) refl refl whole);
     }

@@ -19,7 +19,7 @@ use Rattle.bouquet_type.specs.declared.report.RunFault.{RunFault}
 use Rattle.bouquet_type.specs.declared.report.RunFault.TheVariants.{WorkLimit, NoMemory}
 use Rattle.bouquet_run.specs.Coming.{Coming, TellsStep, coming}
 use Rattle.bouquet_run.specs.Outcomes.{AnswersRun, works_over}
-use Rattle.bouquet_run.specs.Running.{IsRunning, Steps}
+use Rattle.bouquet_run.specs.Running.{IsUnderWay, Steps}
 use Rattle.bouquet_run.proofs.Stepping.{bounded, plan-of-put, stays-on, steps}
 use Rattle.turns.specs.Standing.{JobTask}
 use Rattle.turns.specs.Jobs.{HasRun, IsJobOf, fresh_meter, fresh_space, progress_by, task_at}
@@ -58,7 +58,7 @@ module _ (meter : MeterState) (schedule : ScheduleState) (space : Space) (block 
 
     has-run : (made : Result (Option Report) RunFault) → Tells made → HasRun task after next last (progress_by made (place + 1))
     has-run (Ok None) tells =
-        subst (λ (members : List Member). IsRunning task.bouquet block most (run_end task.bouquet work) (fresh_meter meter.database) (fresh_space (width_of block)) members
+        subst (λ (members : List Member). IsUnderWay task.bouquet block most (run_end task.bouquet work) (fresh_meter meter.database) (fresh_space (width_of block)) members
         (record { schedule = next; meter = after; space = last; runs = place + 1 })) (sym takes.left) (stepped (Ok None) tells)
     has-run (Ok (Some report)) tells =
         let so = stepped (Ok (Some report)) tells in

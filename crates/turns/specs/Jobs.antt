@@ -16,7 +16,7 @@ use Rattle.bouquet_type.specs.Reports.{told_end}
 use Rattle.bouquet_type.specs.declared.report.Report.{Report}
 use Rattle.bouquet_type.specs.declared.report.RunFault.{RunFault}
 use Rattle.bouquet_type.specs.declared.report.RunFault.TheVariants.{WorkLimit, NoMemory}
-use Rattle.bouquet_run.specs.Running.{IsRunning}
+use Rattle.bouquet_run.specs.Running.{IsUnderWay}
 use Rattle.bouquet_run.specs.Outcomes.{AnswersRun, works_over}
 use Rattle.turns.specs.Standing.{JobTask, Standing, Runs, Ended, Past, Lost}
 use Rattle.turns.specs.declared.progress.Progress.{Progress}
@@ -93,7 +93,7 @@ fresh_space width = record { work = new_stack width; result = new_stack width }
 -- answer, or of its refusal
 abbrev pub HasRun : JobTask → MeterState → ScheduleState → Space → Progress → Type 0
 HasRun task meter schedule space (Running place) =
-    IsRunning task.bouquet task.block task.most (run_end task.bouquet (works_over task.database task.block)) (fresh_meter task.database) (fresh_space (width_of task.block))
+    IsUnderWay task.bouquet task.block task.most (run_end task.bouquet (works_over task.database task.block)) (fresh_meter task.database) (fresh_space (width_of task.block))
     (members_left schedule) (record { schedule = schedule; meter = meter; space = space; runs = place })
 HasRun task meter schedule space (Answered report) =
     AnswersRun task.bouquet task.block task.database task.most meter.account.spent space.result.rows (Ok report)
