@@ -17,9 +17,9 @@ use Rattle.cost_model.specs.declared.stats.RelationStats.{RelationStats}
 use Rattle.bouquet_type.specs.Trees.{BouquetTree, ContourTree}
 use Rattle.bouquet_file.specs.declared.relations.KeptCounts.{KeptCounts}
 use Rattle.bouquet_file.specs.declared.fault.OpenFault.{OpenFault}
-use Rattle.bouquet_file.specs.Steps.{Checked, each}
+use Rattle.sql_values.specs.Steps.{Checked, each}
 use Rattle.bouquet_file.specs.Values.{within, list_within}
-use Rattle.bouquet_file.specs.Limits.{max_parameters}
+use Rattle.sql_values.specs.Limits.{max_parameters}
 use Rattle.bouquet_file.specs.Written.{plan_value, contour_value, relation_value, file_with, file_value}
 use Rattle.bouquet_file.specs.Checks.{FileContour, head_of, levels_within, counts_at, plan_fits, contour_fits, changed_counts, plan_here, contour_at}
 use Rattle.bouquet_file.specs.Parts.{counts_in, contours_in, parts_of}

@@ -25,7 +25,7 @@ use Rattle.bouquet_type.specs.declared.contour.Contour.{Contour}
 use Rattle.bouquet_type.specs.Shapes.{BouquetShape}
 use Rattle.bouquet_type.specs.Trees.{IsContour, IsBouquet, contour_tree, bouquet_tree}
 use Rattle.bouquet_file.specs.Written.{file_value}
-use Rattle.bouquet_file.specs.Limits.{max_parameters}
+use Rattle.sql_values.specs.Limits.{max_parameters}
 use Rattle.bouquet_file.specs.Opened.{file_of, json_value}
 use Rattle.bouquet_file.proofs.Again.{AreFew, IsContourTree, IsWritable, file_again}
 

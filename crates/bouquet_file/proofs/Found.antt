@@ -6,7 +6,7 @@ use Rattle.serde_json.specs.Find.{get_member}
 use Rattle.query_block.specs.Blocks.{BlockTree, axes_of}
 use Rattle.bouquet_file.specs.declared.fault.OpenFault.{OpenFault}
 use Rattle.bouquet_file.specs.declared.values.Version.{Version}
-use Rattle.bouquet_file.specs.Steps.{need}
+use Rattle.sql_values.specs.Steps.{need}
 use Rattle.bouquet_file.specs.Values.{unsigned, within, string_of}
 use Rattle.bouquet_file.specs.Checks.{head_of, levels_in, kept_parameters}
 use Rattle.bouquet_file.specs.Parts.{FileParts, counts_in, contours_in, parts_of}

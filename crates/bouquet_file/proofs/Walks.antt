@@ -3,7 +3,7 @@ use Rattle.std.proofs.Common.{◌≡◌, ℕ, ◌+◌, ◌<◌, ◌≤◌, List,
 use Rattle.std.specs.Prelude.{IsErrAnd}
 use Rattle.std.proofs.lemmas.List.{at_drop_more, drop_all, map_push}
 use Rattle.bouquet_file.specs.declared.fault.OpenFault.{OpenFault}
-use Rattle.bouquet_file.specs.Steps.{Checked, pure, ◌>>=◌, each}
+use Rattle.sql_values.specs.Steps.{Checked, pure, ◌>>=◌, each}
 use Rattle.bouquet_file.specs.Given.{GivesChecked}
 
 -- what is read already, before what is still to be read

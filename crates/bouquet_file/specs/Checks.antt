@@ -20,8 +20,8 @@ use Rattle.bouquet_file.specs.declared.relations.KeptCounts.{KeptCounts}
 use Rattle.bouquet_file.specs.declared.values.ObjectKind.TheVariants.{File, Relation, Contour}
 use Rattle.bouquet_file.specs.declared.values.Version.{Version}
 use Rattle.bouquet_file.specs.declared.values.Version.TheVariants.{One, Two}
-use Rattle.bouquet_file.specs.Limits.{max_parameters}
-use Rattle.bouquet_file.specs.Steps.{Checked, pure, ◌>>=◌, ◌>>◌, need, check, each}
+use Rattle.sql_values.specs.Limits.{max_parameters}
+use Rattle.sql_values.specs.Steps.{Checked, pure, ◌>>=◌, ◌>>◌, need, check, each}
 use Rattle.bouquet_file.specs.Values.{unsigned, within, string_of, list_within, has_only, object_of, decimal_number}
 
 -- the version of this number

@@ -1,7 +1,7 @@
 -- What a call gives where a value or the first fault is due.
 use Rattle.std.specs.Prelude.{◌≡◌, ◌≢◌, List, map, Result, Ok, Err, Vec}
 use Rattle.std.specs.declared.alloc.Global.{Global}
-use Rattle.bouquet_file.specs.Steps.{Checked}
+use Rattle.sql_values.specs.Steps.{Checked}
 use Rattle.bouquet_file.specs.declared.fault.OpenFault.{OpenFault}
 use Rattle.bouquet_file.specs.declared.fault.OpenFault.TheVariants as fault
 

@@ -1,6 +1,4 @@
-pub mod Limits
 pub mod Paths
-pub mod Steps
 pub mod Given
 pub mod Values
 pub mod Written

@@ -8,7 +8,7 @@ use Rattle.cost_model.specs.declared.stats.Stats.{Stats}
 use Rattle.bouquet_type.specs.Trees.{BouquetTree, ContourTree}
 use Rattle.bouquet_file.specs.declared.fault.OpenFault.{OpenFault}
 use Rattle.bouquet_file.specs.declared.fault.OpenFault.TheVariants as fault
-use Rattle.bouquet_file.specs.Steps.{Checked, pure, ◌>>=◌, ◌>>◌, need, check, each}
+use Rattle.sql_values.specs.Steps.{Checked, pure, ◌>>=◌, ◌>>◌, need, check, each}
 use Rattle.bouquet_file.specs.Checks.{changed_counts, unless_changed, contour_at}
 use Rattle.bouquet_file.specs.Parts.{FileParts, parts_of}
 

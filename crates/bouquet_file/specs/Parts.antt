@@ -10,7 +10,7 @@ use Rattle.bouquet_file.specs.declared.fault.OpenFault.TheVariants as fault
 use Rattle.bouquet_file.specs.declared.relations.KeptCounts.{KeptCounts}
 use Rattle.bouquet_file.specs.declared.parts.Parts.{Parts}
 use Rattle.bouquet_file.specs.declared.contours.ContourParts.{ContourParts}
-use Rattle.bouquet_file.specs.Steps.{Checked, pure, ◌>>=◌, need, each}
+use Rattle.sql_values.specs.Steps.{Checked, pure, ◌>>=◌, need, each}
 use Rattle.bouquet_file.specs.Values.{unsigned, within, string_of, list_within}
 use Rattle.bouquet_file.specs.Checks.{FileContour, head_of, levels_in, counts_at, contour_fits, kept_parameters}
 

@@ -6,7 +6,7 @@ ghost use Rattle.query_block.specs.Blocks.{block_tree};
 ghost use Rattle.plan_tree.specs.Plans.{plan_tree};
 ghost use Rattle.plan_tree.specs.Enumerated.{IsPlan};
 ghost use Rattle.bouquet_type.specs.Trees.{IsContour, contour_tree};
-ghost use Rattle.bouquet_file.specs.Steps.{each};
+ghost use Rattle.sql_values.specs.Steps.{each};
 ghost use Rattle.bouquet_file.specs.Given.{GivesChecked, GivesEach};
 ghost use Rattle.bouquet_file.specs.Checks.{cost_in, plan_fits, contour_fits, plan_with_text, plan_here, contour_at};
 ghost use Rattle.bouquet_file.specs.Parts.{contour_seen, HasTexts};

@@ -5,7 +5,7 @@ ghost use Rattle.serde_json.specs.View.{view};
 ghost use Rattle.query_block.specs.Blocks.{block_tree};
 ghost use Rattle.cost_model.specs.Fits.{FitsBlock};
 ghost use Rattle.bouquet_type.specs.Trees.{IsContour, bouquet_tree, contour_tree};
-ghost use Rattle.bouquet_file.specs.Steps.{need};
+ghost use Rattle.sql_values.specs.Steps.{need};
 ghost use Rattle.bouquet_file.specs.Given.{GivesChecked, GivesEach};
 ghost use Rattle.bouquet_file.specs.Parts.{HasTexts, parts_seen};
 ghost use Rattle.bouquet_file.specs.Opened.{current_contours, json_value, opened};

@@ -15,11 +15,8 @@ use crate::values::{Members, Version, list_at, need, number_at, text_at};
 use ess_grid::Grid;
 use query_block::Block;
 use serde_json::Value;
-use sql_values::{MAX_CONTOURS, MAX_LEVELS, MAX_THRESHOLD, MIN_LEVELS};
+use sql_values::{MAX_CONTOURS, MAX_LEVELS, MAX_PARAMETERS, MAX_THRESHOLD, MIN_LEVELS};
 use std::alloc::Global;
-
-// The most parameters of a query in a file.
-const MAX_PARAMETERS: u64 = 16777216;
 
 /// The parts of a file.
 #[derive(Drop)]

@@ -3,7 +3,7 @@ ghost use Rattle.std.specs.Prelude.{◌≡◌, ◌≤◌, IfOk, length, map};
 ghost use Rattle.sql_values.specs.Limits.{max_relations};
 ghost use Rattle.serde_json.specs.View.{view};
 ghost use Rattle.cost_model.specs.Staleness.{RefusesFirst};
-ghost use Rattle.bouquet_file.specs.Steps.{each};
+ghost use Rattle.sql_values.specs.Steps.{each};
 ghost use Rattle.bouquet_file.specs.Given.{GivesChecked};
 ghost use Rattle.bouquet_file.specs.Checks.{counts_at, changed_in, changed_counts};
 

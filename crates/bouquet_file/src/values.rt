@@ -2,7 +2,7 @@
 ghost use Rattle.std.specs.Prelude.{◌≡◌, ◌≤◌, IfSome, bytes_eq, is_some, length, map, option_map};
 ghost use Rattle.std.specs.List.{list_all, list_any};
 ghost use Rattle.serde_json.specs.View.{view, members_view};
-ghost use Rattle.bouquet_file.specs.Steps.{need};
+ghost use Rattle.sql_values.specs.Steps.{need};
 ghost use Rattle.bouquet_file.specs.Values.{unsigned, within, string_of, list_within, is_key, has_only, has_all, object_of, decimal_number, value_of_key};
 
 use crate::fault::{FieldPath, OpenFault};

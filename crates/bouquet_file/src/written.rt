@@ -4,7 +4,7 @@ ghost use Rattle.std.specs.Str.{IsUtf8};
 ghost use Rattle.serde_json.specs.View.{view, items_view};
 ghost use Rattle.plan_tree.specs.Plans.{plan_tree};
 ghost use Rattle.bouquet_type.specs.Trees.{bouquet_tree, contour_tree};
-ghost use Rattle.bouquet_file.specs.Limits.{max_parameters};
+ghost use Rattle.sql_values.specs.Limits.{max_parameters};
 ghost use Rattle.bouquet_file.specs.Opened.{opened};
 ghost use Rattle.bouquet_file.specs.Written.{plan_value, contour_value, relation_value, file_with, file_value, file_text};
 

@@ -1,39 +1,11 @@
 -- Names in any case, and how many of them a header has from the left.
-use Rattle.std.proofs.Common.{◌≡◌, ◌≢◌, ℕ, zero, suc, ◌+◌, ◌<◌, ◌≤◌, true, false, ◌&&◌, List, [], ◌∷◌, length, drop, get_or, Some, None, refl, ap, ◌∙◌, arith}
-use Rattle.std.specs.Prelude.{Bool, bytes_eq, ◌==◌, if◌then◌else◌}
-use Rattle.std.specs.Char.{to_ascii_uppercase}
+use Rattle.std.proofs.Common.{◌≡◌, ℕ, zero, suc, ◌+◌, ◌<◌, ◌≤◌, true, false, List, [], ◌∷◌, length, drop, get_or, Some, None, refl, ap, arith}
+use Rattle.std.specs.Prelude.{Bool, bytes_eq, if◌then◌else◌}
 use Rattle.std.specs.Str.{str_to_ascii_uppercase}
 use Rattle.std.proofs.lemmas.List.{drop_more, drop_all}
-use Rattle.std.proofs.lemmas.Bool.{and_right}
-use borrow.Author.Tests.{eq-eqb, ne_eqb}
 use Rattle.csv.specs.Records.{field_at}
 use Rattle.sql_values.specs.declared.column.ColumnDef.{ColumnDef}
 use Rattle.csv_load.specs.Header.{names_of, agreeing}
-
--- texts of different lengths
-pub bytes_eq-length : (field name : List ℕ) → length field ≢ length name → bytes_eq (str_to_ascii_uppercase field) name ≡ false
-bytes_eq-length [] [] other = absurd (other refl)
-bytes_eq-length [] (b ∷ bs) other = refl
-bytes_eq-length (a ∷ rest) [] other = refl
-bytes_eq-length (a ∷ rest) (b ∷ bs) other = and_right _ _ (bytes_eq-length rest bs (λ e. other (ap suc e)))
-
--- one byte more
-bytes_eq-drop : (field name : List ℕ) (i : ℕ) → i < length field → i < length name
-    → bytes_eq (str_to_ascii_uppercase (drop i field)) (drop i name) ≡ ((to_ascii_uppercase (get_or field i 0) == get_or name i 0) && bytes_eq (str_to_ascii_uppercase (drop (i + 1) field)) (drop (i + 1) name))
-bytes_eq-drop field name i a b = rw (drop_more field i 0 a, drop_more name i 0 b) refl
-
-pub bytes_eq-drop_same : (field name : List ℕ) (i : ℕ) → i < length field → i < length name → to_ascii_uppercase (get_or field i 0) ≡ get_or name i 0
-    → bytes_eq (str_to_ascii_uppercase (drop i field)) (drop i name) ≡ bytes_eq (str_to_ascii_uppercase (drop (i + 1) field)) (drop (i + 1) name)
-bytes_eq-drop_same field name i a b e = bytes_eq-drop field name i a b ∙ rw (eq-eqb _ _ e) refl
-
-pub bytes_eq-drop_other : (field name : List ℕ) (i : ℕ) → i < length field → i < length name → to_ascii_uppercase (get_or field i 0) ≢ get_or name i 0
-    → bytes_eq (str_to_ascii_uppercase (drop i field)) (drop i name) ≡ false
-bytes_eq-drop_other field name i a b n = bytes_eq-drop field name i a b ∙ rw (ne_eqb _ _ n) refl
-
-pub bytes_eq-drop_all : (field name : List ℕ) (i : ℕ) → length field ≤ i → length name ≤ i → bytes_eq (str_to_ascii_uppercase (drop i field)) (drop i name) ≡ true
-bytes_eq-drop_all field name i a b = rw (drop_all i field a, drop_all i name b) refl
-
-pub ruleset of_names = (bytes_eq-length, bytes_eq-drop_same, bytes_eq-drop_other, bytes_eq-drop_all)
 
 -- the entries from a field on
 pub drop-field_at : (fields : List (List ℕ)) (i : ℕ) (field : List ℕ) → Some field ≡ field_at fields i → drop i fields ≡ field ∷ drop (i + 1) fields

@@ -1,29 +1,12 @@
 // The header of a file.
-ghost use Rattle.std.specs.Prelude.{◌≡◌, ◌<◌, ◌^◌, length, bytes_eq};
-ghost use Rattle.std.specs.Str.{str_to_ascii_uppercase};
+ghost use Rattle.std.specs.Prelude.{◌≡◌, ◌<◌, ◌^◌, length};
 ghost use Rattle.csv.specs.Records.{fields_of};
 ghost use Rattle.csv_load.specs.Header.{names_of, agreeing, header_fault};
 ghost use Rattle.csv_load.specs.Fault.{GivesFault};
 
 use crate::fault::LoadFault;
 use csv::ByteRecord;
-use sql_values::ColumnDef;
-
-// Whether a field is a column's name in any case (of ASCII).
-#[tactic(auto, using(crate::proofs::Headers::of_names))]
-fn is_name_of(field: &[u8], name: &[u8]) -> bool
-    ensures { result ≡ bytes_eq (str_to_ascii_uppercase field.now) name.now }
-{
-    if field.len() != name.len() {
-        return false;
-    }
-    for (i, byte) in field.iter().enumerate() {
-        if byte.to_ascii_uppercase() != name[i] {
-            return false;
-        }
-    }
-    true
-}
+use sql_values::{ColumnDef, is_word};
 
 // How many fields, from the left, are the names of the columns at their places.
 #[tactic(auto, using(crate::proofs::Headers::of_headers))]
@@ -34,7 +17,7 @@ fn agreeing(entry: &ByteRecord, columns: &[ColumnDef]) -> usize
         let Some(field) = entry.get(i) else {
             return i;
         };
-        if !is_name_of(field, column.name.bytes()) {
+        if !is_word(field, column.name.bytes()) {
             return i;
         }
     }

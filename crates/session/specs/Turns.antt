@@ -1,6 +1,7 @@
 -- What comes of TURNS.
 use Rattle.std.specs.Prelude.{ℕ, ◌-◌, ◌||◌, nat_eq, nat_lt, Bool, true, false, List, [], ◌∷◌, ◌++◌, length, map, option_map, Option, Some, None, if◌then◌else◌}
 use Rattle.std.specs.List.{flat_map, list_any}
+use Rattle.sql_values.specs.Limits.{max_jobs}
 use Rattle.sql_parse.specs.declared.tree.RunDef.{RunDef}
 use Rattle.sql_parse.specs.declared.tree.TurnsDef.{TurnsDef}
 use Rattle.query_block.specs.Blocks.{BlockTree}
@@ -16,10 +17,6 @@ use Rattle.workspace.specs.declared.refusal.Refusal.{Refusal}
 use Rattle.workspace.specs.declared.refusal.Refusal.TheVariants as refusal
 use Rattle.session.specs.Answered.{at_used}
 use Rattle.session.specs.Printed.{job_text, turn_line}
-
--- so many bouquets at the most take turns side by side
-abbrev pub max_jobs : ℕ
-max_jobs = 64
 
 -- what is asked of the job of a bouquet on a block
 abbrev pub task_on : (max_work : ℕ) → World → BouquetTree → BlockTree → JobTask

@@ -1,13 +1,14 @@
 // TURNS: every use is looked up, and every number of BY, before a row is read. No book takes in what the jobs spend.
 ghost use Rattle.std.specs.Prelude.{◌≡◌, ◌<◌, ◌≤◌, ℕ, List, None, All, IfOk, OnOk, length, map};
 ghost use Rattle.std.specs.List.{list_any};
+ghost use Rattle.sql_values.specs.Limits.{max_jobs};
 ghost use Rattle.sql_parse.specs.Trees.{Turns};
 ghost use Rattle.turns.specs.Jobs.{job_tree};
 ghost use Rattle.workspace.specs.Outcome.{RefusesFound};
 ghost use Rattle.workspace.specs.Returns.{ReturnsFree};
 ghost use Rattle.workspace.specs.States.{world_of};
 ghost use Rattle.session.specs.Bounds.{IsAnsweredWithin};
-ghost use Rattle.session.specs.Turns.{fresh_jobs, is_past, jobs_refusal, max_jobs, numbers_from_0, turn_refusal, turns_answer, turns_outcome};
+ghost use Rattle.session.specs.Turns.{fresh_jobs, is_past, jobs_refusal, numbers_from_0, turn_refusal, turns_answer, turns_outcome};
 ghost use Rattle.session.specs.Uses.{IsExecutable, task_of_use};
 
 use crate::session::Session;
@@ -15,12 +16,10 @@ use crate::turn_lines::turns_text;
 use crate::uses::Used;
 use db_catalog::Database;
 use sql_parse::TurnsDef;
+use sql_values::MAX_JOBS;
 use std::alloc::{AllocError, Global};
 use turns::{Job, JobState, finish_turns, take_turns};
 use workspace::{Refusal, Stop, Workspace};
-
-// So many bouquets at the most take turns side by side.
-const MAX_JOBS: usize = 64;
 
 // Refuses more bouquets than may take turns.
 fn check_jobs(count: usize) -> Result<(), Refusal>

@@ -19,4 +19,4 @@ pub use fault::{LexFault, LexKind};
 pub use limit::{MAX_NUMBER, MAX_WORD_BYTES, limits_are_as_stated};
 pub use script::{lex, one_lexing_is_due, written_is_read};
 pub use token::{Token, TokenKind};
-pub use value::{comparison_value, is_word, number_value, text_value, word_value};
+pub use value::{comparison_value, number_value, text_value, word_value};

@@ -1,5 +1,5 @@
 // What a token stands for, read from its bytes. It relies on the form that `lex` found, and never tests it again.
-ghost use Rattle.std.specs.Prelude.{◌≡◌, ◌-◌, ◌^◌, ◌↔◌, min, IsTrue, IfOk};
+ghost use Rattle.std.specs.Prelude.{◌≡◌, ◌-◌, ◌^◌, min, IfOk};
 ghost use Rattle.std.specs.List.{AllPass};
 ghost use Rattle.std.specs.Char.{is_ascii_digit};
 ghost use Rattle.sql_lex.specs.Values.{word_value_of, number_value_of, between_quotes, text_value_of, quoted, comparison_text};
@@ -20,21 +20,6 @@ pub fn word_value(alloc: Global, word: &[u8]) -> Result<Text, AllocError>
         .map(|byte| byte.to_ascii_uppercase())
         .collect(alloc)?;
     Ok(Text::from(upper))
-}
-
-/// Whether a word's value is this one, which is given in upper case. Takes no memory.
-pub fn is_word(word: &[u8], value: &[u8]) -> bool
-    ensures { IsTrue result ↔ (word_value_of word.now ≡ value.now) }
-{
-    if word.len() != value.len() {
-        return false;
-    }
-    for (i, byte) in word.iter().enumerate() {
-        if byte.to_ascii_uppercase() != value[i] {
-            return false;
-        }
-    }
-    true
 }
 
 /// A number's value, at most `MAX_NUMBER`.

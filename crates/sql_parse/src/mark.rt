@@ -8,7 +8,8 @@ ghost use Rattle.sql_parse.specs.Lexemes.{Word, lexeme_of, is_question_mark, mar
 ghost use Rattle.sql_parse.specs.Canonical.{Fixed, spelled, joins_previous, joins_next};
 ghost use Rattle.sql_parse.specs.Reading.{same, mark_spelled};
 
-use sql_lex::{TokenKind, is_word};
+use sql_lex::TokenKind;
+use sql_values::is_word;
 
 /// A sign, or a reserved word that stands within a statement. Any other keyword stands in its production.
 #[derive(Clone, Copy)]
@@ -134,19 +135,12 @@ fn is_same(kind: TokenKind, bytes: &[u8], other_kind: TokenKind, other: &[u8]) -
     ensures { result ≡ same (lexeme_of kind bytes.now) (mark_spelled other_kind other.now) }
 {
     match (kind, other_kind) {
-        (TokenKind::Word, TokenKind::Word) => is_same_word(bytes, other),
+        (TokenKind::Word, TokenKind::Word) => is_word(bytes, other),
         (TokenKind::Word, _) => false,
         (TokenKind::Sign, TokenKind::Word) => false,
         (TokenKind::Sign, _) => bytes == other,
         _ => false,
     }
-}
-
-// Whether the word has this value.
-fn is_same_word(word: &[u8], value: &[u8]) -> bool
-    ensures { result ≡ bytes_eq (word_value_of word.now) value.now }
-{
-    is_word(word, value)
 }
 
 // The words that can't be names (SQL-92, 5.2).
@@ -158,7 +152,7 @@ static RESERVED: [&[u8]; 20] = [
 fn is_among(word: &[u8], values: &[&[u8]]) -> bool
     ensures { result ≡ list_any (λ value. bytes_eq (word_value_of word.now) value.now) values.now }
 {
-    values.iter().any(|value| is_same_word(word, value))
+    values.iter().any(|value| is_word(word, value))
 }
 
 /// Whether the word can't be a name.

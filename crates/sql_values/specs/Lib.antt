@@ -5,3 +5,4 @@ pub mod Words
 pub mod Dictionary
 pub mod Stored
 pub mod Truth
+pub mod Steps

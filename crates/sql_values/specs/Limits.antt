@@ -50,6 +50,10 @@ max_relations = 6
 abbrev pub max_projection : ℕ
 max_projection = 256
 
+-- the most parameters of a query: each has a sign in the script, which has at most so many bytes
+abbrev pub max_parameters : ℕ
+max_parameters = 16777216
+
 -- the most axes of a grid
 abbrev pub max_axes : ℕ
 max_axes = 6
@@ -91,3 +95,7 @@ max_contour_cost = 2 ^ 114
 -- every plan of a block costs less
 abbrev pub cost_bound : ℕ
 cost_bound = 2 ^ 113
+
+-- the most bouquets that take turns side by side
+abbrev pub max_jobs : ℕ
+max_jobs = 64

@@ -16,13 +16,15 @@ mod texts;
 mod truth;
 mod value;
 mod value_order;
+mod word;
 
 pub use column::{ColumnDef, ColumnType};
 pub use limit::{
     DEFAULT_THRESHOLD, LimitName, MAX_AXES, MAX_COLUMNS, MAX_CONTOUR_COST, MAX_CONTOURS,
-    MAX_FILE_BYTES, MAX_LENGTH, MAX_LEVELS, MAX_PLANS, MAX_POINTS, MAX_PRODUCT, MAX_PROJECTION,
-    MAX_RELATIONS, MAX_ROWS, MAX_SCRIPT_BYTES, MAX_TABLES, MAX_TEXT_BYTES, MAX_TEXTS,
-    MAX_THRESHOLD, MAX_WORDS, MIN_LENGTH, MIN_LEVELS, limits_are_as_stated,
+    MAX_FILE_BYTES, MAX_JOBS, MAX_LENGTH, MAX_LEVELS, MAX_PARAMETERS, MAX_PLANS, MAX_POINTS,
+    MAX_PRODUCT, MAX_PROJECTION, MAX_RELATIONS, MAX_ROWS, MAX_SCRIPT_BYTES, MAX_TABLES,
+    MAX_TEXT_BYTES, MAX_TEXTS, MAX_THRESHOLD, MAX_WORDS, MIN_LENGTH, MIN_LEVELS,
+    limits_are_as_stated,
 };
 pub use op::Op;
 pub use sequence::Sequence;
@@ -31,3 +33,4 @@ pub use texts::Texts;
 pub use truth::{Truth, and, certain, compare, holds, not, or};
 pub use value::{NULL_WORD, Value, null_word_is_as_stated};
 pub use value_order::{order, order_is_total};
+pub use word::is_word;

@@ -111,6 +111,9 @@ pub const MAX_RELATIONS: usize = 6;
 /// The most columns that a query names.
 pub const MAX_PROJECTION: usize = 256;
 
+/// The most parameters of a query: each has a sign in the script, which has at most so many bytes.
+pub const MAX_PARAMETERS: u64 = 16777216;
+
 /// The most axes of a grid.
 pub const MAX_AXES: usize = 6;
 
@@ -141,6 +144,9 @@ pub const MAX_CONTOURS: usize = 128;
 /// The most that a contour costs: 2^114.
 pub const MAX_CONTOUR_COST: u128 = 20769187434139310514121985316880384;
 
+/// The most bouquets that take turns side by side.
+pub const MAX_JOBS: usize = 64;
+
 /// The law of the limits: each constant is the figure of the definitions.
 pub fn limits_are_as_stated()
     ensures bytes { (MAX_SCRIPT_BYTES ≡ spec.max_script_bytes)
@@ -151,6 +157,7 @@ pub fn limits_are_as_stated()
     ensures texts { (MAX_TEXTS ≡ spec.max_texts) × (MAX_TEXT_BYTES ≡ spec.max_text_bytes) }
     ensures query { (MAX_RELATIONS ≡ spec.max_relations)
         × (MAX_PROJECTION ≡ spec.max_projection) }
+    ensures parameters { MAX_PARAMETERS ≡ spec.max_parameters }
     ensures axes { (MAX_AXES ≡ spec.max_axes) × (MAX_PRODUCT ≡ spec.max_product) }
     ensures levels { (MIN_LEVELS ≡ spec.min_levels) × (MAX_LEVELS ≡ spec.max_levels) }
     ensures points { MAX_POINTS ≡ spec.max_points }
@@ -159,4 +166,5 @@ pub fn limits_are_as_stated()
     ensures plans { MAX_PLANS ≡ spec.max_plans }
     ensures contours { (MAX_CONTOURS ≡ spec.max_contours)
         × (MAX_CONTOUR_COST ≡ spec.max_contour_cost) }
+    ensures jobs { MAX_JOBS ≡ spec.max_jobs }
 {}

@@ -11,7 +11,7 @@ use Rattle.csv_load.specs.declared.fault.LoadFault.{LoadFault}
 use Rattle.csv_load.specs.Load.{Appends}
 use Rattle.sql_values.specs.Stored.{ValueRow}
 use Rattle.bouquet_type.specs.Trees.{bouquet_tree}
-use Rattle.bouquet_file.specs.Limits.{max_parameters}
+use Rattle.sql_values.specs.Limits.{max_parameters}
 use Rattle.workspace.specs.Counted.{HasCountsOf, IsCountedBefore}
 use Rattle.workspace.specs.States.{NamedShape}
 use Rattle.workspace.specs.States.{IsWorkspace}

@@ -6,7 +6,7 @@ use Rattle.query_block.specs.Blocks.{block_tree}
 use Rattle.db_catalog.specs.Fits.{Fits}
 use Rattle.cost_model.specs.Counts.{stats_of}
 use Rattle.cost_model.specs.Fits.{FitsBlock}
-use Rattle.bouquet_file.specs.Limits.{max_parameters}
+use Rattle.sql_values.specs.Limits.{max_parameters}
 use Rattle.std.specs.declared.alloc.Global.{Global}
 use Rattle.sql_parse.specs.Trees.{StatementTree}
 use Rattle.workspace.specs.declared.begun.Asked.{Asked}

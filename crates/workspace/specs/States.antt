@@ -6,7 +6,7 @@ use Rattle.db_catalog.specs.Database.{DatabaseState}
 use Rattle.db_catalog.specs.Fits.{Fits}
 use Rattle.bouquet_type.specs.Shapes.{BouquetShape}
 use Rattle.bouquet_type.specs.Trees.{bouquet_tree}
-use Rattle.bouquet_file.specs.Limits.{max_parameters}
+use Rattle.sql_values.specs.Limits.{max_parameters}
 use Rattle.workspace.specs.Counted.{IsCountedBefore}
 use Rattle.workspace.specs.declared.named_bouquets.KeptBouquet.{KeptBouquet}
 use Rattle.workspace.specs.World.{NamedBouquet, World}

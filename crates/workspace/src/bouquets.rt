@@ -6,7 +6,7 @@ ghost use Rattle.sql_parse.specs.Trees.{query_tree};
 ghost use Rattle.db_catalog.specs.Fits.{Fits};
 ghost use Rattle.bouquet_type.specs.Trees.{bouquet_tree};
 ghost use Rattle.bouquet_type.specs.Sound.{IsSound};
-ghost use Rattle.bouquet_file.specs.Limits.{max_parameters};
+ghost use Rattle.sql_values.specs.Limits.{max_parameters};
 ghost use Rattle.workspace.specs.Bouquets.{AreGridLevels, GivesDue, GivesSizes, IsScriptQuery, block_due, compiled_due};
 ghost use Rattle.workspace.specs.Counted.{HasCountsOf};
 

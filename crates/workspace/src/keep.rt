@@ -4,7 +4,7 @@ ghost use Rattle.std.specs.Str.{IsUtf8};
 ghost use Rattle.query_block.specs.Blocks.{block_tree};
 ghost use Rattle.db_catalog.specs.Fits.{Fits};
 ghost use Rattle.bouquet_type.specs.Trees.{bouquet_tree};
-ghost use Rattle.bouquet_file.specs.Limits.{max_parameters};
+ghost use Rattle.sql_values.specs.Limits.{max_parameters};
 ghost use Rattle.workspace.specs.Counted.{HasCountsOf};
 ghost use Rattle.workspace.specs.Bouquets.{kept_as};
 ghost use Rattle.workspace.specs.Returns.{ReturnsFree};

@@ -3,7 +3,7 @@ use Rattle.serde_json.specs.View.{view}
 use Rattle.bouquet_file.specs.declared.fault.FieldPath.TheVariants as path
 use Rattle.bouquet_file.specs.declared.fault.OpenFault.TheVariants as fault
 use Rattle.bouquet_file.specs.Checks.{plan_fits}
-use Rattle.bouquet_file.specs.Steps.{need}
+use Rattle.sql_values.specs.Steps.{need}
 use Rattle.bouquet_file.proofs.Found.{is_seen, is_missing}
 use Rattle.bouquet_file.proofs.Walks.{walk-ends, walk-fails, walk-pushes, handed-on}
 use Rattle.bouquet_file.proofs.contours.texts_of.Goals as goal

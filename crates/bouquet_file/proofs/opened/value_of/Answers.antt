@@ -3,7 +3,7 @@ use Rattle.std.specs.Str.{IsUtf8, is_utf8}
 use Rattle.std.proofs.lemmas.Str.{IsUtf8-from_is_utf8, is_utf8-from_IsUtf8}
 use Rattle.serde_json.specs.Read.{read}
 use Rattle.bouquet_file.specs.declared.fault.OpenFault.TheVariants.{NotJson}
-use Rattle.bouquet_file.specs.Steps.{need}
+use Rattle.sql_values.specs.Steps.{need}
 use Rattle.bouquet_file.specs.Opened.{json_value}
 use Rattle.bouquet_file.proofs.opened.value_of.Goals as goal
 

@@ -2,7 +2,7 @@
 use Rattle.std.proofs.Common.{◌≡◌, Ok, Err, refl, ap, sym, subst, ◌∙◌, ◌≤◌}
 use Rattle.sql_parse.specs.Trees.{query_tree}
 use Rattle.sql_bind.specs.declared.fault.BindFault.TheVariants as bind
-use Rattle.bouquet_file.specs.Limits.{max_parameters}
+use Rattle.sql_values.specs.Limits.{max_parameters}
 use Rattle.workspace.specs.Bouquets.{block_due, block_unless}
 use Rattle.workspace.specs.declared.refusal.Refusal.TheVariants as refusal
 use Rattle.std.proofs.lemmas.Result.{err_from_is_err_and}

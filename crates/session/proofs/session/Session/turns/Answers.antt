@@ -12,7 +12,8 @@ use Rattle.workspace.specs.Returns.{ReturnsFree}
 use Rattle.workspace.specs.Stop.{StopsAt}
 use Rattle.workspace.specs.World.{World}
 use Rattle.workspace.specs.declared.refusal.Refusal.TheVariants as refusal
-use Rattle.session.specs.Turns.{at_tasks, jobs_refusal, max_jobs, turn_refusal, turns_answer, turns_outcome}
+use Rattle.sql_values.specs.Limits.{max_jobs}
+use Rattle.session.specs.Turns.{at_tasks, jobs_refusal, turn_refusal, turns_answer, turns_outcome}
 use Rattle.session.specs.Uses.{task_of_use}
 use Rattle.session.specs.declared.uses.Used.{Used}
 use Rattle.session.proofs.session.Session.turns.Goals as goal

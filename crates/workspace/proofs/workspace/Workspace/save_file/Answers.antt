@@ -3,7 +3,7 @@ use Rattle.std.proofs.Common.{◌≡◌, ◌∙◌, ◌≤◌, length, Some, Non
 use Rattle.std.specs.Prelude.{is_some}
 use Rattle.std.specs.Str.{IsUtf8}
 use Rattle.std.proofs.lemmas.List.Elements.{All-contains}
-use Rattle.bouquet_file.specs.Limits.{max_parameters}
+use Rattle.sql_values.specs.Limits.{max_parameters}
 use Rattle.bouquet_file.specs.Written.{file_text}
 use Rattle.workspace.specs.Outcome.{Saves}
 use Rattle.workspace.specs.Present.{at_bouquet}
