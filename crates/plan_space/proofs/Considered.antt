@@ -1,5 +1,5 @@
 -- How the steps of the search for an entry follow one another.
-use Rattle.std.proofs.Common.{◌≡◌, ◌⊎◌, inl, inr, Bool, true, false, nat_lt, nat_eq, ◌||◌, [], ◌∷◌, ◌++◌, ℕ, ◌+◌, ◌-◌, ◌^◌, ◌<◌, ◌≤◌, List, length, refl, sym, ap, ap₂, subst, ◌∙◌, arith}
+use Rattle.std.proofs.Common.{IsTrue, ◌≡◌, ◌⊎◌, inl, inr, Bool, true, false, nat_lt, nat_eq, ◌||◌, [], ◌∷◌, ◌++◌, ℕ, ◌+◌, ◌-◌, ◌^◌, ◌<◌, ◌≤◌, List, length, refl, sym, ap, ap₂, subst, ◌∙◌, arith}
 use Rattle.std.specs.List.{list_any}
 use Rattle.std.proofs.lemmas.List.Folds.{list_any-append}
 use Rattle.query_block.specs.Blocks.{relation_at}
@@ -11,11 +11,11 @@ use Rattle.plan_tree.specs.declared.roots.Root.{Root}
 use Rattle.plan_tree.specs.declared.roots.Root.TheVariants as root
 use Rattle.plan_space.specs.declared.entry.Entry.{Entry}
 use Rattle.plan_tree.specs.Roots.{Stands}
-use Rattle.plan_space.specs.Table.{entry_at, side_costs, offered, rank, NotLater, IsFirstOf}
+use Rattle.plan_space.specs.Table.{entry_at, side_costs, offered, rank, NotLater}
 use Rattle.plan_space.specs.Search.{SearchShape, IsFound}
 use Rattle.cost_model.specs.Prices.{own_at, block_at}
 use Rattle.plan_tree.proofs.Bits.{same-relation}
-use Rattle.plan_space.specs.Steps.{Group, Considers, IsByEdge, IsBeforeEdge, IsByLeft, IsBeforeLeft, IsLookUpBy, IsScanBy, ReadsRelation}
+use Rattle.plan_space.specs.Steps.{Group, Considers, HasEdge, HasLeft, IsLookUpBy, ReadsRelation}
 
 pub not-later-then : (a b c : Entry) → NotLater a b → NotLater b c → NotLater a c
 not-later-then a b c = upto nat_list_cmp_total (rank a) (rank b) (rank c)
@@ -27,19 +27,28 @@ not-later-itself a = ap is_gt (tied_itself nat_list_cmp_total (rank a))
 pub is-offered : (sought : SearchShape) (entry : Entry) → IsFound sought entry → offered (own_at sought.at) sought.table entry.root sought.set ≡ entry
 is-offered sought entry kept i = record { cost = sym kept.cost i; root = entry.root }
 
+-- scans of a relation by one of these columns
+abbrev pub IsScanBy : (relation : ℕ) → (columns : List ℕ) → Group
+IsScanBy relation columns (root.Scan other) = ⊥
+IsScanBy relation columns (root.IndexScan other column) = (other ≡ relation) × IsTrue (list_any (λ one. nat_eq one column) columns)
+IsScanBy relation columns (root.Nest side) = ⊥
+IsScanBy relation columns (root.Hash number side) = ⊥
+IsScanBy relation columns (root.Merge number side) = ⊥
+IsScanBy relation columns (root.IndexLoop number side other) = ⊥
+
 module _ (sought : SearchShape) where
   pub nothing : (group : Group) (a : Entry) → ((node : Root) → group node → Stands (block_at sought.at) node sought.set → ⊥) → Considers sought group a a
   nothing group a none = record { kept = λ kept. kept; found = not-later-itself a; all = λ node in-group stands. absurd (none node in-group stands) }
 
-  pub chosen : (a b entry : Entry) (node : Root) → IsFound sought entry → entry.root ≡ node → IsFirstOf a entry b → Considers sought (λ other. other ≡ node) a b
-  chosen a b entry node offers same keeps = record {
-    kept = λ kept. elim keeps.either [
+  pub chosen : (a b entry : Entry) (node : Root) → IsFound sought entry → entry.root ≡ node → (b ≡ a) ⊎ (b ≡ entry) → NotLater b a → NotLater b entry → Considers sought (λ other. other ≡ node) a b
+  chosen a b entry node offers same either to_found to_offered = record {
+    kept = λ kept. elim either [
       | inl one ↦ subst (IsFound sought) (sym one) kept
       | inr one ↦ subst (IsFound sought) (sym one) offers
     ];
-    found = keeps.to_found;
+    found = to_found;
     all = λ other is stands.
-        subst (NotLater b) (sym (ap (λ one. offered (own_at sought.at) sought.table one sought.set) (is ∙ sym same) ∙ is-offered sought entry offers)) keeps.to_offered;
+        subst (NotLater b) (sym (ap (λ one. offered (own_at sought.at) sought.table one sought.set) (is ∙ sym same) ∙ is-offered sought entry offers)) to_offered;
   }
 
   pub and-then : (G H K : Group) (a b c : Entry) → Considers sought G a b → Considers sought H b c → ((node : Root) → K node → Stands (block_at sought.at) node sought.set → G node ⊎ H node)
@@ -77,7 +86,7 @@ module _ (sought : SearchShape) where
   no-look-up edge left none (root.Merge n s) group stands = group
   no-look-up edge left none (root.IndexLoop n s r) group stands = none r (ap (λ side. sought.set - side) (sym group.1) ∙ stands.2.one)
 
-  pub of-edge : (edge left : ℕ) (node : Root) → IsByEdge edge left node → ((node ≡ root.Hash edge left) ⊎ (node ≡ root.Merge edge left)) ⊎ IsLookUpBy edge left node
+  pub of-edge : (edge left : ℕ) (node : Root) → HasEdge (λ number. number ≡ edge) left node → ((node ≡ root.Hash edge left) ⊎ (node ≡ root.Merge edge left)) ⊎ IsLookUpBy edge left node
   of-edge edge left (root.Scan r) group = absurd group
   of-edge edge left (root.IndexScan r c) group = absurd group
   of-edge edge left (root.Nest s) group = absurd group
@@ -92,7 +101,7 @@ module _ (sought : SearchShape) where
       by true is = inl (grind arith, same)
       by false is = inr (grind arith, same)
 
-  pub no-edge : (left : ℕ) (node : Root) → IsBeforeEdge 0 left node → ⊥
+  pub no-edge : (left : ℕ) (node : Root) → HasEdge (λ number. number < 0) left node → ⊥
   no-edge left (root.Scan r) group = group
   no-edge left (root.IndexScan r c) group = group
   no-edge left (root.Nest s) group = group
@@ -100,7 +109,7 @@ module _ (sought : SearchShape) where
   no-edge left (root.Merge n s) group = omega (arith, group.0)
   no-edge left (root.IndexLoop n s r) group = omega (arith, group.0)
 
-  pub next-edge : (edge left : ℕ) (node : Root) → IsBeforeEdge (edge + 1) left node → IsBeforeEdge edge left node ⊎ IsByEdge edge left node
+  pub next-edge : (edge left : ℕ) (node : Root) → HasEdge (λ number. number < (edge + 1)) left node → HasEdge (λ number. number < edge) left node ⊎ HasEdge (λ number. number ≡ edge) left node
   next-edge edge left (root.Scan r) group = absurd group
   next-edge edge left (root.IndexScan r c) group = absurd group
   next-edge edge left (root.Nest s) group = absurd group
@@ -108,7 +117,7 @@ module _ (sought : SearchShape) where
   next-edge edge left (root.Merge n s) group = before n edge s left group
   next-edge edge left (root.IndexLoop n s r) group = before n edge s left group
 
-  pub of-left : (left : ℕ) (node : Root) → IsByLeft left node → Stands (block_at sought.at) node sought.set → (node ≡ root.Nest left) ⊎ IsBeforeEdge (length sought.at.costing.block.edges) left node
+  pub of-left : (left : ℕ) (node : Root) → HasLeft (λ side. side ≡ left) node → Stands (block_at sought.at) node sought.set → (node ≡ root.Nest left) ⊎ HasEdge (λ number. number < length sought.at.costing.block.edges) left node
   of-left left (root.Scan r) group stands = absurd group
   of-left left (root.IndexScan r c) group stands = absurd group
   of-left left (root.Nest s) group stands = inl (ap root.Nest group)
@@ -123,7 +132,7 @@ module _ (sought : SearchShape) where
       by true is = inl (grind arith)
       by false is = inr (grind arith)
 
-  pub no-left : (node : Root) → IsBeforeLeft 1 node → Stands (block_at sought.at) node sought.set → ⊥
+  pub no-left : (node : Root) → HasLeft (λ side. side < 1) node → Stands (block_at sought.at) node sought.set → ⊥
   no-left (root.Scan r) group stands = group
   no-left (root.IndexScan r c) group stands = group
   no-left (root.Nest s) group stands = omega (arith, group, stands.some)
@@ -131,7 +140,7 @@ module _ (sought : SearchShape) where
   no-left (root.Merge n s) group stands = omega (arith, group, stands.0.some)
   no-left (root.IndexLoop n s r) group stands = omega (arith, group, stands.0.some)
 
-  pub next-left : (left : ℕ) (node : Root) → IsBeforeLeft (left + 1) node → IsBeforeLeft left node ⊎ IsByLeft left node
+  pub next-left : (left : ℕ) (node : Root) → HasLeft (λ side. side < (left + 1)) node → HasLeft (λ side. side < left) node ⊎ HasLeft (λ side. side ≡ left) node
   next-left left (root.Scan r) group = absurd group
   next-left left (root.IndexScan r c) group = absurd group
   next-left left (root.Nest s) group = before-left s left group
@@ -145,7 +154,7 @@ module _ (sought : SearchShape) where
   same-sides left side cost is same = omega (arith, is, ap (λ one. (entry_at sought.table one).cost + (entry_at sought.table (sought.set - one)).cost) same)
 
   pub both-least : (left cost : ℕ) → cost ≡ (entry_at sought.table left).cost + (entry_at sought.table (sought.set - left)).cost → ((relation : ℕ) → sought.set - left ≡ 2 ^ relation → ⊥)
-      → (node : Root) → IsByLeft left node → Stands (block_at sought.at) node sought.set → cost ≤ side_costs sought.table node sought.set
+      → (node : Root) → HasLeft (λ side. side ≡ left) node → Stands (block_at sought.at) node sought.set → cost ≤ side_costs sought.table node sought.set
   both-least left cost is none (root.Scan r) group stands = absurd group
   both-least left cost is none (root.IndexScan r c) group stands = absurd group
   both-least left cost is none (root.Nest s) group stands = same-sides left s cost is group

@@ -20,7 +20,7 @@ use Rattle.plan_space.specs.Table.{entry_at, side_costs, offered, NotLater, IsLe
 use Rattle.cost_model.specs.Prices.{OwnCost, sum_of, own_at, block_at}
 use Rattle.cost_model.specs.Pricing.{Pricing}
 use Rattle.plan_space.specs.Search.{SearchShape, IsFound, IsLeastFound}
-use Rattle.plan_space.specs.Steps.{Considers, ReadsRelation, IsBeforeLeft}
+use Rattle.plan_space.specs.Steps.{Considers, ReadsRelation, HasLeft}
 use Rattle.plan_tree.proofs.Bits.{whole-of}
 use Rattle.plan_space.proofs.Exchange.{best}
 use Rattle.cost_model.proofs.Sums.{costs-are-sums}
@@ -36,7 +36,7 @@ highest-split relation set least other highest = record {
 
 -- ---- the entry of a set
 
-reads-or-joins : (block : BlockTree) (set : ℕ) (node : Root) → Stands block node set → ReadsRelation node ⊎ IsBeforeLeft set node
+reads-or-joins : (block : BlockTree) (set : ℕ) (node : Root) → Stands block node set → ReadsRelation node ⊎ HasLeft (λ side. side < set) node
 reads-or-joins block set (root.Scan r) stands = inl tt
 reads-or-joins block set (root.IndexScan r c) stands = inl tt
 reads-or-joins block set (root.Nest s) stands = inr stands.less
@@ -66,7 +66,7 @@ no-reading block relation set least highest (root.Merge n s) group stands = grou
 no-reading block relation set least highest (root.IndexLoop n s r) group stands = group
 
 module _ (sought : SearchShape) where
-  pub least-alone : (start result : Entry) → IsFound sought start → Considers sought ReadsRelation start start → Considers sought (IsBeforeLeft sought.set) start result → IsLeastFound sought result
+  pub least-alone : (start result : Entry) → IsFound sought start → Considers sought ReadsRelation start start → Considers sought (HasLeft (λ side. side < sought.set)) start result → IsLeastFound sought result
   least-alone start result found readings joins = record {
     kept = joins.kept found;
     least = λ node stands. elim (reads-or-joins (block_at sought.at) sought.set node stands) [
@@ -76,7 +76,7 @@ module _ (sought : SearchShape) where
   }
 
   pub least-split : (relation : ℕ) (start result : Entry) → 2 ^ relation < sought.set → sought.set < 2 ^ (relation + 1) → IsFound sought start
-      → Considers sought (IsBeforeLeft sought.set) start result → IsLeastFound sought result
+      → Considers sought (HasLeft (λ side. side < sought.set)) start result → IsLeastFound sought result
   least-split relation start result least highest found joins = record {
     kept = joins.kept found;
     least = λ node stands. elim (reads-or-joins (block_at sought.at) sought.set node stands) [

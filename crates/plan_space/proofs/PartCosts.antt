@@ -1,5 +1,5 @@
 -- What a node and its sides cost is what their part costs.
-use Rattle.std.proofs.Common.{◌≡◌, ℕ, ◌+◌, ◌<◌, List, length, sym, ap, ◌∙◌, subst, arith}
+use Rattle.std.proofs.Common.{[], ◌≡◌, ℕ, ◌+◌, ◌<◌, List, length, sym, ap, ◌∙◌, subst, arith}
 use Rattle.std.proofs.lemmas.List.{length-take-le}
 use Rattle.query_block.specs.Shape.{BlockShape}
 use Rattle.query_block.specs.Blocks.{block_tree}
@@ -15,7 +15,7 @@ use Rattle.cost_model.specs.Pricing.{Pricing}
 use Rattle.cost_model.specs.Prices.{IsSetOf, block_at, own_at, sum_of}
 use Rattle.cost_model.proofs.Sums.{costs-are-sums}
 use Rattle.plan_space.specs.declared.node.Node.{Node}
-use Rattle.plan_space.specs.Parts.{PartsShape, nth_plan, plan_over, plans_of_nodes, AreSidesBelow, node_at, AreNodes, ArePartCosts, sides_cost}
+use Rattle.plan_space.specs.Parts.{PartsShape, nth_plan, plan_over, parts_behind, AreSidesBelow, node_at, AreNodes, ArePartCosts, sides_cost}
 use Rattle.plan_space.proofs.PartNumbers.{parts-long, part-of}
 
 -- what is known of the node of a number and of its part
@@ -27,7 +27,7 @@ pub record IsKnown (at : Pricing) (parts : List PlanTree) (node : Node) (number 
   pub sides : AreSidesBelow node.root node.left node.right number
 
 known : (at : Pricing) (nodes : List Node) (number : ℕ) → AreNodes (block_at at) nodes → number < length nodes
-    → IsKnown at (plans_of_nodes nodes) (node_at nodes number) number
+    → IsKnown at (parts_behind [] nodes) (node_at nodes number) number
 known at nodes number all less =
     let is = all number less in
     let node = node_at nodes number in
@@ -36,18 +36,18 @@ known at nodes number all less =
       outermost = is.over.outermost ∙ ap root_of (sym is.part);
       covers = is.over.covers ∙ ap covers_of (sym is.part);
       part = part-of (block_at at) nodes number all less;
-      sides = subst (AreSidesBelow node.root node.left node.right) (length-take-le number (plans_of_nodes nodes) (omega (arith, less, parts-long nodes))) is.over.sides;
+      sides = subst (AreSidesBelow node.root node.left node.right) (length-take-le number (parts_behind [] nodes) (omega (arith, less, parts-long nodes))) is.over.sides;
     }
 
 -- as the fields of `Parts` have it
-pub known-here : (at : Pricing) (shape : PartsShape) (block : BlockShape) (nodes seen : List Node) (number : ℕ) → (record { block = block; plans = plans_of_nodes nodes }) ≡ shape
+pub known-here : (at : Pricing) (shape : PartsShape) (block : BlockShape) (nodes seen : List Node) (number : ℕ) → (record { block = block; plans = parts_behind [] nodes }) ≡ shape
     → at.costing.block ≡ shape.block → AreNodes (block_tree block) nodes → seen ≡ nodes → number < length shape.plans → IsKnown at shape.plans (node_at seen number) number
 known-here at shape block nodes seen number view same all there less =
-    let plans : plans_of_nodes nodes ≡ shape.plans = ap (λ (one : PartsShape). one.plans) view in
+    let plans : parts_behind [] nodes ≡ shape.plans = ap (λ (one : PartsShape). one.plans) view in
     let of-block : block ≡ at.costing.block = ap (λ (one : PartsShape). one.block) view ∙ sym same in
     let few : number < length nodes = omega (arith, less, ap length plans, parts-long nodes) in
     subst (λ parts. IsKnown at parts (node_at seen number) number) plans
-    (subst (λ all. IsKnown at (plans_of_nodes nodes) (node_at all number) number) (sym there) (known at nodes number (subst (λ one. AreNodes (block_tree one) nodes) of-block all) few))
+    (subst (λ all. IsKnown at (parts_behind [] nodes) (node_at all number) number) (sym there) (known at nodes number (subst (λ one. AreNodes (block_tree one) nodes) of-block all) few))
 
 pub node-stands : (at : Pricing) (parts : List PlanTree) (node : Node) (number : ℕ) → IsKnown at parts node number → Stands (block_at at) node.root node.set
 node-stands at parts node number is =

@@ -9,7 +9,7 @@ use Rattle.plan_tree.specs.Plans.{PlanTree, Scan, Nest, Hash, Merge, IndexLoop, 
 use Rattle.plan_tree.specs.declared.roots.Root.{Root}
 use Rattle.plan_tree.specs.declared.roots.Root.TheVariants as root
 use Rattle.plan_space.specs.declared.node.Node.{Node}
-use Rattle.plan_space.specs.Parts.{PartsShape, nth_plan, plan_over, parts_behind, plans_of_nodes, AreSidesBelow, IsNodeOver, node_at, IsSameNode, IsNodeAt, AreNodes, KeepsParts}
+use Rattle.plan_space.specs.Parts.{PartsShape, nth_plan, plan_over, parts_behind, AreSidesBelow, IsNodeOver, node_at, IsSameNode, IsNodeAt, AreNodes, KeepsParts}
 
 -- ---- one more part
 
@@ -18,7 +18,7 @@ parts-more-behind : (before : List PlanTree) (nodes : List Node) (node : Node)
 parts-more-behind before [] node = refl
 parts-more-behind before (first ∷ more) node = parts-more-behind (before ++ plan_over before first.root first.left first.right ∷ []) more node
 
-pub parts-more : (nodes : List Node) (node : Node) → plans_of_nodes (nodes ++ node ∷ []) ≡ plans_of_nodes nodes ++ plan_over (plans_of_nodes nodes) node.root node.left node.right ∷ []
+pub parts-more : (nodes : List Node) (node : Node) → parts_behind [] (nodes ++ node ∷ []) ≡ parts_behind [] nodes ++ plan_over (parts_behind [] nodes) node.root node.left node.right ∷ []
 parts-more nodes node = parts-more-behind [] nodes node
 
 parts-long-behind : (before : List PlanTree) (nodes : List Node) → length (parts_behind before nodes) ≡ length before + length nodes
@@ -27,7 +27,7 @@ parts-long-behind before (node ∷ more) =
     let one = plan_over before node.root node.left node.right ∷ [] in
     omega (arith, parts-long-behind (before ++ one) more, length-append before one)
 
-pub parts-long : (nodes : List Node) → length (plans_of_nodes nodes) ≡ length nodes
+pub parts-long : (nodes : List Node) → length (parts_behind [] nodes) ≡ length nodes
 parts-long nodes = parts-long-behind [] nodes ∙ omega arith
 
 pub keeps-more : (before after : PartsShape) (p : PlanTree) → after.block ≡ before.block → after.plans ≡ before.plans ++ p ∷ [] → KeepsParts before after
@@ -38,16 +38,16 @@ keeps-more before after p block more = record {
 }
 
 -- the part at the end
-pub last-part : (nodes : List Node) (node : Node) → nth_plan (plans_of_nodes (nodes ++ node ∷ [])) (length nodes) ≡ plan_over (plans_of_nodes nodes) node.root node.left node.right
+pub last-part : (nodes : List Node) (node : Node) → nth_plan (parts_behind [] (nodes ++ node ∷ [])) (length nodes) ≡ plan_over (parts_behind [] nodes) node.root node.left node.right
 last-part nodes node =
-    let p = plan_over (plans_of_nodes nodes) node.root node.left node.right in
-    (λ i. nth_plan (parts-more nodes node i) (sym (parts-long nodes) i)) ∙ get_or-append_seam (plans_of_nodes nodes) p [] (Scan 0)
+    let p = plan_over (parts_behind [] nodes) node.root node.left node.right in
+    (λ i. nth_plan (parts-more nodes node i) (sym (parts-long nodes) i)) ∙ get_or-append_seam (parts_behind [] nodes) p [] (Scan 0)
 
 -- a node over some parts is one of all parts
-at-more : (block : BlockTree) (nodes : List Node) (node : Node) → IsNodeOver block (plans_of_nodes nodes) node.root node.set node.left node.right
-    → IsNodeAt block (plans_of_nodes nodes ++ plan_over (plans_of_nodes nodes) node.root node.left node.right ∷ []) node (length nodes)
+at-more : (block : BlockTree) (nodes : List Node) (node : Node) → IsNodeOver block (parts_behind [] nodes) node.root node.set node.left node.right
+    → IsNodeAt block (parts_behind [] nodes ++ plan_over (parts_behind [] nodes) node.root node.left node.right ∷ []) node (length nodes)
 at-more block nodes node over =
-    let parts = plans_of_nodes nodes in
+    let parts = parts_behind [] nodes in
     let p = plan_over parts node.root node.left node.right in
     let before : take (length nodes) (parts ++ p ∷ []) ≡ parts =
     take-append-le (length nodes) parts (p ∷ []) (omega (arith, parts-long nodes)) ∙ take_all (length nodes) parts (omega (arith, parts-long nodes)) in
@@ -65,21 +65,21 @@ at-kept block parts p node number less is =
       part = get_or-append parts (p ∷ []) (Scan 0) number less ∙ is.part ∙ ap (λ all. plan_over all node.root node.left node.right) (sym before);
     }
 
-pub nodes-more : (block : BlockTree) (nodes : List Node) (node : Node) → AreNodes block nodes → IsNodeOver block (plans_of_nodes nodes) node.root node.set node.left node.right
+pub nodes-more : (block : BlockTree) (nodes : List Node) (node : Node) → AreNodes block nodes → IsNodeOver block (parts_behind [] nodes) node.root node.set node.left node.right
     → AreNodes block (nodes ++ node ∷ [])
 nodes-more block nodes node all over number less =
     let none : Node = record { root = root.Scan 0; set = 0; left = 0; right = 0; earlier = 0 } in
     let long = length-append nodes (node ∷ []) in
-    let p = plan_over (plans_of_nodes nodes) node.root node.left node.right in
-    let there : IsNodeAt block (plans_of_nodes nodes ++ p ∷ []) (node_at (nodes ++ node ∷ []) number) number =
+    let p = plan_over (parts_behind [] nodes) node.root node.left node.right in
+    let there : IsNodeAt block (parts_behind [] nodes ++ p ∷ []) (node_at (nodes ++ node ∷ []) number) number =
     elim (cases_lt number (length nodes)) [
       | inl old ↦
-          subst (λ one. IsNodeAt block (plans_of_nodes nodes ++ p ∷ []) one number) (sym (get_or-append nodes (node ∷ []) none number old))
-          (at-kept block (plans_of_nodes nodes) p (node_at nodes number) number (omega (arith, old, parts-long nodes)) (all number old))
+          subst (λ one. IsNodeAt block (parts_behind [] nodes ++ p ∷ []) one number) (sym (get_or-append nodes (node ∷ []) none number old))
+          (at-kept block (parts_behind [] nodes) p (node_at nodes number) number (omega (arith, old, parts-long nodes)) (all number old))
       | inr new ↦
           let last : length nodes ≡ number = omega (arith, new, less, long) in
-          subst (λ k. IsNodeAt block (plans_of_nodes nodes ++ p ∷ []) (node_at (nodes ++ node ∷ []) k) k) last
-          (subst (λ one. IsNodeAt block (plans_of_nodes nodes ++ p ∷ []) one (length nodes)) (sym (get_or-append_seam nodes node [] none)) (at-more block nodes node over))
+          subst (λ k. IsNodeAt block (parts_behind [] nodes ++ p ∷ []) (node_at (nodes ++ node ∷ []) k) k) last
+          (subst (λ one. IsNodeAt block (parts_behind [] nodes ++ p ∷ []) one (length nodes)) (sym (get_or-append_seam nodes node [] none)) (at-more block nodes node over))
     ] in
     subst (λ parts. IsNodeAt block parts (node_at (nodes ++ node ∷ []) number) number) (sym (parts-more nodes node)) there
 
@@ -104,17 +104,17 @@ over-all parts (root.IndexLoop e s r) left right number few a =
     λ i. IndexLoop e (get_or-take number parts left (Scan 0) (omega (arith, a, long)) i) r
 
 pub part-of : (block : BlockTree) (nodes : List Node) (number : ℕ) → AreNodes block nodes → number < length nodes
-    → let node = node_at nodes number in nth_plan (plans_of_nodes nodes) number ≡ plan_over (plans_of_nodes nodes) node.root node.left node.right
+    → let node = node_at nodes number in nth_plan (parts_behind [] nodes) number ≡ plan_over (parts_behind [] nodes) node.root node.left node.right
 part-of block nodes number all less =
     let is = all number less in
     let node = node_at nodes number in
-    is.part ∙ over-all (plans_of_nodes nodes) node.root node.left node.right number (omega (arith, less, parts-long nodes)) is.over.sides
+    is.part ∙ over-all (parts_behind [] nodes) node.root node.left node.right number (omega (arith, less, parts-long nodes)) is.over.sides
 
 pub part-of-same : (block : BlockTree) (nodes : List Node) (number : ℕ) (node : Node) → AreNodes block nodes → number < length nodes
-    → IsSameNode (node_at nodes number) node → nth_plan (plans_of_nodes nodes) number ≡ plan_over (plans_of_nodes nodes) node.root node.left node.right
+    → IsSameNode (node_at nodes number) node → nth_plan (parts_behind [] nodes) number ≡ plan_over (parts_behind [] nodes) node.root node.left node.right
 part-of-same block nodes number node all less same =
-    part-of block nodes number all less ∙ (λ i. plan_over (plans_of_nodes nodes) (same.root i) (same.left i) (same.right i))
+    part-of block nodes number all less ∙ (λ i. plan_over (parts_behind [] nodes) (same.root i) (same.left i) (same.right i))
 
 pub set-of-part : (block : BlockTree) (nodes : List Node) (number : ℕ) → AreNodes block nodes → number < length nodes
-    → (node_at nodes number).set ≡ covers_of (nth_plan (plans_of_nodes nodes) number)
+    → (node_at nodes number).set ≡ covers_of (nth_plan (parts_behind [] nodes) number)
 set-of-part block nodes number all less = let is = all number less in is.over.covers ∙ ap covers_of (sym is.part)

@@ -8,7 +8,6 @@ use Rattle.plan_tree.specs.Sets.{set_of}
 use Rattle.cost_model.specs.Costing.{CostingShape}
 use Rattle.cost_model.specs.Alike.{IsAlike}
 use Rattle.plan_space.specs.declared.entry.Entry.{Entry}
-use Rattle.plan_space.specs.Places.{HoldsAt}
 use Rattle.plan_space.specs.Table.{AreLeast}
 use Rattle.cost_model.specs.Pricing.{Pricing}
 use Rattle.cost_model.specs.Prices.{own_at, block_at}
@@ -40,19 +39,15 @@ abbrev pub AreInsideSets : BlockTree → List (List Bool) → Type 0
 AreInsideSets block inside = (set : ℕ) → set < 64 → AreInside block set (slice_index_or inside set [])
 
 -- the entries of a row are least at a point
-abbrev pub LeastAt : CostingShape → (point : List ℕ) → List Entry → Type 0
-LeastAt costing point row =
+abbrev pub LeastAt : CostingShape → List Entry → (point : List ℕ) → Type 0
+LeastAt costing row point =
     AreLeast (own_at (record { costing = costing; point = point })) (block_tree costing.block) row (2 ^ length (block_tree costing.block).relations)
-
--- so at the point at this place of the grid
-abbrev pub IsLeastRow : CostingShape → (place : ℕ) → List Entry → Type 0
-IsLeastRow costing place row = HoldsAt costing.grid place (λ point. LeastAt costing point row)
 
 -- the tables of the first points of the grid, each a row
 abbrev pub AreLeastRows : CostingShape → List (List Entry) → Type 0
 AreLeastRows costing rows =
     (place : ℕ) (point : List ℕ) → place < length rows → point_at costing.grid place ≡ Some point
-    → LeastAt costing point (slice_index_or rows place [])
+    → LeastAt costing (slice_index_or rows place []) point
 
 -- what is known of earlier points: which axes are inside which sets, and the tables of the first points
 pub record AreEarlier (costing : CostingShape) (inside : List (List Bool)) (rows : List (List Entry)) : Type 0 where

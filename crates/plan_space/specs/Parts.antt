@@ -40,9 +40,6 @@ abbrev pub parts_behind : List PlanTree → List Node → List PlanTree
 parts_behind parts [] = parts
 parts_behind parts (node ∷ more) = parts_behind (parts ++ plan_over parts node.root node.left node.right ∷ []) more
 
-abbrev pub plans_of_nodes : List Node → List PlanTree
-plans_of_nodes = parts_behind []
-
 -- the sides of a node are numbers below this one
 abbrev pub AreSidesBelow : Root → (left right number : ℕ) → Type 0
 AreSidesBelow (root.Scan relation) left right number = Unit {0}
@@ -76,7 +73,7 @@ pub record IsNodeAt (block : BlockTree) (parts : List PlanTree) (node : Node) (n
   pub part : nth_plan parts number ≡ plan_over (take number parts) node.root node.left node.right
 
 abbrev pub AreNodes : BlockTree → List Node → Type 0
-AreNodes block nodes = (number : ℕ) → number < length nodes → IsNodeAt block (plans_of_nodes nodes) (node_at nodes number) number
+AreNodes block nodes = (number : ℕ) → number < length nodes → IsNodeAt block (parts_behind [] nodes) (node_at nodes number) number
 
 -- there may be more parts, and each has the number that it had
 pub record KeepsParts (before after : PartsShape) : Type 0 where

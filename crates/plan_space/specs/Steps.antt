@@ -1,6 +1,5 @@
 -- What each step of the search for a set's entry has considered.
-use Rattle.std.specs.Prelude.{◌≡◌, ◌⊎◌, ℕ, ◌<◌, IsTrue, List, nat_eq}
-use Rattle.std.specs.List.{list_any}
+use Rattle.std.specs.Prelude.{◌≡◌, ℕ}
 use Rattle.plan_tree.specs.declared.roots.Root.{Root}
 use Rattle.plan_tree.specs.declared.roots.Root.TheVariants as root
 use Rattle.plan_space.specs.declared.entry.Entry.{Entry}
@@ -13,45 +12,23 @@ use Rattle.cost_model.specs.Prices.{own_at, block_at}
 abbrev pub Group : Type 1
 Group = Root → Type 0
 
--- joins by one edge with this left side
-abbrev pub IsByEdge : (edge left : ℕ) → Group
-IsByEdge edge left (root.Scan relation) = ⊥
-IsByEdge edge left (root.IndexScan relation column) = ⊥
-IsByEdge edge left (root.Nest side) = ⊥
-IsByEdge edge left (root.Hash number side) = (number ≡ edge) × (side ≡ left)
-IsByEdge edge left (root.Merge number side) = (number ≡ edge) × (side ≡ left)
-IsByEdge edge left (root.IndexLoop number side relation) = (number ≡ edge) × (side ≡ left)
+-- joins by an edge that is so, with this left side
+abbrev pub HasEdge : (IsSo : ℕ → Type 0) → (left : ℕ) → Group
+HasEdge IsSo left (root.Scan relation) = ⊥
+HasEdge IsSo left (root.IndexScan relation column) = ⊥
+HasEdge IsSo left (root.Nest side) = ⊥
+HasEdge IsSo left (root.Hash number side) = IsSo number × (side ≡ left)
+HasEdge IsSo left (root.Merge number side) = IsSo number × (side ≡ left)
+HasEdge IsSo left (root.IndexLoop number side relation) = IsSo number × (side ≡ left)
 
--- joins by one of the edges before this one
-abbrev pub IsBeforeEdge : (edge left : ℕ) → Group
-IsBeforeEdge edge left (root.Scan relation) = ⊥
-IsBeforeEdge edge left (root.IndexScan relation column) = ⊥
-IsBeforeEdge edge left (root.Nest side) = ⊥
-IsBeforeEdge edge left (root.Hash number side) = (number < edge) × (side ≡ left)
-IsBeforeEdge edge left (root.Merge number side) = (number < edge) × (side ≡ left)
-IsBeforeEdge edge left (root.IndexLoop number side relation) = (number < edge) × (side ≡ left)
-
--- the joins by one edge that read both sides
-abbrev pub IsPairBy : (edge left : ℕ) → Group
-IsPairBy edge left node = (node ≡ root.Hash edge left) ⊎ (node ≡ root.Merge edge left)
-
--- all joins with this left side
-abbrev pub IsByLeft : (left : ℕ) → Group
-IsByLeft left (root.Scan relation) = ⊥
-IsByLeft left (root.IndexScan relation column) = ⊥
-IsByLeft left (root.Nest side) = side ≡ left
-IsByLeft left (root.Hash number side) = side ≡ left
-IsByLeft left (root.Merge number side) = side ≡ left
-IsByLeft left (root.IndexLoop number side relation) = side ≡ left
-
--- all joins whose left side is a number below this one
-abbrev pub IsBeforeLeft : (left : ℕ) → Group
-IsBeforeLeft left (root.Scan relation) = ⊥
-IsBeforeLeft left (root.IndexScan relation column) = ⊥
-IsBeforeLeft left (root.Nest side) = side < left
-IsBeforeLeft left (root.Hash number side) = side < left
-IsBeforeLeft left (root.Merge number side) = side < left
-IsBeforeLeft left (root.IndexLoop number side relation) = side < left
+-- all joins whose left side is so
+abbrev pub HasLeft : (IsSo : ℕ → Type 0) → Group
+HasLeft IsSo (root.Scan relation) = ⊥
+HasLeft IsSo (root.IndexScan relation column) = ⊥
+HasLeft IsSo (root.Nest side) = IsSo side
+HasLeft IsSo (root.Hash number side) = IsSo side
+HasLeft IsSo (root.Merge number side) = IsSo side
+HasLeft IsSo (root.IndexLoop number side relation) = IsSo side
 
 -- all ways to read a relation
 abbrev pub ReadsRelation : Group
@@ -78,12 +55,3 @@ IsLookUpBy edge left (root.Nest side) = ⊥
 IsLookUpBy edge left (root.Hash number side) = ⊥
 IsLookUpBy edge left (root.Merge number side) = ⊥
 IsLookUpBy edge left (root.IndexLoop number side relation) = (number ≡ edge) × (side ≡ left)
-
--- scans of a relation by one of these columns
-abbrev pub IsScanBy : (relation : ℕ) → (columns : List ℕ) → Group
-IsScanBy relation columns (root.Scan other) = ⊥
-IsScanBy relation columns (root.IndexScan other column) = (other ≡ relation) × IsTrue (list_any (λ one. nat_eq one column) columns)
-IsScanBy relation columns (root.Nest side) = ⊥
-IsScanBy relation columns (root.Hash number side) = ⊥
-IsScanBy relation columns (root.Merge number side) = ⊥
-IsScanBy relation columns (root.IndexLoop number side other) = ⊥

@@ -1,6 +1,6 @@
 -- The table that is filled: for each set of relations the cheapest way to join it, by the entries of smaller sets. What a
 -- node costs by itself is a function of the node and the set.
-use Rattle.std.specs.Prelude.{◌≡◌, ◌⊎◌, ℕ, ◌+◌, ◌-◌, ◌*◌, ◌^◌, ◌<◌, ◌≤◌, List, ◌∷◌, length, slice_index_or, false}
+use Rattle.std.specs.Prelude.{◌≡◌, ℕ, ◌+◌, ◌-◌, ◌*◌, ◌^◌, ◌<◌, ◌≤◌, List, ◌∷◌, length, slice_index_or, false}
 use Rattle.std.specs.Ordering.{nat_cmp, is_gt}
 use Rattle.std.specs.Cmp.Lexicographic.{slice_cmp}
 use Rattle.query_block.specs.Blocks.{BlockTree}
@@ -34,12 +34,6 @@ rank entry = entry.cost ∷ root_numbers entry.root
 
 abbrev pub NotLater : Entry → Entry → Type 0
 NotLater entry other = is_gt (slice_cmp nat_cmp (rank entry) (rank other)) ≡ false
-
--- of what was found and what is offered, the one that is kept is not later than either
-pub record IsFirstOf (found offered kept : Entry) : Type 0 where
-  pub either : (kept ≡ found) ⊎ (kept ≡ offered)
-  pub to_found : NotLater kept found
-  pub to_offered : NotLater kept offered
 
 -- the entry of a set is a node over the entries of its sides, and its cost is far from the end of 128 bits
 pub record IsOffered (own : OwnCost) (block : BlockTree) (table : List Entry) (set : ℕ) (entry : Entry) : Type 0 where

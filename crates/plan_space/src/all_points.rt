@@ -9,7 +9,7 @@ ghost use Rattle.cost_model.specs.Best.{IsBest};
 ghost use Rattle.cost_model.specs.Optimal.{optimal_cost};
 ghost use Rattle.plan_space.specs.Places.{HoldsAt};
 ghost use Rattle.plan_space.specs.Table.{AllStand};
-ghost use Rattle.plan_space.specs.Alike.{AreEarlier, AreLeastRows, IsLeastRow};
+ghost use Rattle.plan_space.specs.Alike.{AreEarlier, AreLeastRows, LeastAt};
 
 use crate::alike::axes_inside_sets;
 use crate::entry::Entry;
@@ -58,7 +58,7 @@ fn row_of(
 ) -> [Entry; 64]
     requires earlier { AreEarlier costing.now inside.now rows.now }
     requires place { place < length (points_of costing.now.grid) }
-    ensures { IsLeastRow costing.now place result }
+    ensures { HoldsAt costing.now.grid place (LeastAt costing.now result) }
 {
     let q = costing.grid().point(place);
     filled(&Prices::new(costing, &q, room), inside, rows)
@@ -96,7 +96,7 @@ impl BestPlans<'_> {
     // The entries at the point at this place.
     fn row(&self, place: usize) -> &[Entry; 64]
         requires { place < length (points_of self.now.grid) }
-        ensures least { IsLeastRow self.now place result.now }
+        ensures least { HoldsAt self.now.grid place (LeastAt self.now result.now) }
         ensures stands { AllStand (block_tree self.now.block) result.now }
     {
         &self.rows.as_slice()[place]

@@ -1,9 +1,9 @@
 // What is kept of the best plan of a set of relations, and which of two such plans is kept.
-ghost use Rattle.std.specs.Prelude.{◌≡◌};
+ghost use Rattle.std.specs.Prelude.{◌≡◌, ◌⊎◌};
 ghost use Rattle.std.specs.Ordering.{nat_cmp};
 ghost use Rattle.std.specs.Cmp.Lexicographic.{slice_cmp};
 ghost use Rattle.plan_tree.specs.Roots.{root_numbers};
-ghost use Rattle.plan_space.specs.Table.{IsFirstOf};
+ghost use Rattle.plan_space.specs.Table.{NotLater};
 
 use plan_tree::Root;
 use std::cmp::Ordering;
@@ -38,7 +38,9 @@ fn root_order(root: Root, other: Root) -> Ordering
 
 /// Of the plan that was found and the plan that is offered, the cheaper one; of equally cheap ones the first in plan order.
 pub(crate) fn keep(found: Entry, offered: Entry) -> Entry
-    ensures { IsFirstOf found offered result }
+    ensures either { (result ≡ found) ⊎ (result ≡ offered) }
+    ensures to_found { NotLater result found }
+    ensures to_offered { NotLater result offered }
 {
     match found.cost.cmp(&offered.cost) {
         Ordering::Less => found,

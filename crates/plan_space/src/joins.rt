@@ -1,9 +1,10 @@
 // The joins that may be the outermost node of a plan of a set: each split of the set into two sides, and for each split a
 // nested loop and the joins by each edge that crosses it.
-ghost use Rattle.std.specs.Prelude.{◌≡◌, ◌-◌, ◌^◌, ◌<◌, ◌≤◌, length};
+ghost use Rattle.std.specs.Prelude.{◌≡◌, ◌⊎◌, ◌-◌, ◌^◌, ◌<◌, ◌≤◌, length};
+ghost use Rattle.plan_tree.specs.declared.roots.Root.TheVariants.{Hash, Merge};
 ghost use Rattle.plan_tree.specs.Roots.{IsSplit};
 ghost use Rattle.plan_space.specs.Search.{JoinsSides};
-ghost use Rattle.plan_space.specs.Steps.{Considers, IsByEdge, IsBeforeEdge, IsByLeft, IsBeforeLeft, IsLookUpBy, IsPairBy};
+ghost use Rattle.plan_space.specs.Steps.{Considers, HasEdge, HasLeft, IsLookUpBy};
 
 use crate::entry::Entry;
 use crate::steps::Search;
@@ -13,7 +14,8 @@ impl Search<'_> {
     // A hash join and a merge join of the two sides by an edge.
     fn by_pairs(&self, left: Subset, edge: u8, start: Entry) -> Entry
         requires { JoinsSides self.now edge left }
-        ensures { Considers self.now (IsPairBy edge left) start result }
+        ensures { Considers self.now
+            (λ node. (node ≡ Hash edge left) ⊎ (node ≡ Merge edge left)) start result }
     {
         let candidates = self.prices.candidates(edge, left, self.set);
         let side = left.number();
@@ -43,7 +45,7 @@ impl Search<'_> {
     fn by_edge(&self, left: Subset, edge: u8, start: Entry) -> Entry
         requires split { IsSplit left self.now.set }
         requires edge { edge < length self.now.at.costing.block.edges }
-        ensures { Considers self.now (IsByEdge edge left) start result }
+        ensures { Considers self.now (HasEdge (λ number. number ≡ edge) left) start result }
     {
         if !is_crossed(self.prices.block(), edge, left, self.set.without(left)) {
             return start;
@@ -61,7 +63,7 @@ impl Search<'_> {
     fn by_edges(&self, left: Subset, start: Entry) -> Entry
         requires { IsSplit left self.now.set }
         ensures { let edges = length self.now.at.costing.block.edges in
-            Considers self.now (IsBeforeEdge edges left) start result }
+            Considers self.now (HasEdge (λ number. number < edges) left) start result }
     {
         let mut found = start;
         for edge in 0..self.prices.block().edges().len() {
@@ -75,7 +77,7 @@ impl Search<'_> {
     fn by_left(&self, left: u8, start: Entry) -> Entry
         requires some { 1 ≤ left }
         requires less { left < self.now.set }
-        ensures { Considers self.now (IsByLeft left) start result }
+        ensures { Considers self.now (HasLeft (λ side. side ≡ left)) start result }
     {
         if left & (self.set.number() - left) != 0 {
             return start;
@@ -91,7 +93,7 @@ impl Search<'_> {
 
     /// All joins of the set.
     pub(crate) fn joins(&self, start: Entry) -> Entry
-        ensures { Considers self.now (IsBeforeLeft self.now.set) start result }
+        ensures { Considers self.now (HasLeft (λ side. side < self.now.set)) start result }
     {
         let mut found = start;
         for left in 1..self.set.number() {

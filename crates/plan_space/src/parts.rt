@@ -32,16 +32,16 @@ pub(crate) struct Parts<'b> {
 impl<'b> Model for Parts<'b> {
     ghost use Rattle.query_block.specs.contracts.condition.Condition as condition;
     ghost use Rattle.std.specs.Coded.{codes};
-    ghost use Rattle.std.specs.Prelude.{◌≤◌, length};
+    ghost use Rattle.std.specs.Prelude.{◌≤◌, [], length};
     ghost use Rattle.query_block.specs.Blocks.{block_tree};
     ghost use Rattle.plan_space.specs.PlanCodes.{plan_tree_code};
-    ghost use Rattle.plan_space.specs.Parts.{PartsShape, plans_of_nodes, AreNodes};
+    ghost use Rattle.plan_space.specs.Parts.{PartsShape, parts_behind, AreNodes};
 
     ghost Value = { PartsShape };
 
     ghost coded = { Prim.hlevel (codes, condition.the_row.coded, plan_tree_code) };
 
-    ghost view = { λ p. record { block = p.block.now; plans = plans_of_nodes p.nodes.items } };
+    ghost view = { λ p. record { block = p.block.now; plans = parts_behind [] p.nodes.items } };
 
     ghost invariant = { λ p. AreNodes (block_tree p.block.now) p.nodes.items
         × (1 ≤ length p.latest.items) };

@@ -5,7 +5,7 @@ ghost use Rattle.plan_tree.specs.Roots.{IsSplit, Stands};
 ghost use Rattle.cost_model.specs.Prices.{block_at, IsPrice};
 ghost use Rattle.plan_space.specs.Table.{entry_at, side_costs};
 ghost use Rattle.plan_space.specs.Search.{IsFound};
-ghost use Rattle.plan_space.specs.Steps.{Considers, IsByLeft};
+ghost use Rattle.plan_space.specs.Steps.{Considers, HasLeft};
 
 use crate::entry::{Entry, keep};
 use cost_model::Prices;
@@ -68,7 +68,7 @@ impl Search<'_> {
     /// relation, an index loop needs no plan of it.
     pub(crate) fn least_sides(&self, left: Subset) -> u128
         requires { IsSplit left self.now.set }
-        ensures { (node : Root) → IsByLeft left node →
+        ensures { (node : Root) → HasLeft (λ side. side ≡ left) node →
             Stands (block_at self.now.at) node self.now.set →
             result ≤ side_costs self.now.table node self.now.set }
     {

@@ -1,5 +1,6 @@
 use Rattle.std.proofs.Common.{sym, subst, arith}
-use Rattle.plan_space.specs.Alike.{AreLeastRows, IsLeastRow}
+use Rattle.plan_space.specs.Places.{HoldsAt}
+use Rattle.plan_space.specs.Alike.{AreLeastRows, LeastAt}
 use Rattle.plan_space.proofs.Rows.{add-row}
 use Rattle.plan_space.proofs.all_points.rows_of.Goals as goal
 
@@ -14,6 +15,6 @@ loop-place-preserved c =
     let costing = c.args.costing.now in
     let rows = c.loop-place.rows.items in
     let row = c.row_of-row.result in (
-      add-row costing rows c.push.new.self.items row c.loop-place.invariant.0 (subst (λ place. IsLeastRow costing place row) (sym c.loop-place.invariant.1) c.row_of-row.ensures) c.in_ok-push.ensures.items,
+      add-row costing rows c.push.new.self.items row c.loop-place.invariant.0 (subst (λ place. HoldsAt costing.grid place (LeastAt costing row)) (sym c.loop-place.invariant.1) c.row_of-row.ensures) c.in_ok-push.ensures.items,
       omega (arith, c.in_ok-push.ensures.len, c.loop-place.invariant.1),
     )

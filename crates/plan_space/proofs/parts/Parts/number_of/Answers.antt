@@ -2,7 +2,7 @@ use Rattle.std.proofs.Common.{◌≡◌, ◌∙◌, ◌<◌, ◌++◌, [], ◌�
 use Rattle.std.proofs.lemmas.Grind.{common_steps}
 use Rattle.query_block.specs.Blocks.{block_tree}
 use Rattle.plan_space.specs.declared.node.Node.{Node}
-use Rattle.plan_space.specs.Parts.{PartsShape, plan_over, plans_of_nodes, AreNodes, IsNodeOver, IsNthPlan, IsSameNode, KeepsParts, node_at}
+use Rattle.plan_space.specs.Parts.{PartsShape, plan_over, parts_behind, AreNodes, IsNodeOver, IsNthPlan, IsSameNode, KeepsParts, node_at}
 use Rattle.plan_space.proofs.PartNumbers.{keeps-more, last-part, parts-more, nodes-more, part-of-same, parts-long}
 use Rattle.plan_space.proofs.parts.Parts.number_of.Goals as goal
 
@@ -33,19 +33,19 @@ pub returns-clause-kept : goal.returns-clause-kept
 returns-clause-kept c =
     let nodes = c.self.inside.nodes.items in
     let node : Node = record { root = c.args.node.root; set = c.args.node.set; left = c.args.node.left; right = c.args.node.right; earlier = c.index-earlier.result.now } in
-    let before : PartsShape = record { block = c.self.inside.block.now; plans = plans_of_nodes nodes } in
-    let after : PartsShape = record { block = c.self.inside.block.now; plans = plans_of_nodes c.push.new.self.items } in
+    let before : PartsShape = record { block = c.self.inside.block.now; plans = parts_behind [] nodes } in
+    let after : PartsShape = record { block = c.self.inside.block.now; plans = parts_behind [] c.push.new.self.items } in
     subst (λ shape. KeepsParts shape after) c.self.view_is
-    (keeps-more before after (plan_over (plans_of_nodes nodes) node.root node.left node.right) refl (ap plans_of_nodes c.in_ok-push.ensures.items ∙ parts-more nodes node))
+    (keeps-more before after (plan_over (parts_behind [] nodes) node.root node.left node.right) refl (ap (parts_behind []) c.in_ok-push.ensures.items ∙ parts-more nodes node))
 
 pub returns-clause-there : goal.returns-clause-there
 returns-clause-there c =
     let nodes = c.self.inside.nodes.items in
     let node : Node = record { root = c.args.node.root; set = c.args.node.set; left = c.args.node.left; right = c.args.node.right; earlier = c.index-earlier.result.now } in
-    let p = plan_over (plans_of_nodes nodes) node.root node.left node.right in
+    let p = plan_over (parts_behind [] nodes) node.root node.left node.right in
     let more : c.push.new.self.items ≡ nodes ++ node ∷ [] = c.in_ok-push.ensures.items in
-    let there : IsNthPlan (plans_of_nodes c.push.new.self.items) p (length nodes) =
-    subst (λ all. IsNthPlan (plans_of_nodes all) p (length nodes)) (sym more)
+    let there : IsNthPlan (parts_behind [] c.push.new.self.items) p (length nodes) =
+    subst (λ all. IsNthPlan (parts_behind [] all) p (length nodes)) (sym more)
     (record { exists = omega (arith, parts-long (nodes ++ node ∷ []), length-append nodes (node ∷ [])); is = last-part nodes node }) in
-    subst (λ parts. IsNthPlan (plans_of_nodes c.push.new.self.items) (plan_over parts node.root node.left node.right) c.len-number.result) (ap (λ (shape : PartsShape). shape.plans) c.self.view_is)
-    (subst (IsNthPlan (plans_of_nodes c.push.new.self.items) p) (sym (ap length c.as_slice.ensures.value) ∙ c.as_slice.ensures.len ∙ sym c.len-number.ensures) there)
+    subst (λ parts. IsNthPlan (parts_behind [] c.push.new.self.items) (plan_over parts node.root node.left node.right) c.len-number.result) (ap (λ (shape : PartsShape). shape.plans) c.self.view_is)
+    (subst (IsNthPlan (parts_behind [] c.push.new.self.items) p) (sym (ap length c.as_slice.ensures.value) ∙ c.as_slice.ensures.len ∙ sym c.len-number.ensures) there)

@@ -1,6 +1,6 @@
-use Rattle.std.proofs.Common.{◌≡◌, subst}
+use Rattle.std.proofs.Common.{◌≡◌, ◌⊎◌, subst}
 use Rattle.plan_tree.specs.declared.roots.Root.TheVariants as root
-use Rattle.plan_space.specs.Steps.{Considers, IsPairBy}
+use Rattle.plan_space.specs.Steps.{Considers}
 use Rattle.plan_space.proofs.Considered.{and-then}
 use Rattle.plan_space.proofs.steps.Search.by_pairs.Goals as goal
 
@@ -10,7 +10,7 @@ returns c =
     let edge = c.args.edge in
     let left = c.args.left in
     and-then sought (λ node. node ≡ root.Hash edge left) (λ node. node ≡ root.Merge edge left)
-    (IsPairBy edge left) c.args.start c.consider-found.result c.consider.result
+    (λ node. (node ≡ root.Hash edge left) ⊎ (node ≡ root.Merge edge left)) c.args.start c.consider-found.result c.consider.result
     (subst (λ side. Considers sought (λ node. node ≡ root.Hash edge side) c.args.start c.consider-found.result) c.number-side.ensures
     (subst (λ one. Considers sought (λ node. node ≡ one) c.args.start c.consider-found.result) c.offered.ensures.root c.consider-found.ensures))
     (subst (λ side. Considers sought (λ node. node ≡ root.Merge edge side) c.consider-found.result c.consider.result) c.number-side.ensures

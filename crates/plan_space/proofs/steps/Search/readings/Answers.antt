@@ -1,8 +1,8 @@
 use Rattle.std.proofs.Common.{◌≡◌, ◌+◌, ◌≤◌, ◌∙◌, length, take, get_or, subst, arith}
 use Rattle.std.proofs.lemmas.List.{take_more, take_all}
 use Rattle.plan_tree.specs.declared.roots.Root.TheVariants as root
-use Rattle.plan_space.specs.Steps.{Considers, IsScanBy}
-use Rattle.plan_space.proofs.Considered.{and-then, next-column, read-all}
+use Rattle.plan_space.specs.Steps.{Considers}
+use Rattle.plan_space.proofs.Considered.{IsScanBy, and-then, next-column, read-all}
 use Rattle.plan_space.proofs.steps.Search.readings.Goals as goal
 
 pub loop-i-preserved : goal.loop-i-preserved

@@ -1,5 +1,6 @@
 use Rattle.std.proofs.Common.{take}
-use Rattle.plan_space.specs.Steps.{Considers, IsScanBy}
+use Rattle.plan_space.specs.Steps.{Considers}
+use Rattle.plan_space.proofs.Considered.{IsScanBy}
 use Rattle.plan_space.proofs.steps.Search.readings.Given as goal
 
 abbrev pub invariant-loop-i : goal.invariant-loop-i
