@@ -39,8 +39,9 @@ pub struct CostSurface<'c> {
 impl<'c> Model for CostSurface<'c> {
     ghost use Rattle.query_block.specs.contracts.condition.Condition as condition;
     ghost use Rattle.std.specs.Coded.{codes};
-    ghost use Rattle.cost_model.specs.Costing.{CostingShape};
-    ghost use Rattle.plan_space.specs.Surface.{IsSurface};
+    ghost use Rattle.std.specs.Prelude.{◌≡◌};
+    ghost use Rattle.cost_model.specs.Costing.{CostingShape, IsCosting, costing_tree};
+    ghost use Rattle.plan_space.specs.Surface.{optimal_costs};
 
     ghost Value = { CostingShape };
 
@@ -48,7 +49,8 @@ impl<'c> Model for CostSurface<'c> {
 
     ghost view = { λ s. s.costing.now };
 
-    ghost invariant = { λ s. IsSurface s.costing.now s.costs.items };
+    ghost invariant = { λ s. IsCosting (costing_tree s.costing.now)
+        × (s.costs.items ≡ optimal_costs (costing_tree s.costing.now)) };
 }
 
 // The optimal costs at all points.

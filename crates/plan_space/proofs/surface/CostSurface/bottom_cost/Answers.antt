@@ -16,5 +16,5 @@ pub returns : goal.returns
 returns c =
     let costing = c.self.inside.costing.now in
     number-of-point (optimal_cost (costing_tree costing)) (points_of costing.grid) c.self.inside.costs.items 0 c.index.result.now (bottom_of costing.grid)
-    c.self.invariant.costs (slice_get-bottom costing.grid (subst IsGrid c.grid.ensures c.points.ensures.grid)) c.index.ensures
+    c.self.invariant.1 (slice_get-bottom costing.grid (subst IsGrid c.grid.ensures c.points.ensures.grid)) c.index.ensures
     ∙ ap (λ (one : CostingShape). optimal_cost (costing_tree one) (bottom_of one.grid)) c.self.view_is

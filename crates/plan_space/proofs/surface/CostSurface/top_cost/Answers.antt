@@ -23,7 +23,7 @@ index-requires c =
       overflow_sub-points c,
       c.points.ensures.count,
       ap (λ (g : GridShape). length (points_of g)) c.grid.ensures,
-      ap length c.self.invariant.costs,
+      ap length c.self.invariant.1,
       length-map points (optimal_cost (costing_tree costing)),
       c.self.inside.costs.ok.0,
     )
@@ -36,5 +36,5 @@ returns c =
     let there : slice_get (points_of grid) (c.points.result - 1) ≡ Some (top_of grid) =
     ap (slice_get (points_of grid)) place ∙ slice_get-top grid (subst IsGrid c.grid.ensures c.points.ensures.grid) in
     number-of-point (optimal_cost (costing_tree costing)) (points_of grid) c.self.inside.costs.items (c.points.result - 1) c.index.result.now (top_of grid)
-    c.self.invariant.costs there c.index.ensures
+    c.self.invariant.1 there c.index.ensures
     ∙ ap (λ (one : CostingShape). optimal_cost (costing_tree one) (top_of one.grid)) c.self.view_is
