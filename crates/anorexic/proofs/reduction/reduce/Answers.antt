@@ -10,7 +10,8 @@ use Rattle.anorexic.proofs.reduction.reduce.Goals as goal
 
 pub reduce_frontier-requires-clause-frontier : goal.reduce_frontier-requires-clause-frontier
 reduce_frontier-requires-clause-frontier c =
-    apart-holds (costing_tree c.args.costing.now) c.args.frontier.now c.in_ok-apart.apart c.requires.frontier.each c.in_ok-apart.ensures
+    apart-holds (costing_tree c.args.costing.now) c.args.frontier.now c.in_ok-apart.apart c.requires.frontier.each
+    c.in_ok-apart.ensures.points c.in_ok-apart.ensures.plans
 
 pub returns : goal.returns
 returns c =
@@ -19,4 +20,4 @@ returns c =
     let apart = c.in_ok-apart.apart in
     IfOk-weaker c.reduce_frontier.result (λ plans. map plan_tree plans.items ≡ greedy costing c.args.threshold (surface_points apart.points.items))
     (λ plans. map plan_tree plans.items ≡ greedy costing c.args.threshold (frontier_points frontier))
-    (λ plans is. is ∙ ap (greedy costing c.args.threshold) (apart-points frontier apart c.in_ok-apart.ensures)) c.reduce_frontier.ensures
+    (λ plans is. is ∙ ap (greedy costing c.args.threshold) (apart-points frontier apart c.in_ok-apart.ensures.points)) c.reduce_frontier.ensures
