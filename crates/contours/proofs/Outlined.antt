@@ -10,22 +10,22 @@ use Rattle.bouquet_type.specs.declared.contour.Contour.{Contour}
 use Rattle.bouquet_type.specs.Trees.{BouquetTree, ContourTree, contour_tree}
 use Rattle.bouquet_type.specs.Compiled.{compiled}
 use Rattle.contours.specs.declared.maker.Found.{Found}
-use Rattle.contours.specs.Lazy.{MakerState, MakesNext, whole_of}
+use Rattle.contours.specs.Lazy.{MakerState, whole_of}
 
 -- the points are those of the frontiers of these contours
 abbrev pub AreOutlined : CostingTree → List (Vec (List ℕ) Global) → List Contour → Type 0
 AreOutlined costing frontiers contours =
     map (λ (points : Vec (List ℕ) Global). points.items) frontiers ≡ map (λ (contour : ContourTree). frontier costing contour.cost) (map contour_tree contours)
 
-pub outlined-more : (costing : CostingTree) (threshold : ℕ) (frontiers : List (Vec (List ℕ) Global)) (contours : List Contour) (points : Vec (List ℕ) Global) (found : Found) (old new : MakerState)
-    → whole_of old ≡ compiled costing threshold → MakesNext old new found → points.items ≡ surface_points found.points.items → AreOutlined costing frontiers contours
+pub outlined-more : (costing : CostingTree) (threshold : ℕ) (frontiers : List (Vec (List ℕ) Global)) (contours : List Contour) (points : Vec (List ℕ) Global) (found : Found) (old : MakerState)
+    → whole_of old ≡ compiled costing threshold → surface_points found.points.items ≡ frontier (whole_of old).costing found.contour.cost → points.items ≡ surface_points found.points.items → AreOutlined costing frontiers contours
     → AreOutlined costing (frontiers ++ points ∷ []) (contours ++ found.contour ∷ [])
 unfolding compiled
-outlined-more costing threshold frontiers contours points found old new whole makes are before =
+outlined-more costing threshold frontiers contours points found old whole makes are before =
     let items : Vec (List ℕ) Global → List (List ℕ) = λ points. points.items in
     let front : ContourTree → List (List ℕ) = λ contour. frontier costing contour.cost in
     let here : points.items ≡ frontier costing found.contour.cost =
-    are ∙ makes.points ∙ ap (λ (b : BouquetTree). frontier b.costing found.contour.cost) whole in
+    are ∙ makes ∙ ap (λ (b : BouquetTree). frontier b.costing found.contour.cost) whole in
     map_push items frontiers points
     ∙ ap₂ (λ (all : List (List (List ℕ))) (one : List (List ℕ)). all ++ one ∷ []) before here
     ∙ sym (ap (map front) (map_push contour_tree contours found.contour) ∙ map_push front (map contour_tree contours) (contour_tree found.contour))

@@ -25,15 +25,11 @@ whole_of m = compiled (costing_tree m.costing) m.threshold
 abbrev pub ahead_of : MakerState → List ContourTree
 ahead_of m = drop m.made (whole_of m).contours
 
--- the next contour was made, with the points of its frontier
-pub record MakesNext (old new : MakerState) (found : Found) : Type 0 where
-  pub whole : whole_of new ≡ whole_of old
-  pub ahead : ahead_of old ≡ contour_tree found.contour ∷ ahead_of new
-  pub points : surface_points found.points.items ≡ frontier (whole_of old).costing found.contour.cost
-
--- it was made; or all were, and nothing changed
+-- the next contour was made, with the points of its frontier; or all were, and nothing changed
 abbrev pub Makes : (old new : MakerState) → Option Found → Type 0
-Makes old new (Some found) = MakesNext old new found
+Makes old new (Some found) =
+    (whole_of new ≡ whole_of old) × (ahead_of old ≡ contour_tree found.contour ∷ ahead_of new)
+    × (surface_points found.points.items ≡ frontier (whole_of old).costing found.contour.cost)
 Makes old new None = (ahead_of old ≡ []) × (new ≡ old)
 
 -- the maker knows how many contours there are, and the cost of the next one

@@ -41,7 +41,6 @@ fn contours_by(alloc: Global, outlook: &Outlook<'_>, threshold: u32) -> Result<M
     ensures outline { IfOk result (λ made.
         IsOutline (bouquet_of (costing_tree outlook.now) threshold made.contours.items) made.outline) }
 {
-    let _costing = outlook.costing();
     let mut maker = Maker::new(outlook, threshold);
     let mut contours = Vec::new(alloc);
     let mut frontiers = Vec::new(alloc);

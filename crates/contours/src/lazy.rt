@@ -47,7 +47,6 @@ impl<'o> Lazy<'o> {
         ensures whole { (lazy_ladder result).whole ≡ compiled (costing_tree outlook.now) threshold }
         ensures sound { IsSound (compiled (costing_tree outlook.now) threshold) }
     {
-        let _costing = outlook.costing();
         Lazy {
             maker: Maker::new(outlook, threshold),
             hand: None,

@@ -1,7 +1,7 @@
 // Makes the contours of a compiled bouquet, one after another. No contour is made anywhere else.
 ghost use Rattle.std.specs.Prelude.{◌≡◌, ◌≤◌, IfOk, OnErr};
 ghost use Rattle.sql_values.specs.Limits.{max_threshold, max_contour_cost};
-ghost use Rattle.cost_model.specs.Costing.{costing_tree};
+ghost use Rattle.cost_model.specs.Costing.{costing_tree, IsCosting};
 ghost use Rattle.cost_model.specs.Frontier.{frontier};
 ghost use Rattle.plan_space.specs.SurfacePoints.{surface_points};
 ghost use Rattle.bouquet_type.specs.Trees.{contour_tree};
@@ -53,7 +53,8 @@ impl<'o> Model for Maker<'o> {
 
 // How many contours there are.
 fn count(surface: &CostSurface<'_>) -> u32
-    ensures { result ≡ contour_count (costing_tree surface.now) }
+    ensures count { result ≡ contour_count (costing_tree surface.now) }
+    ensures costing { IsCosting (costing_tree surface.now) }
 {
     let _costing = surface.costing();
     let top = surface.top_cost();
@@ -93,9 +94,9 @@ impl<'o> Maker<'o> {
     /// Before the first contour, by a threshold in percent. It takes no memory.
     pub(crate) fn new(outlook: &'o Outlook<'o>, threshold: u32) -> Maker<'o>
         requires { threshold ≤ max_threshold }
-        ensures { result ≡ record { costing = outlook.now; threshold = threshold; made = 0 } }
+        ensures start { result ≡ record { costing = outlook.now; threshold = threshold; made = 0 } }
+        ensures costing { IsCosting (costing_tree outlook.now) }
     {
-        let _costing = outlook.costing();
         Maker {
             outlook,
             threshold,

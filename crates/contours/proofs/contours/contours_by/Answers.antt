@@ -15,7 +15,7 @@ loop-frontiers-init c =
     let costing = costing_tree outlook in
     record {
       collected = subst (λ (contours : List Contour). AreCollected costing c.args.threshold contours c.new-maker.result) (sym c.new-contours.ensures.items)
-          (collected-none c.new-maker.result outlook c.args.threshold c.new-maker.ensures);
+          (collected-none c.new-maker.result outlook c.args.threshold c.new-maker.ensures.start);
       outlined = subst (λ (frontiers : List (Vec (List ℕ) Global)). AreOutlined costing frontiers c.new-contours.result.items) (sym c.new-frontiers.ensures.items)
           (subst (λ (contours : List Contour). AreOutlined costing [] contours) (sym c.new-contours.ensures.items) refl);
     }
@@ -23,7 +23,7 @@ loop-frontiers-init c =
 pub loop-frontiers-smaller : goal.loop-frontiers-smaller
 loop-frontiers-smaller c =
     let made = rw c.in-Some.is at c.in_ok-found.ensures.made in
-    omega (arith, ap length made.ahead)
+    omega (arith, ap length made.1)
 
 pub loop-frontiers-preserved : goal.loop-frontiers-preserved
 loop-frontiers-preserved c =
@@ -33,10 +33,10 @@ loop-frontiers-preserved c =
     let contours = c.loop-frontiers.contours.items in
     let maker = c.loop-frontiers.maker in
     let more =
-    collected-more costing c.args.threshold contours found.contour maker c.next.new.self made.whole made.ahead c.loop-frontiers.invariant.collected in
+    collected-more costing c.args.threshold contours found.contour maker c.next.new.self made.0 made.1 c.loop-frontiers.invariant.collected in
     let outlined =
-    outlined-more costing c.args.threshold c.loop-frontiers.frontiers.items contours c.in_ok-points.field-0 found maker c.next.new.self
-    c.loop-frontiers.invariant.collected.whole made (c.in_ok-points.ensures ∙ ap surface_points c.as_slice.ensures.value) c.loop-frontiers.invariant.outlined in
+    outlined-more costing c.args.threshold c.loop-frontiers.frontiers.items contours c.in_ok-points.field-0 found maker
+    c.loop-frontiers.invariant.collected.whole made.2 (c.in_ok-points.ensures ∙ ap surface_points c.as_slice.ensures.value) c.loop-frontiers.invariant.outlined in
     record {
       collected = subst (λ (contours : List Contour). AreCollected costing c.args.threshold contours c.next.new.self) (sym c.in_ok-push-2.ensures.items) more;
       outlined = subst (λ (all : List Contour). AreOutlined costing c.push.new.self.items all) (sym {A = List Contour} c.in_ok-push-2.ensures.items)
@@ -46,7 +46,7 @@ loop-frontiers-preserved c =
 pub returns-clause-contours : goal.returns-clause-contours
 returns-clause-contours c =
     let none = made-none c.loop-frontiers.maker c.next.new.self c.in_ok-found.field-0 c.in_ok-found.ensures.made c.in_default.not-Some in
-    collected-all (costing_tree c.args.outlook.now) c.args.threshold c.loop-frontiers.contours.items c.loop-frontiers.maker c.costing-costing.ensures.costing c.requires none
+    collected-all (costing_tree c.args.outlook.now) c.args.threshold c.loop-frontiers.contours.items c.loop-frontiers.maker c.new-maker.ensures.costing c.requires none
     c.loop-frontiers.invariant.collected
 
 pub returns-clause-outline : goal.returns-clause-outline

@@ -46,8 +46,8 @@ loop-last-preserved c =
       cost = omega (arith, now.cost, next-cost costing c.loop-last.count now.some);
     }
 
-pub returns : goal.returns
-returns c =
+pub returns-clause-count : goal.returns-clause-count
+returns-clause-count c =
     let costing = costing_tree c.args.surface.now in
     let now = c.loop-last.invariant in
     count-done costing c.loop-last.count c.costing-costing.ensures.costing now.some now.within (omega (arith, now.cost, c.loop-last-test.false, c.top_cost-top.ensures))

@@ -49,12 +49,11 @@ returns-clause-made c =
     let costing : CostingTree = costing_tree m.outlook.now in
     let more : m.made < contour_count costing = omega (arith, is.made, is.counted, c.if-self.false) in
     let behind = drop (m.made + 1) (compiled costing m.threshold).contours in
-    let tree = c.in_ok-found.ensures.contour in
-    record {
-      whole = ap whole_of c.self.view_is;
-      ahead = sym (ap ahead_of c.self.view_is) ∙ next-ahead costing m.threshold m.made more
-          ∙ ap (λ (one : ContourTree). one ∷ behind) (sym (tree ∙ ap (compiled_contour costing m.threshold) is.next));
-      points = c.in_ok-found.ensures.points
+    let tree = c.in_ok-found.ensures.contour in (
+      ap whole_of c.self.view_is,
+      sym (ap ahead_of c.self.view_is) ∙ next-ahead costing m.threshold m.made more
+          ∙ ap (λ (one : ContourTree). one ∷ behind) (sym (tree ∙ ap (compiled_contour costing m.threshold) is.next)),
+      c.in_ok-found.ensures.points
           ∙ ap (frontier costing) (sym (ap (λ (one : ContourTree). one.cost) tree))
-          ∙ ap (λ (one : MakerState). frontier (whole_of one).costing c.in_ok-found.found.contour.cost) c.self.view_is;
-    }
+          ∙ ap (λ (one : MakerState). frontier (whole_of one).costing c.in_ok-found.found.contour.cost) c.self.view_is,
+    )
