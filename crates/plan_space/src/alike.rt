@@ -2,6 +2,7 @@
 // These are the axes of the edges inside it and of its relations.
 ghost use Rattle.std.specs.Prelude.{ℕ, ◌≡◌, ◌<◌, ◌≤◌, IsTrue, false, if◌then◌else◌, length, slice_index_or};
 ghost use Rattle.query_block.specs.Blocks.{block_tree};
+ghost use Rattle.cost_model.specs.Costing.{IsCosting, costing_tree};
 ghost use Rattle.cost_model.specs.Prices.{block_at};
 ghost use Rattle.plan_space.specs.Alike.{AreInside, AreInsideSets, IsAlikePlace, MarksEdges, MarksRelation};
 
@@ -24,12 +25,12 @@ fn edges_inside(block: &Block, set: Subset) -> [bool; MAX_AXES]
 
 // Marks the axis of a relation, if it is in the set and has one.
 fn mark_relation(costing: &Costing<'_>, set: Subset, relation: u8, inside: &mut [bool; MAX_AXES])
-    requires { relation < length costing.now.block.relations }
+    requires costing { IsCosting (costing_tree costing.now) }
+    requires relation { relation < length costing.now.block.relations }
     ensures marked { MarksRelation (block_tree costing.now.block) set relation inside.new }
     ensures others { (axis : ℕ) → IsTrue (slice_index_or inside.old axis false) →
         IsTrue (slice_index_or inside.new axis false) }
 {
-    let _block = costing.block();
     if let Some(axis) = costing.axis_of(relation)
         && set.has(relation)
     {
