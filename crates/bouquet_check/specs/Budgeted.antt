@@ -1,12 +1,8 @@
 -- The plans of a contour, held against one point after another.
-use Rattle.std.specs.Prelude.{◌≡◌, ℕ, ◌<◌, true, false, All, IfSome, List, length, Option, Some, None}
-use Rattle.std.specs.Option.{ForSome}
-use Rattle.query_block.specs.Blocks.{block_tree}
+use Rattle.std.specs.Prelude.{◌≡◌, ℕ, ◌<◌, true, false, IfSome, List, length, Option, Some, None}
 use Rattle.plan_tree.specs.declared.plan.Plan.{Plan}
-use Rattle.plan_tree.specs.Plans.{plan_tree}
-use Rattle.plan_tree.specs.Enumerated.{IsPlan}
 use Rattle.cost_model.specs.Costing.{CostingShape, costing_tree}
-use Rattle.plan_space.specs.CostedPlans.{CostedPlansShape, HoldsPlans}
+use Rattle.plan_space.specs.CostedPlans.{CostedPlansShape}
 use Rattle.bouquet_check.specs.Verdicts.{fits_at}
 
 -- by which costs, which plans, and under which budget
@@ -14,12 +10,6 @@ pub record BudgetedShape : Type 0 where
   pub costing : CostingShape
   pub plans : List Plan
   pub budget : ℕ
-
--- the plans are those of the block, and one of them is at hand; where all are held, these are they
-pub record AreBudgeted (given : BudgetedShape) (last : ℕ) (held : Option CostedPlansShape) : Type 0 where
-  pub at : last < length given.plans
-  pub plans : All (λ p. IsPlan (block_tree given.costing.block) (plan_tree p)) given.plans
-  pub those : ForSome held (HoldsPlans given.costing given.plans)
 
 -- of plans that are costed at a point the place of one that is within a budget there; none where none is
 abbrev pub FindsWithin : CostedPlansShape → (budget : ℕ) → Option ℕ → Type 0

@@ -33,7 +33,13 @@ impl<'c> Model for BudgetedPlans<'c> {
     ghost use Rattle.query_block.specs.contracts.condition.Condition as condition;
     ghost use Rattle.plan_tree.specs.contracts.plan.Plan as plan;
     ghost use Rattle.std.specs.Coded.{codes};
-    ghost use Rattle.bouquet_check.specs.Budgeted.{BudgetedShape, AreBudgeted};
+    ghost use Rattle.std.specs.Option.{ForSome};
+    ghost use Rattle.std.specs.Prelude.{◌<◌, All, length};
+    ghost use Rattle.query_block.specs.Blocks.{block_tree};
+    ghost use Rattle.plan_tree.specs.Enumerated.{IsPlan};
+    ghost use Rattle.plan_tree.specs.Plans.{plan_tree};
+    ghost use Rattle.plan_space.specs.CostedPlans.{HoldsPlans};
+    ghost use Rattle.bouquet_check.specs.Budgeted.{BudgetedShape};
 
     ghost Value = { BudgetedShape };
 
@@ -45,11 +51,9 @@ impl<'c> Model for BudgetedPlans<'c> {
       budget = c.budget;
     } };
 
-    ghost invariant = { λ c. AreBudgeted (record {
-      costing = c.costing.now;
-      plans = c.plans.now;
-      budget = c.budget;
-    }) c.last c.all };
+    ghost invariant = { λ c. (c.last < length c.plans.now)
+        × All (λ p. IsPlan (block_tree c.costing.now.block) (plan_tree p)) c.plans.now
+        × ForSome c.all (HoldsPlans c.costing.now c.plans.now) };
 }
 
 // Of so many plans that are costed at a point the place of the first that is within a budget there.

@@ -12,6 +12,6 @@ pub returns-then-cost-self-clause-fits : goal.returns-then-cost-self-clause-fits
 returns-then-cost-self-clause-fits c =
     let m = c.self.inside in
     let q = c.args.q.now in
-    sym (fits-read (costing_tree m.costing.now) m.budget m.last m.plans.now c.index-self-self.result q c.self.invariant.at c.index-self-self.is
+    sym (fits-read (costing_tree m.costing.now) m.budget m.last m.plans.now c.index-self-self.result q c.self.invariant.0 c.index-self-self.is
     (omega (arith, c.cost.ensures.cost, c.if-cost-self.true, ap (λ (p : Plan). cost_of (costing_tree m.costing.now) (plan_tree p) q) c.index-self-self.is)))
     ∙ ap (λ (one : BudgetedShape). fits_at (costing_tree one.costing) one.budget (map plan_tree one.plans) q) c.self.view_is
