@@ -1,5 +1,5 @@
 -- Bouquets as plain data, and what holds of each.
-use Rattle.std.specs.Prelude.{◌≡◌, ℕ, ◌≤◌, All, IfSome, List, Option, length, map}
+use Rattle.std.specs.Prelude.{◌≡◌, ℕ, ◌≤◌, All, List, length, map}
 use Rattle.sql_values.specs.Limits.{max_points, max_threshold, max_contours, max_contour_cost}
 use Rattle.query_block.specs.Blocks.{BlockTree}
 use Rattle.plan_tree.specs.Plans.{PlanTree, plan_tree}
@@ -52,8 +52,3 @@ pub record IsBouquet (bouquet : BouquetShape) : Type 0 where
 pub record IsOutline (bouquet : BouquetTree) (outline : Outline) : Type 0 where
   pub costs : outline.costs.items ≡ map (optimal_cost bouquet.costing) (points_of bouquet.costing.grid)
   pub frontiers : map (λ points. points.items) outline.frontiers.items ≡ map (λ contour. frontier bouquet.costing contour.cost) bouquet.contours
-
--- it may keep these
-pub record KeepsBouquet (shape : BouquetShape) (kept : Option Outline) : Type 0 where
-  pub bouquet : IsBouquet shape
-  pub outline : IfSome kept (IsOutline (bouquet_tree shape))

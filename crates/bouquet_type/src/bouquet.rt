@@ -40,8 +40,9 @@ impl Model for Bouquet {
     ghost use Rattle.query_block.specs.contracts.condition.Condition as condition;
     ghost use Rattle.plan_tree.specs.contracts.plan.Plan as plan;
     ghost use Rattle.std.specs.Coded.{codes};
-    ghost use Rattle.bouquet_type.specs.Shapes.{BouquetShape};
-    ghost use Rattle.bouquet_type.specs.Trees.{KeepsBouquet};
+    ghost use Rattle.std.specs.Prelude.{IfSome};
+    ghost use Rattle.bouquet_type.specs.Shapes.{BouquetShape, bouquet_shape};
+    ghost use Rattle.bouquet_type.specs.Trees.{IsBouquet, IsOutline, bouquet_tree};
 
     ghost Value = { BouquetShape };
 
@@ -55,13 +56,9 @@ impl Model for Bouquet {
       contours = b.contours.items;
     } };
 
-    ghost invariant = { λ b. KeepsBouquet (record {
-      block = b.block;
-      stats = b.stats;
-      grid = b.grid;
-      threshold = b.threshold;
-      contours = b.contours.items;
-    }) b.outline };
+    ghost invariant = { λ b.
+        let shape = bouquet_shape b.block b.stats b.grid b.threshold b.contours.items in
+        IsBouquet shape × IfSome b.outline (IsOutline (bouquet_tree shape)) };
 }
 
 impl Bouquet {
