@@ -1,6 +1,6 @@
 -- What comes of a statement.
-use Rattle.std.specs.Prelude.{◌≡◌, ℕ, true, List, Option, None, Some, Result, OnOk, IfErr}
-use Rattle.db_catalog.specs.Database.{table_number}
+use Rattle.std.specs.Prelude.{◌≡◌, ℕ, ⊤, true, List, Option, None, Some, Result, Ok, Err, OnOk, IfErr}
+use Rattle.sql_values.specs.Steps.{Checked}
 use Rattle.workspace.specs.World.{World}
 use Rattle.workspace.specs.declared.refusal.Refusal.{Refusal}
 use Rattle.workspace.specs.declared.refusal.Refusal.TheVariants as refusal
@@ -26,10 +26,17 @@ pub record RefusesFound {T : Type 0} (found : Option Refusal) (result : Result T
   pub answered : OnOk result (found ≡ None)
   pub refused : IfErr result (RefusesFree found)
 
--- what comes of the statement at the table of this number, where the name has one; else it is refused
-abbrev pub at_number : List ℕ → (ℕ → Outcome) → Option ℕ → Outcome
-at_number name go None = Refuses (refusal.NoTable name)
-at_number name go (Some number) = go number
+-- nothing speaks against it; or it is refused, as a fault is told
+abbrev pub unless : {Fault : Type 0} → (Fault → Refusal) → Option Fault → Checked Refusal ⊤
+unless told None = Ok tt
+unless told (Some fault) = Err (told fault)
 
-abbrev pub at_table : World → List ℕ → (ℕ → Outcome) → Outcome
-at_table world name go = at_number name go (table_number world.database name)
+-- a value; or it is refused, as a fault is told
+abbrev pub or_refused : {Fault A : Type 0} → (Fault → Refusal) → Checked Fault A → Checked Refusal A
+or_refused told (Ok value) = Ok value
+or_refused told (Err fault) = Err (told fault)
+
+-- what comes of a statement whose checks end so
+abbrev pub outcome_of : Checked Refusal Outcome → Outcome
+outcome_of (Ok outcome) = outcome
+outcome_of (Err why) = Refuses why

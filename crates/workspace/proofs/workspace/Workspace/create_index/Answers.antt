@@ -7,8 +7,8 @@ use Rattle.db_catalog.specs.Refused.{index_fault}
 use Rattle.db_catalog.specs.declared.fault.DbFault.{DbFault}
 use Rattle.db_catalog.specs.declared.fault.DbFault.TheVariants as change
 use Rattle.db_catalog.proofs.Growth.{fits_with_index}
-use Rattle.workspace.specs.CreateIndex.{at_column, column_number, create_index_outcome, indexed, make_index}
-use Rattle.workspace.specs.Outcome.{Outcome, Refuses, at_number}
+use Rattle.workspace.specs.CreateIndex.{column_number, create_index_outcome}
+use Rattle.workspace.specs.Outcome.{Outcome, Refuses}
 use Rattle.workspace.specs.States.{world_of}
 use Rattle.workspace.specs.Stop.{StopsAt, stop_of_change}
 use Rattle.workspace.specs.World.{World}
@@ -51,11 +51,9 @@ returns-in_err-create_index-clause-due c =
     ap (table_number database) (sym c.bytes.ensures) ∙ sym c.table_of.ensures ∙ c.in-Some.is in
     let column : column_number (table_at database c.in-Some.table).columns index.column ≡ Some c.in-Some-column_of.column =
     ap (λ columns. column_number columns index.column) (sym c.columns.ensures.columns) ∙ sym c.column_of.ensures.number ∙ c.in-Some-column_of.is in
-    let due : create_index_outcome world index ≡ indexed world index.name c.in-Some.table c.in-Some-column_of.column (index_fault database index.name c.in-Some.table c.in-Some-column_of.column) =
-    ap (at_number index.table (make_index world index)) table
-    ∙ ap (at_column index.column (λ column. indexed world index.name c.in-Some.table column (index_fault database index.name c.in-Some.table column))) column in
     let refused : fault ≢ change.NoMemory → create_index_outcome world index ≡ Refuses (refusal.NotMade fault) = λ told.
-    due ∙ ap (indexed world index.name c.in-Some.table c.in-Some-column_of.column)
-    (ap (λ name. index_fault database name c.in-Some.table c.in-Some-column_of.column) (sym c.bytes-2.ensures) ∙ c.in_err-create_index.ensures.refuses.refused told) in
+    let found : index_fault database index.name c.in-Some.table c.in-Some-column_of.column ≡ Some fault =
+    ap (λ name. index_fault database name c.in-Some.table c.in-Some-column_of.column) (sym c.bytes-2.ensures) ∙ c.in_err-create_index.ensures.refuses.refused told in
+    rw (table, column, found) refl in
     let stop = err_from_is_err_and c.from_residual.result c.from_residual.ensures.1 in
     rw (← c.self.view_is, stop.1, stop.2) (stops (create_index_outcome world index) fault refused)

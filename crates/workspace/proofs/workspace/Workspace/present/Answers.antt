@@ -1,11 +1,11 @@
 -- The bouquet of the name is there or not, and its counts are those of the tables or not.
-use Rattle.std.proofs.Common.{◌≡◌, Some, None, ap, ◌∙◌, ℕ, List, Option, refl}
+use Rattle.std.proofs.Common.{◌≡◌, Some, None, ap, ℕ, List, refl}
 use Rattle.std.specs.Prelude.{is_some, option_map}
 use Rattle.std.proofs.lemmas.Result.{err_from_is_err_and}
 use Rattle.std.proofs.lemmas.List.Elements.{All-contains}
 use Rattle.bouquet_type.specs.Trees.{bouquet_tree, BouquetTree}
 use Rattle.workspace.specs.Counted.{IsCountedBefore}
-use Rattle.workspace.specs.Present.{stale_count, at_bouquet, at_present, unless_stale}
+use Rattle.workspace.specs.Present.{stale_count, at_present}
 use Rattle.workspace.specs.States.{NamedShape, named_shape, named_of, world_of}
 use Rattle.workspace.specs.World.{World, NamedBouquet, named_in}
 use Rattle.workspace.specs.Outcome.{Outcome, Refuses}
@@ -17,24 +17,18 @@ use Rattle.workspace.proofs.Counting.{counts_fresh}
 use Rattle.workspace.proofs.workspace.Workspace.present.Goals as goal
 
 module _ (world : World) (name : List ℕ) (go : BouquetTree → Outcome) where
-  abbrev at : Option NamedBouquet → Outcome
-  at found = at_bouquet name (λ named. unless_stale (stale_count world.database named.bouquet) (go named.bouquet)) found
-
   -- none has the name
   none_present : named_in name world.bouquets ≡ None → at_present world name go ≡ Refuses (refusal.NoBouquet name)
-  none_present none = ap at none
+  none_present none = rw none refl
 
   module _ (named : NamedBouquet) (found : named_in name world.bouquets ≡ Some named) where
-    abbrev unless : Option Stale → Outcome
-    unless stale = unless_stale stale (go named.bouquet)
-
     -- a count of a table isn't what it was
     stale_refused : (stale : Stale) → stale_count world.database named.bouquet ≡ Some stale → StopsAt (at_present world name go) (stop.Refused (refusal.IsStale stale))
-    stale_refused stale is = (ap at found ∙ ap unless is, refl)
+    stale_refused stale is = rw (found, is) (refl, refl)
 
     -- or each is
     due_present : stale_count world.database named.bouquet ≡ None → at_present world name go ≡ go named.bouquet
-    due_present none = ap at found ∙ ap unless none
+    due_present none = rw (found, none) refl
 
 pub returns-in_default-clause-refused : goal.returns-in_default-clause-refused
 returns-in_default-clause-refused c = λ go.

@@ -6,7 +6,6 @@ use Rattle.std.proofs.lemmas.List.Elements.{All-contains}
 use Rattle.sql_values.specs.Limits.{max_parameters}
 use Rattle.bouquet_file.specs.Written.{file_text}
 use Rattle.workspace.specs.Outcome.{Saves}
-use Rattle.workspace.specs.Present.{at_bouquet}
 use Rattle.workspace.specs.Save.{save_outcome}
 use Rattle.workspace.specs.States.{NamedShape, named_of, named_shape, world_of}
 use Rattle.workspace.specs.World.{World, NamedBouquet, named_in}
@@ -25,7 +24,7 @@ returns-in_default c = λ file.
     let world : World = world_of c.args.self.now in
     let save = c.args.save.now in
     let none : named_in save.name world.bouquets ≡ None = rw (← c.self.view_is, ← c.bytes.ensures) (c.get.ensures.none (ap is_some c.in_default.is)) in
-    rw (ap (at_bouquet save.name (λ kept. Saves save.file (file_text kept.bouquet kept.query))) none) c.no_bouquet.ensures
+    rw none c.no_bouquet.ensures
 
 pub returns : goal.returns
 returns c =
@@ -33,7 +32,7 @@ returns c =
     let save = c.args.save.now in
     let named : NamedBouquet = named_of (named_shape c.bytes.result.now c.in-Some.kept.now) in
     let found : named_in save.name world.bouquets ≡ Some named = rw (← c.bytes.ensures) c.in-Some.ensures.named in
-    let due : save_outcome world save ≡ Saves save.file (file_text named.bouquet named.query) = ap (at_bouquet save.name (λ kept. Saves save.file (file_text kept.bouquet kept.query))) found in
+    let due : save_outcome world save ≡ Saves save.file (file_text named.bouquet named.query) = rw found refl in
     let bytes : c.in_ok-bytes.bytes.items ≡ file_text named.bouquet named.query = c.in_ok-bytes.ensures.text ∙ ap (file_text named.bouquet) c.deref.ensures.value in
     let name : c.in_ok-clone.field-0 ≡ save.file = c.in_ok-clone.ensures.cases in
     rw (← c.self.view_is) (record {
