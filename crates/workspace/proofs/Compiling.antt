@@ -1,38 +1,39 @@
 -- What is due to COMPILE, where neither its name nor its numbers are refused, and the state that it leaves.
 use Rattle.std.proofs.Common.{◌≡◌, ◌∙◌, ℕ, List, [], ◌∷◌, ◌++◌, map, Option, None, sym, ap}
-use Rattle.std.specs.Prelude.{Result, Err, codes, unwrap_or}
-use Rattle.std.specs.Option.{option_or}
+use Rattle.std.specs.Prelude.{Err, codes, unwrap_or}
 use Rattle.std.proofs.lemmas.List.{map-append}
+use Rattle.sql_values.specs.Steps.{Checked, pure, ◌>>=◌}
 use Rattle.sql_values.specs.Limits.{default_threshold}
 use Rattle.sql_parse.specs.Canonical.{canonical_query}
 use Rattle.sql_parse.specs.Trees.{QueryTree}
 use Rattle.bouquet_type.specs.Trees.{BouquetTree}
 use Rattle.db_catalog.specs.Database.{DatabaseState}
-use Rattle.workspace.specs.Bouquets.{GivesDue, bouquet_due, kept_as, with_due}
-use Rattle.workspace.specs.Compile.{compile_outcome, levels_refusal, taken_refusal, threshold_refusal, unless_refused}
+use Rattle.workspace.specs.Bouquets.{bouquet_due, kept_as}
+use Rattle.workspace.specs.Compile.{compile_outcome, levels_refusal, threshold_refusal}
 use Rattle.workspace.specs.States.{NamedShape, named_of, world_of}
-use Rattle.workspace.specs.Outcome.{Outcome, Refuses}
-use Rattle.workspace.specs.Stop.{StopsAt}
+use Rattle.workspace.specs.Outcome.{Outcome, Refuses, outcome_of}
+use Rattle.workspace.specs.Stop.{StopsAt, StopsWhere}
 use Rattle.workspace.specs.declared.refusal.Refusal.{Refusal}
 use Rattle.workspace.specs.declared.stop.Stop.{Stop}
 use Rattle.workspace.specs.World.{World, named_in, with_bouquet}
 use Rattle.workspace.proofs.Stopping.{stops_so}
 
--- what comes of its query's bouquet
-abbrev pub kept : World → (name : List ℕ) → QueryTree → BouquetTree → Outcome
-kept world name query = kept_as (codes "-- compile points=") world name (canonical_query query)
+-- its query's bouquet is kept, where that is due
+abbrev pub kept : World → (name : List ℕ) → QueryTree → Checked Refusal BouquetTree → Outcome
+kept world name query due = outcome_of do
+  bouquet ← due
+  pure (kept_as (codes "-- compile points=") world name (canonical_query query) bouquet)
 
 -- what its query's bouquet is decides
 pub unrefused : (world : World) (name : List ℕ) (levels threshold : Option ℕ) (percent : ℕ) (query : QueryTree) → named_in name world.bouquets ≡ None → levels_refusal levels ≡ None → threshold_refusal threshold ≡ None
     → percent ≡ unwrap_or threshold default_threshold
-    → compile_outcome world name levels threshold query ≡ with_due (bouquet_due world.database query levels percent) (kept world name query)
+    → compile_outcome world name levels threshold query ≡ kept world name query (bouquet_due world.database query levels percent)
 unrefused world name levels threshold percent query free low small is =
-    let due = λ (n : ℕ). with_due (bouquet_due world.database query levels n) (kept world name query) in
-    λ i. unless_refused (option_or (taken_refusal name (free i)) (option_or (low i) (small i))) (due (sym is i))
+    rw (free, low, small) (ap (λ n. kept world name query (bouquet_due world.database query levels n)) (sym is))
 
 -- without what is due a statement stops
-pub stops : {T Seen : Type 0} (seen : T → Seen) (due : Result Seen Refusal) (go : Seen → Outcome) (why : Stop) → GivesDue seen due (Err why) → StopsAt (with_due due go) why
-stops seen due go why gives = stops_so (λ found. due ≡ Err found) (λ found. with_due due go ≡ Refuses found) (λ found is. ap (λ d. with_due d go) is) why gives
+pub stops : (world : World) (name : List ℕ) (query : QueryTree) (due : Checked Refusal BouquetTree) (why : Stop) → StopsWhere (λ found. due ≡ Err found) why → StopsAt (kept world name query due) why
+stops world name query due why none = stops_so (λ found. due ≡ Err found) (λ found. kept world name query due ≡ Refuses found) (λ found is. ap (kept world name query) is) why none
 
 -- the state with a bouquet more
 pub world_kept : (database : DatabaseState) (old new : List NamedShape) (kept : NamedShape) → new ≡ old ++ kept ∷ []

@@ -3,13 +3,13 @@ use Rattle.std.specs.Prelude.{◌≡◌, ℕ, ◌^◌, ◌≤◌, nat_lt, List, 
 use Rattle.std.specs.Option.{option_or}
 use Rattle.sql_values.specs.Limits.{min_levels, max_levels, max_points, max_script_bytes}
 use Rattle.sql_values.specs.declared.limit.LimitName.TheVariants as limit
+use Rattle.sql_values.specs.Steps.{Checked, pure, ◌>>=◌, ◌>>◌}
 use Rattle.query_block.specs.Blocks.{BlockTree, axes_of}
 use Rattle.sql_parse.specs.Trees.{QueryTree}
 use Rattle.sql_parse.specs.WellFormed.{IsWellFormedQuery}
 use Rattle.sql_parse.specs.Counts.{of_condition, predicates_in}
 use Rattle.sql_parse.specs.Parameters.{parameters_of_condition}
 use Rattle.db_catalog.specs.Database.{DatabaseState}
-use Rattle.sql_bind.specs.declared.fault.BindFault.{BindFault}
 use Rattle.sql_bind.specs.Binding.{bind_fault, block_of}
 use Rattle.ess_grid.specs.Levels.{levels_of}
 use Rattle.ess_grid.specs.Points.{GridShape}
@@ -24,7 +24,7 @@ use Rattle.workspace.specs.Printed.{size_line}
 use Rattle.workspace.specs.declared.refusal.Refusal.{Refusal}
 use Rattle.workspace.specs.declared.refusal.Refusal.TheVariants as refusal
 use Rattle.workspace.specs.declared.stop.Stop.{Stop}
-use Rattle.workspace.specs.Outcome.{Outcome, Prints, Refuses}
+use Rattle.workspace.specs.Outcome.{Outcome, Prints, unless}
 use Rattle.workspace.specs.Stop.{StopsWhere}
 use Rattle.workspace.specs.World.{World, with_bouquet}
 
@@ -71,40 +71,28 @@ abbrev pub GivesSizes : DatabaseState → BlockTree → (levels : Option ℕ) �
 GivesSizes database block levels (Ok sizes) = AreSizes database block levels sizes
 GivesSizes database block levels (Err why) = StopsWhere (λ found. size_refusal database block levels ≡ Some found) why
 
--- the compiled bouquet of a block, or why it has none
-abbrev pub compiled_over : DatabaseState → (levels : Option ℕ) → (threshold : ℕ) → BlockTree → Option Refusal → Result BouquetTree Refusal
-compiled_over database levels threshold block (Some why) = Err why
-compiled_over database levels threshold block None = Ok (compiled (costing_over database block levels) threshold)
+-- the compiled bouquet of a block, unless the points of its grid or the product of its tables' rows refuse it
+abbrev pub compiled_due : DatabaseState → (levels : Option ℕ) → (threshold : ℕ) → BlockTree → Checked Refusal BouquetTree
+compiled_due database levels threshold block = do
+  unless (λ why. why) (size_refusal database block levels)
+  pure (compiled (costing_over database block levels) threshold)
 
--- it is refused by the points of its grid, or by the product of its tables' rows
-abbrev pub compiled_due : DatabaseState → (levels : Option ℕ) → (threshold : ℕ) → BlockTree → Result BouquetTree Refusal
-compiled_due database levels threshold block = compiled_over database levels threshold block (size_refusal database block levels)
+-- the block of a query, unless binding refuses it
+abbrev pub block_due : DatabaseState → QueryTree → Checked Refusal BlockTree
+block_due database query = do
+  unless refusal.NotBound (bind_fault database query)
+  pure (block_of database query)
 
--- the block of a query, or why it has none: binding refuses it
-abbrev pub block_unless : DatabaseState → QueryTree → Option BindFault → Result BlockTree Refusal
-block_unless database query (Some fault) = Err (refusal.NotBound fault)
-block_unless database query None = Ok (block_of database query)
-
-abbrev pub block_due : DatabaseState → QueryTree → Result BlockTree Refusal
-block_due database query = block_unless database query (bind_fault database query)
-
--- the compiled bouquet of a query's block, where it has one
-abbrev pub bouquet_over : DatabaseState → (levels : Option ℕ) → (threshold : ℕ) → Result BlockTree Refusal → Result BouquetTree Refusal
-bouquet_over database levels threshold (Ok block) = compiled_due database levels threshold block
-bouquet_over database levels threshold (Err why) = Err why
-
-abbrev pub bouquet_due : DatabaseState → QueryTree → (levels : Option ℕ) → (threshold : ℕ) → Result BouquetTree Refusal
-bouquet_due database query levels threshold = bouquet_over database levels threshold (block_due database query)
+-- the compiled bouquet of a query
+abbrev pub bouquet_due : DatabaseState → QueryTree → (levels : Option ℕ) → (threshold : ℕ) → Checked Refusal BouquetTree
+bouquet_due database query levels threshold = do
+  block ← block_due database query
+  compiled_due database levels threshold block
 
 -- what is due is returned, as it is seen so, or why there is none, which costs nothing
 abbrev pub GivesDue : {T Seen : Type 0} → (T → Seen) → Result Seen Refusal → Result T Stop → Type 0
 GivesDue seen due (Ok given) = due ≡ Ok (seen given)
 GivesDue seen due (Err why) = StopsWhere (λ found. due ≡ Err found) why
-
--- what comes of what is due, where there is such; else the refusal
-abbrev pub with_due : {T : Type 0} → Result T Refusal → (T → Outcome) → Outcome
-with_due (Ok given) go = go given
-with_due (Err why) go = Refuses why
 
 -- a bouquet is kept under a name, with the text of its query, and its size is printed behind a label
 abbrev pub kept_as : (label : List ℕ) → World → (name text : List ℕ) → BouquetTree → Outcome

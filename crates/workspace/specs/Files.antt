@@ -1,8 +1,8 @@
 -- The files of statements: those that one may ask for, asks for, and writes.
-use Rattle.std.specs.Prelude.{◌≡◌, ℕ, List, Option, Some, None, IsSome}
+use Rattle.std.specs.Prelude.{◌≡◌, ℕ, List, Option, Some, None, IsSome, IsOk}
 use Rattle.sql_parse.specs.Trees.{StatementTree, Load, SaveFile, OpenFile}
 use Rattle.db_catalog.specs.Database.{table_number}
-use Rattle.workspace.specs.Open.{open_refusal}
+use Rattle.workspace.specs.Open.{block_to_open}
 use Rattle.workspace.specs.World.{World, named_in}
 
 -- the name of the file that a statement may ask for: only LOAD and OPEN ask for one
@@ -14,7 +14,7 @@ asked_name other = None
 -- a statement asks for a file: a LOAD into a table that is there, and an OPEN that isn't refused before; no other
 abbrev pub AsksForFile : World → StatementTree → Type 0
 AsksForFile world (Load load) = IsSome (table_number world.database load.table)
-AsksForFile world (OpenFile name file_name query) = open_refusal world name query ≡ None
+AsksForFile world (OpenFile name file_name query) = IsOk (block_to_open world name query)
 AsksForFile world other = ⊥
 
 -- a statement writes the file of this name: a SAVE of a bouquet that is there, and no other
