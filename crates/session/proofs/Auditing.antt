@@ -1,9 +1,8 @@
 -- What is due to AUDIT at its bouquet.
-use Rattle.std.proofs.Common.{◌≡◌, ◌∙◌, ℕ, ◌+◌, ◌≤◌, Bool, true, false, List, length, Option, Some, None, refl, sym, ap, subst, nat_lt, if◌then◌else◌}
-use Rattle.std.proofs.lemmas.Bool.{lt-ltb, le-ltb}
+use Rattle.std.proofs.Common.{◌≡◌, ◌∙◌, ℕ, ◌≤◌, true, false, List, length, Option, Some, None, refl, sym, ap, subst, nat_le}
+use Rattle.std.proofs.lemmas.Bool.{lt-leb, le-leb}
 use Rattle.std.proofs.lemmas.List.{length-map}
 use Rattle.sql_values.specs.Limits.{max_plans}
-use Rattle.sql_values.specs.declared.limit.LimitName.TheVariants as limit
 use Rattle.sql_values.specs.declared.value.Value.{Value}
 use Rattle.query_block.specs.Blocks.{BlockTree, put_of}
 use Rattle.query_block.specs.Values.{value_fault}
@@ -21,8 +20,7 @@ use Rattle.workspace.specs.World.{World}
 use Rattle.workspace.specs.declared.refusal.Refusal.{Refusal}
 use Rattle.workspace.specs.declared.refusal.Refusal.TheVariants as refusal
 use Rattle.workspace.specs.declared.stop.Stop.TheVariants as stop
-use Rattle.session.specs.Audit.{audit_answer, bouquet_audit, point_refusal, stop_of_audit}
-use Rattle.session.specs.Answered.{unless_misfit}
+use Rattle.session.specs.Audit.{bouquet_audit, point_refusal, stop_of_audit}
 use Rattle.session.specs.Printed.{audit_line}
 
 module _ (max_work : ℕ) (world : World) (bouquet : BouquetTree) (values : List Value) (levels : List ℕ) where
@@ -36,19 +34,15 @@ module _ (max_work : ℕ) (world : World) (bouquet : BouquetTree) (values : List
   abbrev pub of_levels : Option Refusal
   of_levels = point_refusal bouquet.costing.grid levels
 
-  -- its values decide, then its levels
-  abbrev answer : Option ValueFault → Option Refusal → Outcome
-  answer misfit found = unless_misfit misfit (audit_answer max_work world bouquet block levels found)
-
   -- the values don't fit
   pub no_fit : (fault : ValueFault) → value_fault bouquet.costing.block.parameters values ≡ Some fault → StopsAt audited (stop.Refused (refusal.NotFitting fault))
-  no_fit fault is = (ap (λ misfit. answer misfit of_levels) is, refl)
+  no_fit fault is = (rw is refl, refl)
 
   -- they fit
   module _ (fit : value_fault bouquet.costing.block.parameters values ≡ None) where
     -- the levels are no point
     pub no_point : (why : Refusal) → RefusesFree of_levels why → StopsAt audited (stop.Refused why)
-    no_point why is = (λ i. answer (fit i) (is.0 i), is.1)
+    no_point why is = (rw (fit, is.0) refl, is.1)
 
     -- they are one
     module _ (none : of_levels ≡ None) where
@@ -61,17 +55,13 @@ module _ (max_work : ℕ) (world : World) (bouquet : BouquetTree) (values : List
       abbrev told : Outcome
       told = Prints (audit_line (audit_of bouquet block world.database levels)) 0 world
 
-      abbrev by_size : (many much : Bool) → Outcome
-      by_size many much = if many then Refuses (refusal.PastLimit limit.Plans (max_plans + 1)) else if much then Refuses (refusal.PastWork max_work false) else told
-
-      due_at : (many much : Bool) → nat_lt max_plans plans ≡ many → nat_lt max_work work ≡ much → audited ≡ by_size many much
-      due_at many much is other = (λ i. answer (fit i) (none i)) ∙ (λ i. by_size (is i) (other i))
-
       -- there are too many plans, or they work too much
       pub refused : (fault : AuditFault) → RefusesAudit block world.database max_work fault → StopsAt audited (stop_of_audit fault)
-      refused audits.PlanLimit many = (due_at true (nat_lt max_work work) (lt-ltb max_plans plans many) refl, refl)
+      refused audits.PlanLimit many = let past : nat_le plans max_plans ≡ false = lt-leb plans max_plans many in (rw (fit, none, past) refl, refl)
       refused (audits.WorkLimit spent) much =
-          (due_at false true (le-ltb max_plans plans much.0) (lt-ltb max_work work much.1) ∙ ap (λ n. Refuses (refusal.PastWork n false)) (sym much.2), refl)
+          let few : nat_le plans max_plans ≡ true = le-leb plans max_plans much.0 in
+          let past : nat_le work max_work ≡ false = lt-leb work max_work much.1 in
+          (rw (fit, none, few, past) (ap (λ n. Refuses (refusal.PastWork n false)) (sym much.2)), refl)
       refused audits.NoMemory any = tt
 
       -- or it is told
@@ -81,5 +71,6 @@ module _ (max_work : ℕ) (world : World) (bouquet : BouquetTree) (values : List
           let is : told_audit found ≡ audit_of bouquet block world.database levels = tells ∙ ap (audit_of bouquet block world.database) same in
           let count : found.plans ≡ plans = ap (λ a. a.plans) is ∙ length-map (plans_of block) (measure_of bouquet block world.database levels) in
           let spent : found.work ≡ work = ap (λ a. a.work) is in
-          due_at false false (le-ltb max_plans plans (subst (λ n. n ≤ max_plans) count few)) (le-ltb max_work work (subst (λ n. n ≤ max_work) spent within))
-          ∙ ap (λ l. Prints l 0 world) (sym (line ∙ ap audit_line is))
+          let so_few : nat_le plans max_plans ≡ true = le-leb plans max_plans (subst (λ n. n ≤ max_plans) count few) in
+          let so_little : nat_le work max_work ≡ true = le-leb work max_work (subst (λ n. n ≤ max_work) spent within) in
+          rw (fit, none, so_few, so_little) (ap (λ l. Prints l 0 world) (sym (line ∙ ap audit_line is)))

@@ -1,5 +1,5 @@
 -- What is due to SELECT, by the block of its query, and how the compiled bouquet of a block without parameters answers.
-use Rattle.std.proofs.Common.{◌≡◌, ◌∙◌, ℕ, [], Option, Some, None, refl, ap}
+use Rattle.std.proofs.Common.{◌≡◌, ℕ, [], Some, None, refl, ap}
 use Rattle.std.specs.Prelude.{All, Ok}
 use Rattle.sql_values.specs.Limits.{default_threshold}
 use Rattle.query_block.specs.Blocks.{BlockTree, IsBlock, IsPutOf, put_of}
@@ -14,32 +14,31 @@ use Rattle.bouquet_type.specs.Compiled.{compiled}
 use Rattle.bouquet_type.specs.Sound.{IsSound}
 use Rattle.bouquet_type.proofs.Bound.{bound}
 use Rattle.bouquet_run.specs.Outcomes.{works_over}
-use Rattle.workspace.specs.Bouquets.{block_due, compiled_over, costing_over, size_refusal, with_due}
+use Rattle.workspace.specs.Bouquets.{block_due, costing_over, size_refusal}
 use Rattle.workspace.specs.Counted.{HasCountsOf}
-use Rattle.workspace.specs.Outcome.{Outcome, Refuses}
+use Rattle.workspace.specs.Outcome.{Refuses}
 use Rattle.workspace.specs.World.{World}
 use Rattle.workspace.specs.declared.refusal.Refusal.{Refusal}
 use Rattle.workspace.specs.declared.refusal.Refusal.TheVariants as refusal
-use Rattle.session.specs.Answered.{answer_with, block_answer, unless_misfit}
+use Rattle.session.specs.Answered.{block_answer}
 use Rattle.session.specs.Bounds.{RunsWithinBound}
-use Rattle.session.specs.Select.{select_outcome, selected}
+use Rattle.session.specs.Select.{select_outcome}
 
 module _ (max_work : ℕ) (world : World) (query : QueryTree) (block : BlockTree) (has : block_due world.database query ≡ Ok block) where
-  -- what comes of its bouquet, by what refuses its size
-  abbrev pub by_size : Option Refusal → Outcome
-  by_size size = with_due (compiled_over world.database None default_threshold block size) (answer_with max_work world [])
-
-  decided : (found : Option ValueFault) (size : Option Refusal) → value_fault block.parameters [] ≡ found → size_refusal world.database block None ≡ size
-      → select_outcome max_work world query ≡ unless_misfit found (by_size size)
-  decided found size is sized = ap (λ due. with_due due (selected max_work world)) has ∙ (λ i. unless_misfit (is i) (by_size (sized i)))
-
   -- it has a parameter
   pub misfit_due : (fault : ValueFault) → value_fault block.parameters [] ≡ Some fault → select_outcome max_work world query ≡ Refuses (refusal.NotFitting fault)
-  misfit_due fault is = decided (Some fault) (size_refusal world.database block None) is refl
+  misfit_due fault is = rw (has, is) refl
 
-  -- it has none
-  pub fitting_due : value_fault block.parameters [] ≡ None → (size : Option Refusal) → size_refusal world.database block None ≡ size → select_outcome max_work world query ≡ by_size size
-  fitting_due is size sized = decided None size is sized
+  -- it has none, and its size is refused or not
+  module _ (fit : value_fault block.parameters [] ≡ None) where
+    pub size_due : (found : Refusal) → size_refusal world.database block None ≡ Some found → select_outcome max_work world query ≡ Refuses found
+    size_due found is = rw (has, fit, is) refl
+
+    abbrev made : BouquetTree
+    made = compiled (costing_over world.database block None) default_threshold
+
+    pub fitting_due : size_refusal world.database block None ≡ None → select_outcome max_work world query ≡ block_answer max_work world made (put_of [] made.costing.block)
+    fitting_due small = rw (has, fit, small) refl
 
 module _ (database : DatabaseState) (block : BlockTree) (is : IsBlock block) (fit : FitValues block.parameters []) where
   abbrev pub tree : BouquetTree
@@ -54,7 +53,7 @@ module _ (database : DatabaseState) (block : BlockTree) (is : IsBlock block) (fi
   unfolding compiled
   stays = put-none block is (no-parameters block.parameters fit)
 
-  pub on_block : (max_work : ℕ) (world : World) → answer_with max_work world [] tree ≡ block_answer max_work world tree block
+  pub on_block : (max_work : ℕ) (world : World) → block_answer max_work world tree (put_of [] tree.costing.block) ≡ block_answer max_work world tree block
   on_block max_work world = ap (block_answer max_work world tree) stays
 
   counts : HasCountsOf database.tables tree

@@ -1,6 +1,6 @@
 -- What a bouquet answers.
-use Rattle.std.specs.Prelude.{ℕ, nat_le, true, List, Option, Some, None, if◌then◌else◌}
-use Rattle.sql_values.specs.declared.value.Value.{Value}
+use Rattle.std.specs.Prelude.{ℕ, nat_le, true, Option, if◌then◌else◌}
+use Rattle.sql_values.specs.Steps.{pure, ◌>>◌}
 use Rattle.sql_parse.specs.declared.tree.RunDef.{RunDef}
 use Rattle.query_block.specs.Blocks.{BlockTree, put_of}
 use Rattle.query_block.specs.Values.{value_fault}
@@ -10,14 +10,15 @@ use Rattle.bouquet_type.specs.Runs.{run_end}
 use Rattle.bouquet_run.specs.Outcomes.{works_over}
 use Rattle.workspace.specs.declared.refusal.Refusal.TheVariants as refusal
 use Rattle.workspace.specs.Present.{at_present}
-use Rattle.workspace.specs.Outcome.{Outcome, Prints, Refuses}
+use Rattle.workspace.specs.Outcome.{Outcome, Prints, Refuses, outcome_of, unless}
 use Rattle.workspace.specs.World.{World}
 use Rattle.session.specs.Printed.{answer_text}
 
 -- what is due to a statement that puts values in, unless they don't fit the parameters
 abbrev pub unless_misfit : Option ValueFault → Outcome → Outcome
-unless_misfit (Some fault) due = Refuses (refusal.NotFitting fault)
-unless_misfit None due = due
+unless_misfit found due = outcome_of do
+  unless refusal.NotFitting found
+  pure due
 
 -- what comes of the bouquet of this name with the values of a use: its counts have to be those of the tables, and the values have to
 -- fit; then it is asked on its block with them in place of its parameters
@@ -33,7 +34,3 @@ block_answer max_work world bouquet block =
     let end = run_end bouquet (works_over world.database block) in
     if nat_le end.total max_work then Prints (answer_text world.database block end) end.total world
     else Refuses (refusal.PastWork max_work true)
-
--- the answer of a bouquet with values that fit: that on its block with them in place of its parameters
-abbrev pub answer_with : (max_work : ℕ) → World → List Value → BouquetTree → Outcome
-answer_with max_work world values bouquet = block_answer max_work world bouquet (put_of values bouquet.costing.block)

@@ -1,11 +1,12 @@
 -- What comes of AUDIT.
-use Rattle.std.specs.Prelude.{ℕ, ◌+◌, List, [], ◌∷◌, Option, Some, None, length, nat_eq, nat_lt, false, if◌then◌else◌}
+use Rattle.std.specs.Prelude.{ℕ, ◌+◌, List, [], ◌∷◌, Option, Some, None, length, nat_eq, nat_le, nat_lt, false, if◌then◌else◌}
+use Rattle.sql_values.specs.Steps.{pure, check, ◌>>◌}
 use Rattle.sql_values.specs.Limits.{max_plans}
 use Rattle.sql_values.specs.declared.limit.LimitName.TheVariants as limit
 use Rattle.sql_parse.specs.declared.tree.AuditDef.{AuditDef}
 use Rattle.sql_values.specs.declared.value.Value.{Value}
 use Rattle.ess_grid.specs.Points.{GridShape}
-use Rattle.query_block.specs.Blocks.{BlockTree, put_of}
+use Rattle.query_block.specs.Blocks.{put_of}
 use Rattle.query_block.specs.Values.{value_fault}
 use Rattle.plan_tree.specs.AllPlans.{plans_of}
 use Rattle.bouquet_type.specs.Trees.{BouquetTree}
@@ -16,11 +17,10 @@ use Rattle.workspace.specs.declared.stop.Stop.{Stop}
 use Rattle.workspace.specs.declared.stop.Stop.TheVariants as stop
 use Rattle.workspace.specs.declared.refusal.Refusal.{Refusal}
 use Rattle.workspace.specs.declared.refusal.Refusal.TheVariants as refusal
-use Rattle.workspace.specs.Outcome.{Outcome, Prints, Refuses}
+use Rattle.workspace.specs.Outcome.{Outcome, Prints, outcome_of, unless}
 use Rattle.workspace.specs.Present.{at_present}
 use Rattle.workspace.specs.World.{World}
 use Rattle.session.specs.Printed.{audit_line}
-use Rattle.session.specs.Answered.{unless_misfit}
 
 -- the first of these levels that an axis of so many hasn't
 abbrev pub level_refusal : (count : ℕ) → (levels : List ℕ) → Option Refusal
@@ -33,21 +33,17 @@ point_refusal grid levels =
     if nat_eq (length levels) grid.axes then level_refusal grid.levels levels
     else Some (refusal.PastLimit limit.Coordinates (length levels))
 
--- what is told of a bouquet on a block at a point, unless its levels are refused; a block has to have few enough plans, and their work
--- together may be no more than this. No book takes it in
-abbrev pub audit_answer : (max_work : ℕ) → World → BouquetTree → BlockTree → (levels : List ℕ) → Option Refusal → Outcome
-audit_answer max_work world bouquet block levels (Some why) = Refuses why
-audit_answer max_work world bouquet block levels None =
-    if nat_lt max_plans (length (plans_of block)) then Refuses (refusal.PastLimit limit.Plans (max_plans + 1))
-    else if nat_lt max_work (work_of_all block world.database) then Refuses (refusal.PastWork max_work false)
-    else Prints (audit_line (audit_of bouquet block world.database levels)) 0 world
-
--- of a bouquet whose block has values in place of its parameters
+-- what is told at a point of a bouquet whose block has values in place of its parameters: they have to fit, the levels have to be
+-- a point of its grid, and the block has to have few enough plans, whose work together may be no more than this. No book takes it in
 abbrev pub bouquet_audit : (max_work : ℕ) → World → List Value → (levels : List ℕ) → BouquetTree → Outcome
 bouquet_audit max_work world values levels bouquet =
     let block = put_of values bouquet.costing.block in
-    unless_misfit (value_fault bouquet.costing.block.parameters values)
-    (audit_answer max_work world bouquet block levels (point_refusal bouquet.costing.grid levels))
+    outcome_of do
+      unless refusal.NotFitting (value_fault bouquet.costing.block.parameters values)
+      unless (λ why. why) (point_refusal bouquet.costing.grid levels)
+      check (refusal.PastLimit limit.Plans (max_plans + 1)) (nat_le (length (plans_of block)) max_plans)
+      check (refusal.PastWork max_work false) (nat_le (work_of_all block world.database) max_work)
+      pure (Prints (audit_line (audit_of bouquet block world.database levels)) 0 world)
 
 -- the audit of the bouquet of this name with the statement's values, whose counts have to be those of the tables
 abbrev pub audit_outcome : (max_work : ℕ) → World → AuditDef → Outcome

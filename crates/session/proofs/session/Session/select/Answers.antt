@@ -1,6 +1,6 @@
 -- The query has no block, or its block has a parameter, or its size is refused, or its compiled bouquet answers.
 use Rattle.std.proofs.Common.{◌≡◌, ◌∙◌, [], map, Some, None, refl, ap, subst, sym}
-use Rattle.std.specs.Prelude.{All, Ok}
+use Rattle.std.specs.Prelude.{All, Ok, Err}
 use Rattle.std.proofs.lemmas.Result.{err_from_is_err_and}
 use Rattle.sql_parse.specs.Trees.{Select, query_tree}
 use Rattle.sql_values.specs.Limits.{default_threshold}
@@ -13,19 +13,18 @@ use Rattle.exec_pipe.proofs.Joins.{on-ok}
 use Rattle.bouquet_type.specs.Compiled.{compiled}
 use Rattle.bouquet_type.specs.Sound.{IsSound}
 use Rattle.bouquet_type.specs.Trees.{BouquetTree}
-use Rattle.workspace.specs.Bouquets.{block_due, bouquet_over, compiled_over, size_refusal}
+use Rattle.workspace.specs.Bouquets.{block_due, bouquet_due, costing_over, size_refusal}
 use Rattle.workspace.specs.Outcome.{Refuses}
 use Rattle.workspace.specs.States.{named_of}
 use Rattle.workspace.specs.World.{World}
 use Rattle.session.specs.Answered.{block_answer}
 use Rattle.session.specs.Returns.{ReturnsDue}
-use Rattle.session.specs.Select.{select_outcome, selected}
+use Rattle.session.specs.Select.{select_outcome}
 use Rattle.workspace.proofs.Stopping.{stops_so}
-use Rattle.workspace.proofs.Compiling.{stops}
 use Rattle.workspace.proofs.Sizes.{costs}
 use Rattle.session.proofs.Beginning.{answers_unpaid}
 use Rattle.session.proofs.Misfits.{fits, misfits}
-use Rattle.session.proofs.Selecting.{fitting_due, misfit_due, on_block, own, within}
+use Rattle.session.proofs.Selecting.{fitting_due, misfit_due, on_block, own, size_due, within}
 use Rattle.session.proofs.session.Session.select.Goals as goal
 
 pub returns-in_err-block : goal.returns-in_err-block
@@ -34,7 +33,7 @@ returns-in_err-block c =
     let query = query_tree c.args.query.now in
     let stop = err_from_is_err_and c.from_residual.result c.from_residual.ensures.1 in
     rw (← c.self.view_is, ← c.database-database.ensures, stop.1, stop.2) (answers_unpaid c.args.max_work world (Select query) _ c.args.book.now
-    (λ file. stops block_tree (block_due world.database query) (selected c.args.max_work world) _ c.in_err-block.ensures.due))
+    (λ file. stops_so (λ found. block_due world.database query ≡ Err found) (λ found. select_outcome c.args.max_work world query ≡ Refuses found) (λ found is. rw is refl) _ c.in_err-block.ensures.due))
 
 pub returns-in_err-fits_values : goal.returns-in_err-fits_values
 returns-in_err-fits_values c =
@@ -57,7 +56,7 @@ returns-in_err-grid c =
     let stop = err_from_is_err_and c.from_residual-in_err-grid.result c.from_residual-in_err-grid.ensures.1 in
     rw (← c.self.view_is, ← c.database-database.ensures, stop.1, stop.2) (answers_unpaid c.args.max_work world (Select query) _ c.args.book.now
     (λ file. stops_so (λ found. size_refusal world.database block None ≡ Some found) (λ found. select_outcome c.args.max_work world query ≡ Refuses found)
-    (λ found. fitting_due c.args.max_work world query block bound fit (Some found)) _ c.in_err-grid.ensures))
+    (size_due c.args.max_work world query block bound fit) _ c.in_err-grid.ensures))
 
 pub block_answer-requires-clause-put : goal.block_answer-requires-clause-put
 block_answer-requires-clause-put c =
@@ -82,8 +81,8 @@ returns c =
     let whole = c.new-ladder.ensures.whole ∙ ap (λ costing. compiled costing default_threshold) same in
     let plans = subst (λ (bouquet : BouquetTree). All (λ contour. All (IsPlan bouquet.costing.block) contour.plans) bouquet.contours) whole c.new-ladder.ensures.foot.ladder.plans in
     let sound = subst (λ costing. IsSound (compiled costing default_threshold)) same c.new-ladder.ensures.sound in
-    let due = fitting_due c.args.max_work world query block bound fit None sizes.unrefused ∙ on_block world.database block is fit c.args.max_work world in
-    let made = ap (bouquet_over world.database None default_threshold) bound ∙ ap (compiled_over world.database None default_threshold block) sizes.unrefused in
+    let due = fitting_due c.args.max_work world query block bound fit sizes.unrefused ∙ on_block world.database block is fit c.args.max_work world in
+    let made : bouquet_due world.database query None default_threshold ≡ Ok (compiled (costing_over world.database block None) default_threshold) = rw (bound, sizes.unrefused) refl in
     rw (← c.self.view_is, ← c.database-database.ensures) (record {
       due = λ file. rw due (subst (λ (bouquet : BouquetTree). ReturnsDue (block_answer c.args.max_work world bouquet block) c.block_answer.result world c.args.book.now c.block_answer.new.book)
           whole (rw (← c.database-database.ensures) at c.block_answer.ensures.due));
