@@ -11,7 +11,7 @@ ghost use Rattle.bouquet_type.specs.Reports.{told_end};
 ghost use Rattle.result_text.specs.Combined.{printed};
 ghost use Rattle.workspace.specs.Printed.{header_of};
 ghost use Rattle.workspace.specs.States.{world_of};
-ghost use Rattle.session.specs.Answered.{block_answer};
+ghost use Rattle.session.specs.Answered.{block_answer, stop_of_run};
 ghost use Rattle.session.specs.Printed.{answer_text};
 ghost use Rattle.session.specs.Returns.{PaysAtMost, ReturnsDue};
 
@@ -24,6 +24,16 @@ use result_text::print_rows;
 use row_stack::{RowStack, Space};
 use std::alloc::{AllocError, Global};
 use workspace::{Refusal, Stop, Workspace, header_of};
+
+/// Why a run stops that ends with this fault, by whether a book has its work.
+pub(crate) fn stop_of_run(fault: RunFault, entered: bool) -> Stop
+    ensures { result ≡ stop_of_run entered fault }
+{
+    match fault {
+        RunFault::WorkLimit { spent } => Stop::Refused(Refusal::PastWork { spent, entered }),
+        RunFault::NoMemory => Stop::NoMemory,
+    }
+}
 
 /// The rows of a block under the names of its columns, as a run left them.
 pub(crate) fn rows_text(
@@ -90,10 +100,6 @@ pub(crate) fn block_answer<L: Ladder + Drop>(
     let mut meter = Metered::new(database);
     match run_ladder(alloc, ladder, block, &mut meter, &mut space, book, max_work) {
         Ok(report) => Ok(print_answer(alloc, database, block, &space.result, &report)?),
-        Err(RunFault::WorkLimit { spent }) => Err(Stop::Refused(Refusal::PastWork {
-            spent,
-            entered: true,
-        })),
-        Err(RunFault::NoMemory) => Err(Stop::NoMemory),
+        Err(fault) => Err(stop_of_run(fault, true)),
     }
 }

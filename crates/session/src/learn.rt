@@ -15,17 +15,16 @@ ghost use Rattle.session.specs.Learn.{learn_outcome, learned_block_answer};
 ghost use Rattle.session.specs.Printed.{learned_text};
 ghost use Rattle.session.specs.Uses.{IsExecutable};
 
-use crate::answers::rows_text;
+use crate::answers::{rows_text, stop_of_run};
 use crate::lines;
 use crate::session::Session;
 use crate::uses::Used;
-use bouquet_type::RunFault;
 use db_catalog::{Database, Metered};
 use learned_run::{Learned, learn};
 use row_stack::{RowStack, Space};
 use sql_parse::RunDef;
 use std::alloc::{AllocError, Global};
-use workspace::{Refusal, Stop, Workspace};
+use workspace::{Stop, Workspace};
 
 // What the block of a use prints, whose rows a run of its bouquet left, which learned and of which this is told.
 fn print_learned(
@@ -70,11 +69,7 @@ fn learned_answer(
     let mut meter = Metered::new(database);
     match learn(alloc, used.bouquet, block, &mut meter, &mut space, max_work) {
         Ok(learned) => Ok(print_learned(alloc, database, used, &space.result, &learned)?),
-        Err(RunFault::WorkLimit { spent }) => Err(Stop::Refused(Refusal::PastWork {
-            spent,
-            entered: false,
-        })),
-        Err(RunFault::NoMemory) => Err(Stop::NoMemory),
+        Err(fault) => Err(stop_of_run(fault, false)),
     }
 }
 

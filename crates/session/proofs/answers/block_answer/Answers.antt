@@ -1,17 +1,23 @@
 -- The space is wide enough, and what is printed is due.
-use Rattle.std.proofs.Common.{◌≡◌, ◌∙◌, ℕ, ◌+◌, List, true, nat_le, sym, ap, if◌then◌else◌, arith, rules}
-use Rattle.std.proofs.lemmas.Bool.{le-leb}
-use Rattle.query_block.specs.Blocks.{block_tree}
+use Rattle.std.proofs.Common.{◌≡◌, ◌∙◌, ℕ, ◌+◌, List, true, false, nat_le, sym, ap, subst, if◌then◌else◌, arith, rules}
+use Rattle.std.proofs.lemmas.Bool.{le-leb, lt-leb}
+use Rattle.std.specs.Prelude.{Err}
+use Rattle.query_block.specs.Blocks.{BlockTree, block_tree}
 use Rattle.db_catalog.specs.Database.{DatabaseState}
 use Rattle.db_catalog.specs.Meter.{MeterState}
 use Rattle.bouquet_type.specs.Runs.{RunEnd, run_end}
 use Rattle.bouquet_type.specs.Reports.{told_end}
 use Rattle.bouquet_type.proofs.Wide.{words_some}
-use Rattle.bouquet_run.specs.Outcomes.{works_over}
+use Rattle.bouquet_type.specs.Trees.{BouquetTree}
+use Rattle.bouquet_type.specs.declared.report.RunFault.{RunFault}
+use Rattle.bouquet_type.specs.declared.report.RunFault.TheVariants as runs
+use Rattle.bouquet_run.specs.Outcomes.{RefusesRun, works_over}
 use Rattle.workspace.specs.Outcome.{Outcome, Prints, Refuses}
 use Rattle.workspace.specs.States.{world_of}
 use Rattle.workspace.specs.World.{World}
 use Rattle.workspace.specs.declared.refusal.Refusal.TheVariants as refusal
+use Rattle.session.specs.Answered.{block_answer, stop_of_run}
+use Rattle.session.specs.Returns.{ReturnsDue}
 use Rattle.session.specs.Printed.{answer_text}
 use Rattle.session.proofs.answers.block_answer.Goals as goal
 
@@ -38,3 +44,21 @@ returns-in-Ok-clause-due g c =
       (λ i. due (is i) (end i)) ∙ rw within (ap (λ (text : List ℕ). Prints text report.work world) (sym c.in_ok-print_answer-in-Ok.ensures)),
       c.in-Ok.ensures.book ∙ ap (λ n. c.args.book.now + n) runs.paid,
     )
+
+-- a run whose work is past the most is refused, when so much is paid
+refused : (most : ℕ) (world : World) (whole : BouquetTree) (block : BlockTree) (old new spent : ℕ) (fault : RunFault) → RefusesRun most (run_end whole (works_over world.database block)) spent fault → new ≡ old + spent
+    → ReturnsDue (block_answer most world whole block) (Err (stop_of_run true fault)) world old new
+refused most world whole block old new spent (runs.WorkLimit told) is paid =
+    let past : nat_le (run_end whole (works_over world.database block)).total most ≡ false = lt-leb _ _ is.0 in
+    (rw past (ap (λ n. Refuses (refusal.PastWork n true)) (sym is.1)), paid ∙ ap (λ n. old + n) (is.2 ∙ sym is.1))
+refused most world whole block old new spent runs.NoMemory is paid = tt
+
+pub returns-clause-due : goal.returns-clause-due
+returns-clause-due g c =
+    let world : World = world_of c.args.workspace.now in
+    let whole = (g.L.Ladder.state c.args.ladder).whole in
+    let block = block_tree c.args.block.now in
+    let fault : RunFault = c.in-Err.fault in
+    let seen : c.new-meter.result.database ≡ world.database = ap (λ (meter : MeterState). meter.database) c.new-meter.ensures ∙ c.database-database.ensures in
+    let refuses = subst (λ (database : DatabaseState). RefusesRun c.args.max_work (run_end whole (works_over database block)) c.run_ladder.new.meter.account.spent fault) seen c.in-Err.ensures.answers.0 in
+    rw c.stop_of_run.ensures (refused c.args.max_work world whole block c.args.book.now _ _ fault refuses c.in-Err.ensures.book)
