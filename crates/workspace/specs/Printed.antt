@@ -1,6 +1,5 @@
 -- The texts that statements print.
 use Rattle.std.specs.Prelude.{ℕ, ◌+◌, ◌^◌, List, [], ◌∷◌, ◌++◌, map, length, slice_index_or, codes, decimal}
-use Rattle.sql_values.specs.declared.column.ColumnDef.{ColumnDef}
 use Rattle.query_block.specs.declared.edge.ColumnAt.{ColumnAt}
 use Rattle.query_block.specs.Blocks.{RelationTree, BlockTree, relation_at}
 use Rattle.plan_tree.specs.Plans.{PlanTree}
@@ -10,14 +9,10 @@ use Rattle.bouquet_type.specs.Trees.{BouquetTree, ContourTree}
 use Rattle.bouquet_type.specs.Budgets.{budget_of, most_plans}
 use Rattle.bouquet_check.specs.Verdicts.{VerdictTree, First, Step, Last, Uncovered, Sound}
 
--- the names of columns
-abbrev pub column_names : List ColumnDef → List (List ℕ)
-column_names columns = map (λ column. column.name) columns
-
 -- the name of a column of a block: that in its table, without an alias
 abbrev pub column_name : DatabaseState → List RelationTree → ColumnAt → List ℕ
 column_name database relations at =
-    slice_index_or (column_names (table_at database (relation_at relations at.relation).table).columns) at.column []
+    slice_index_or (map (λ column. column.name) (table_at database (relation_at relations at.relation).table).columns) at.column []
 
 -- the names of the columns that a block asks for
 abbrev pub header_of : DatabaseState → BlockTree → List (List ℕ)

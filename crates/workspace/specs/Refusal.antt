@@ -91,10 +91,6 @@ not_bound_line (bind.PredicateForm conjunct) = error_line (codes "E08 " ++ (code
 not_bound_line (bind.Limit limit value) = limit_line limit value
 not_bound_line bind.NoMemory = error_line []
 
--- there is no such bouquet
-abbrev pub no_bouquet_line : List ℕ → List ℕ
-no_bouquet_line name = error_line (codes "E13 bouquet " ++ name)
-
 -- a count that isn't what it was: the relation, the count, what it was, what it is
 abbrev pub stale_line : Stale → List ℕ
 stale_line stale =
@@ -119,7 +115,7 @@ line_of (refusal.NoColumn name) = no_column_line name
 line_of (refusal.NotMade fault) = not_made_line fault
 line_of (refusal.NotBound fault) = not_bound_line fault
 line_of (refusal.NameTaken name) = duplicate_line name
-line_of (refusal.NoBouquet name) = no_bouquet_line name
+line_of (refusal.NoBouquet name) = error_line (codes "E13 bouquet " ++ name)
 line_of (refusal.IsStale stale) = stale_line stale
 line_of (refusal.NotFitting fault) = not_fitting_line fault
 line_of (refusal.AbsentFile name) = error_line (codes "E09 absent " ++ name)
