@@ -95,7 +95,7 @@ pub(crate) fn block_answer<L: Ladder + Drop>(
     ensures pays { PaysAtMost max_work book.old book.new }
 {
     let database = workspace.database();
-    let _relations = block.relations();
+    block.relations();
     let mut space = Space::new(alloc, block.width());
     let mut meter = Metered::new(database);
     match run_ladder(alloc, ladder, block, &mut meter, &mut space, book, max_work) {

@@ -64,7 +64,7 @@ fn learned_answer(
 {
     let database = workspace.database();
     let block = &used.block;
-    let _relations = block.relations();
+    block.relations();
     let mut space = Space::new(alloc, block.width());
     let mut meter = Metered::new(database);
     match learn(alloc, used.bouquet, block, &mut meter, &mut space, max_work) {

@@ -23,7 +23,7 @@ impl Workspace {
         let Some(kept) = self.bouquets.get(name.bytes()) else {
             return Err(no_bouquet(name));
         };
-        let _block = kept.bouquet.block();
+        kept.bouquet.block();
         let verdict = bouquet_check::check(alloc, &kept.bouquet)?;
         Ok(check_line(alloc, &verdict)?)
     }

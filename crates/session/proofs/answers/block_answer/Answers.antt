@@ -23,7 +23,7 @@ use Rattle.session.proofs.answers.block_answer.Goals as goal
 
 pub new-space-requires : goal.new-space-requires
 new-space-requires g c = record {
-  some_words = omega (arith, c.width.ensures.width, words_some (block_tree c.args.block.now) c.relations-relations.ensures.block);
+  some_words = omega (arith, c.width.ensures.width, words_some (block_tree c.args.block.now) c.relations.ensures.block);
   few_words = search rules;
 }
 

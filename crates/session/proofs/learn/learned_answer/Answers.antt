@@ -25,7 +25,7 @@ use Rattle.session.proofs.learn.learned_answer.Goals as goal
 
 pub new-space-requires : goal.new-space-requires
 new-space-requires c = record {
-  some_words = omega (arith, c.width.ensures.width, words_some (block_tree c.args.used.now.block) c.relations-relations.ensures.block);
+  some_words = omega (arith, c.width.ensures.width, words_some (block_tree c.args.used.now.block) c.relations.ensures.block);
   few_words = search rules;
 }
 

@@ -15,7 +15,7 @@ returns-clause-bounded c =
     let found : named_in c.args.name.now world.bouquets ≡ Some named = rw (← c.bytes.ensures) c.in-Some.ensures.named in
     let verdict = c.in_ok-verdict.ensures in
     let holds : VerdictHolds named.bouquet = record {
-      shown = verdict-shown named.bouquet c.block-block.ensures.bouquet.costing;
-      bound = λ sound work. bouquet-bound kept.bouquet c.block-block.ensures.bouquet work (verdict.sound.0 (verdict.verdict ∙ sound));
+      shown = verdict-shown named.bouquet c.block.ensures.bouquet.costing;
+      bound = λ sound work. bouquet-bound kept.bouquet c.block.ensures.bouquet work (verdict.sound.0 (verdict.verdict ∙ sound));
     } in
     rw (← c.self.view_is, found) holds
