@@ -7,13 +7,14 @@ ghost use Rattle.turns.specs.Jobs.{job_tree};
 ghost use Rattle.workspace.specs.Outcome.{RefusesFound};
 ghost use Rattle.workspace.specs.Returns.{ReturnsFree};
 ghost use Rattle.workspace.specs.States.{world_of};
+ghost use Rattle.workspace.specs.World.{World};
 ghost use Rattle.session.specs.Bounds.{IsAnsweredWithin};
 ghost use Rattle.session.specs.Turns.{fresh_jobs, is_past, jobs_refusal, numbers_from_0, turn_refusal, turns_answer, turns_outcome};
 ghost use Rattle.session.specs.Uses.{IsExecutable, task_of_use};
 
 use crate::session::Session;
 use crate::turn_lines::turns_text;
-use crate::uses::Used;
+use crate::uses::{Asked, Used};
 use db_catalog::Database;
 use sql_parse::TurnsDef;
 use sql_values::MAX_JOBS;
@@ -87,35 +88,33 @@ fn any_past(jobs: &[Job<'_>]) -> bool
     false
 }
 
-// What these jobs of bouquets print that take turns by these numbers, from 0, and then round by round.
+// What jobs print of which this is asked and that take turns by these numbers, from 0, and then round by round.
+// They change no world.
 fn jobs_answer(
     alloc: Global,
-    max_work: u64,
-    workspace: &Workspace,
-    all: &[Used<'_>],
+    asked: &Asked<'_>,
     numbers: &[u32],
     jobs: &mut [Job<'_>],
 ) -> Result<Vec<u8>, Stop>
-    requires usable { All (IsExecutable workspace.now.database) all.now }
-    requires few { length all.now ≤ max_jobs }
-    requires fresh { map job_tree jobs.old
-        ≡ fresh_jobs (map (task_of_use max_work workspace.now.database) all.now) }
-    requires there { All (λ number. number < length all.now) numbers.now }
-    ensures { (by : List ℕ) → numbers.now ≡ numbers_from_0 by → ReturnsFree
-        (turns_answer max_work (world_of workspace.now) by
-        (map (task_of_use max_work workspace.now.database) all.now))
-        result (world_of workspace.now) }
+    requires usable { All (IsExecutable asked.now.database.now) asked.now.all.now }
+    requires few { length asked.now.all.now ≤ max_jobs }
+    requires fresh { map job_tree jobs.old ≡ fresh_jobs
+        (map (task_of_use asked.now.max_work asked.now.database.now) asked.now.all.now) }
+    requires there { All (λ number. number < length asked.now.all.now) numbers.now }
+    ensures { (by : List ℕ) (world : World) → numbers.now ≡ numbers_from_0 by → ReturnsFree
+        (turns_answer asked.now.max_work world by
+        (map (task_of_use asked.now.max_work asked.now.database.now) asked.now.all.now))
+        result world }
 {
-    let database = workspace.database();
     let first = take_turns(alloc, jobs, numbers)?;
     let others = finish_turns(alloc, jobs)?;
     if any_past(jobs) {
         return Err(Stop::Refused(Refusal::PastWork {
-            spent: u128::from(max_work),
+            spent: u128::from(asked.max_work),
             entered: false,
         }));
     }
-    Ok(turns_text(alloc, max_work, database, all, &first, &others, jobs)?)
+    Ok(turns_text(alloc, asked, &first, &others, jobs)?)
 }
 
 // What the jobs of bouquets print that take turns by these numbers, from 1, and then round by round. Each may spend `max_work`
@@ -135,8 +134,14 @@ fn turns_answer(
         result (world_of workspace.now) }
 {
     let numbers = numbers_from_0(alloc, all.len(), by)?;
-    let mut jobs = jobs_of(alloc, max_work, workspace.database(), all)?;
-    jobs_answer(alloc, max_work, workspace, all, &numbers, &mut jobs)
+    let database = workspace.database();
+    let mut jobs = jobs_of(alloc, max_work, database, all)?;
+    let asked = Asked {
+        max_work,
+        database,
+        all,
+    };
+    jobs_answer(alloc, &asked, &numbers, &mut jobs)
 }
 
 impl Session {

@@ -8,7 +8,7 @@ ghost use Rattle.session.specs.Printed.{executed_plan, job_text, turn_line};
 ghost use Rattle.session.specs.Uses.{IsTurnOf, IsExecutable, bouquets_of, task_of_use};
 
 use crate::answers::print_answer;
-use crate::uses::Used;
+use crate::uses::{Asked, Used};
 use bouquet_type::Bouquet;
 use db_catalog::Database;
 use plan_tree::Plan;
@@ -92,47 +92,46 @@ fn push_answer(
     text.extend_from_slice(&answer)
 }
 
-// Appends the answer of each job of these bouquets that is answered.
+// Appends the answer of each job that is answered, where this was asked of them.
 fn push_answers(
     alloc: Global,
     text: &mut Vec<u8>,
-    max_work: u64,
-    database: &Database,
-    all: &[Used<'_>],
+    asked: &Asked<'_>,
     jobs: &[Job<'_>],
 ) -> Result<(), AllocError>
-    requires usable { All (IsExecutable database.now) all.now }
-    requires jobs { map task_of jobs.now ≡ map (task_of_use max_work database.now) all.now }
+    requires usable { All (IsExecutable asked.now.database.now) asked.now.all.now }
+    requires jobs { map task_of jobs.now
+        ≡ map (task_of_use asked.now.max_work asked.now.database.now) asked.now.all.now }
     ensures { OnOk result (text.new.items
         ≡ text.old.items ++ flat_map job_text (map job_tree jobs.now)) }
 {
+    let all = asked.all;
     for (place, job) in jobs.iter().enumerate() {
-        push_answer(alloc, text, database, &all[place], job)?;
+        push_answer(alloc, text, asked.database, &all[place], job)?;
     }
     Ok(())
 }
 
-/// What jobs of these bouquets print that took turns, first these and then the others.
+/// What jobs print of which this was asked and that took turns, first these and then the others.
 pub(crate) fn turns_text(
     alloc: Global,
-    max_work: u64,
-    database: &Database,
-    all: &[Used<'_>],
+    asked: &Asked<'_>,
     first: &[Turn],
     others: &[Turn],
     jobs: &[Job<'_>],
 ) -> Result<Vec<u8>, AllocError>
-    requires usable { All (IsExecutable database.now) all.now }
-    requires first { All (IsTurnOf (length all.now)) first.now }
-    requires others { All (IsTurnOf (length all.now)) others.now }
-    requires jobs { map task_of jobs.now ≡ map (task_of_use max_work database.now) all.now }
+    requires usable { All (IsExecutable asked.now.database.now) asked.now.all.now }
+    requires first { All (IsTurnOf (length asked.now.all.now)) first.now }
+    requires others { All (IsTurnOf (length asked.now.all.now)) others.now }
+    requires jobs { map task_of jobs.now
+        ≡ map (task_of_use asked.now.max_work asked.now.database.now) asked.now.all.now }
     ensures { IfOk result (λ text. text.items
-        ≡ flat_map (turn_line (bouquets_of all.now)) (first.now ++ others.now)
+        ≡ flat_map (turn_line (bouquets_of asked.now.all.now)) (first.now ++ others.now)
         ++ flat_map job_text (map job_tree jobs.now)) }
 {
     let mut text = Vec::new(alloc);
-    push_turns(alloc, &mut text, all, first)?;
-    push_turns(alloc, &mut text, all, others)?;
-    push_answers(alloc, &mut text, max_work, database, all, jobs)?;
+    push_turns(alloc, &mut text, asked.all, first)?;
+    push_turns(alloc, &mut text, asked.all, others)?;
+    push_answers(alloc, &mut text, asked, jobs)?;
     Ok(text)
 }

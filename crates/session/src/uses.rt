@@ -6,6 +6,7 @@ ghost use Rattle.session.specs.Uses.{AreUsedOf, IsUsedOf, RefusesUse, RefusesUse
 
 use crate::session::Session;
 use bouquet_type::Bouquet;
+use db_catalog::Database;
 use query_block::Block;
 use sql_parse::RunDef;
 use std::alloc::{AllocError, Global};
@@ -16,6 +17,14 @@ use workspace::Stop;
 pub(crate) struct Used<'s> {
     pub(crate) bouquet: &'s Bouquet,
     pub(crate) block: Block,
+}
+
+/// What is asked of several jobs: the queries of bouquets over a database, each for at most so many units of work.
+#[derive(Clone, Copy)]
+pub(crate) struct Asked<'s> {
+    pub(crate) max_work: u64,
+    pub(crate) database: &'s Database,
+    pub(crate) all: &'s [Used<'s>],
 }
 
 // Puts one behind others.

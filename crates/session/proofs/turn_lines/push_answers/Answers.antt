@@ -11,13 +11,13 @@ use Rattle.session.proofs.turn_lines.push_answers.Goals as goal
 
 pub push_answer-requires-clause-job : goal.push_answer-requires-clause-job
 push_answer-requires-clause-job c =
-    let database = c.args.database.now in
+    let database = c.args.asked.now.database.now in
     let jobs : List JobShape = c.args.jobs.now in
-    let all : List Used = c.args.all.now in
+    let all : List Used = c.args.asked.now.all.now in
     let place : ℕ = c.loop-place.place in
     let job : JobShape = c.index-jobs-place.result in
     let used : Used = c.index-all-place.result in
-    let asked : Used → JobTask = task_of_use c.args.max_work database in
+    let asked : Used → JobTask = task_of_use c.args.asked.now.max_work database in
     let there : place < length jobs = c.loop-place-test.true in
     let there' : place < length all = omega (arith, there, length-map jobs task_of, length-map all asked, ap (λ (l : List JobTask). length l) c.requires.jobs) in
     let same : task_of job ≡ asked used =

@@ -12,7 +12,7 @@ pub returns : goal.returns
 returns c =
     let first : List Turn = c.args.first.now in
     let others : List Turn = c.args.others.now in
-    let line : Turn → List ℕ = turn_line (bouquets_of c.args.all.now) in
+    let line : Turn → List ℕ = turn_line (bouquets_of c.args.asked.now.all.now) in
     let lined : c.push_turns-2.new.text.items ≡ flat_map line (first ++ others) =
     c.in_ok-push_turns-2.ensures
     ∙ (λ i. (c.in_ok-push_turns.ensures ∙ (λ j. c.new-text.ensures.items j ++ flat_map line first)) i ++ flat_map line others)
