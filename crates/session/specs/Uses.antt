@@ -8,9 +8,7 @@ use Rattle.bouquet_type.specs.Trees.{BouquetTree, bouquet_tree}
 use Rattle.turns.specs.Standing.{JobTask}
 use Rattle.turns.specs.declared.turn.Turn.{Turn}
 use Rattle.workspace.specs.Outcome.{Outcome}
-use Rattle.workspace.specs.Stop.{StopsAt}
 use Rattle.workspace.specs.World.{World, bouquet_in}
-use Rattle.workspace.specs.declared.stop.Stop.{Stop}
 use Rattle.session.specs.Answered.{at_used}
 use Rattle.session.specs.Bounds.{LearnsWithinBound, RunsWithinBound}
 use Rattle.session.specs.Turns.{at_tasks}
@@ -44,16 +42,9 @@ pub record IsUsedOf (world : World) (run : RunDef) (used : Used) : Type 0 where
   pub within : IsUsedWithin world run
   pub learns : IfSome (bouquet_in run.name world.bouquets) (LearnsWithinBound world.database run.values)
 
--- there is none: whatever is asked of it stops so
-abbrev pub RefusesUse : World → RunDef → Stop → Type 0
-RefusesUse world run why = (go : BouquetTree → BlockTree → Outcome) → StopsAt (at_used world run go) why
-
--- they are those of these names; or there is a name without one
+-- they are those of these names
 pub record AreUsedOf (world : World) (runs : List RunDef) (all : List Used) : Type 0 where
   pub due : (max_work : ℕ) (go : List JobTask → Outcome) → at_tasks max_work world runs go ≡ go (map (task_of_use max_work world.database) all)
   pub count : length all ≡ length runs
   pub usable : All (IsExecutable world.database) all
   pub within : All (IsUsedWithin world) runs
-
-abbrev pub RefusesUses : World → List RunDef → Stop → Type 0
-RefusesUses world runs why = (max_work : ℕ) (go : List JobTask → Outcome) → StopsAt (at_tasks max_work world runs go) why

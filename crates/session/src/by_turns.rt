@@ -15,7 +15,6 @@ ghost use Rattle.session.specs.Uses.{IsExecutable, task_of_use};
 use crate::session::Session;
 use crate::turn_lines::turns_text;
 use crate::uses::{Asked, Used};
-use db_catalog::Database;
 use sql_parse::TurnsDef;
 use sql_values::MAX_JOBS;
 use std::alloc::{AllocError, Global};
@@ -58,20 +57,17 @@ fn numbers_from_0(alloc: Global, count: usize, by: &[u64]) -> Result<Vec<u32>, A
     Ok(numbers)
 }
 
-// The jobs of bouquets before their first turns.
-fn jobs_of<'u>(
-    alloc: Global,
-    max_work: u64,
-    database: &'u Database,
-    all: &'u [Used<'u>],
-) -> Result<Vec<Job<'u>>, AllocError>
-    requires { All (IsExecutable database.now) all.now }
-    ensures { IfOk result (λ jobs. map job_tree jobs.items
-        ≡ fresh_jobs (map (task_of_use max_work database.now) all.now)) }
+// The jobs of which this is asked, before their first turns.
+fn jobs_of<'u>(alloc: Global, asked: &Asked<'u>) -> Result<Vec<Job<'u>>, AllocError>
+    requires { All (IsExecutable asked.now.database.now) asked.now.all.now }
+    ensures { IfOk result (λ jobs. map job_tree jobs.items ≡ fresh_jobs
+        (map (task_of_use asked.now.max_work asked.now.database.now) asked.now.all.now)) }
 {
+    let database = asked.database;
+    let all = asked.all;
     let mut jobs = Vec::new(alloc);
     for used in all {
-        jobs.push(Job::new(alloc, database, used.bouquet, &used.block, max_work))?;
+        jobs.push(Job::new(alloc, database, used.bouquet, &used.block, asked.max_work))?;
     }
     Ok(jobs)
 }
@@ -135,12 +131,12 @@ fn turns_answer(
 {
     let numbers = numbers_from_0(alloc, all.len(), by)?;
     let database = workspace.database();
-    let mut jobs = jobs_of(alloc, max_work, database, all)?;
     let asked = Asked {
         max_work,
         database,
         all,
     };
+    let mut jobs = jobs_of(alloc, &asked)?;
     jobs_answer(alloc, &asked, &numbers, &mut jobs)
 }
 

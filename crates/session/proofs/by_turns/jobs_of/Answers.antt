@@ -10,11 +10,11 @@ use Rattle.session.proofs.by_turns.jobs_of.Goals as goal
 
 pub loop-used-preserved : goal.loop-used-preserved
 loop-used-preserved c =
-    let all : List Used = c.args.all.now in
+    let all : List Used = c.args.asked.now.all.now in
     let place : ℕ = c.loop-used.used-index in
     let used : Used = c.used-item.result in
     let job : JobShape = c.new.result in
-    let ask : Used → JobTask = task_of_use c.args.max_work c.args.database.now in
+    let ask : Used → JobTask = task_of_use c.args.asked.now.max_work c.args.asked.now.database.now in
     let begin : JobTask → JobTree = λ task. record { task = task; standing = fresh_job task } in
     let fresh : job_tree job ≡ begin (ask used) =
     λ i. record { task = c.new.ensures.task i; standing = (c.new.ensures.fresh ∙ ap fresh_job c.new.ensures.task) i } in
