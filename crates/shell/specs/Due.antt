@@ -10,6 +10,7 @@ use Rattle.workspace.specs.Refusal.{line_of}
 use Rattle.session.specs.Statements.{statement_outcome}
 use Rattle.workspace.specs.World.{World}
 use Rattle.workspace.specs.declared.refusal.Refusal.{Refusal}
+use Rattle.shell.specs.declared.outlets.Outlets.{Outlets}
 use Rattle.shell.specs.declared.script.ScriptFault.{ScriptFault}
 use Rattle.shell.specs.declared.script.ScriptFault.TheVariants as script_fault
 use Rattle.shell.specs.declared.status.Status.{Status}
@@ -123,3 +124,10 @@ pub record RunsScript (max_work : ℕ) (source_failed sink_failed : Type 0) (scr
   pub folder : NeverFalls before after
   pub unread : IfSome script (λ bytes. (why : Refusal) → IsScript bytes (Err why) → after ≡ before)
   pub unpaid : IfSome script (λ bytes. (why : Refusal) → IsScript bytes (Err why) → paid ≡ 0)
+
+-- it is lent what it was lent, by the same lenders, and a query may cost as much
+pub record KeepsOutlets {F K : Type 0} (old new : Outlets F K) : Type 0 where
+  pub most : new.max_work ≡ old.max_work
+  pub folder : new.folder.ghost_name ≡ old.folder.ghost_name
+  pub sink : new.sink.ghost_name ≡ old.sink.ghost_name
+  pub book : new.book.ghost_name ≡ old.book.ghost_name

@@ -1,49 +1,49 @@
 // A run of the demonstration: its own script over its own folder, in which no call fails.
-ghost use Rattle.std.specs.Prelude.{◌≡◌, ◌≢◌, ◌^◌, ◌≤◌};
+ghost use Rattle.std.specs.Prelude.{◌≡◌, ◌≢◌, ◌≤◌};
 ghost use Rattle.outside_io.specs.Count.{Rose};
 ghost use Rattle.demo_data.specs.Demo.{greatest_demo};
+ghost use Rattle.command_line.specs.Limits.{max_work};
+ghost use Rattle.shell.specs.Due.{KeepsOutlets};
 ghost use Rattle.shell.specs.Serve.{Demonstrates};
 
 use crate::Status;
+use crate::outlets::Outlets;
 use crate::run::carry_out_script;
-use bouquet_run::Book;
-use outside_io::Sink;
+use outside_io::{Folder, Sink};
 use std::alloc::Global;
 use std::hash::RandomState;
 
 /// Carries out the script of the demonstration over its folder of this number, from 1 to 2000.
-pub(crate) fn run_demonstration<K: Sink>(
+pub(crate) fn run_demonstration<F: Folder, K: Sink>(
     alloc: Global,
     key: RandomState,
-    max_work: u64,
     number: u32,
-    sink: &mut K,
-    book: &mut Book,
+    outlets: &mut Outlets<'_, F, K>,
 ) -> Status
-    requires most { max_work ≤ 2 ^ 62 }
+    requires most { outlets.old.max_work ≤ max_work }
     requires least { 1 ≤ number }
     requires greatest { number ≤ greatest_demo }
-    requires unpaid { book.old ≡ 0 }
-    ensures demonstrates { Demonstrates max_work number
-        (Rose (K.faults sink.old) (K.faults sink.new)) result (K.got sink.old) (K.got sink.new)
-        book.new }
+    requires unpaid { outlets.old.book.now ≡ 0 }
+    ensures demonstrates { Demonstrates outlets.old.max_work number
+        (Rose (K.faults outlets.old.sink.now) (K.faults outlets.new.sink.now)) result
+        (K.got outlets.old.sink.now) (K.got outlets.new.sink.now) outlets.new.book.now }
     ensures kinds { result ≢ Status.BadWords }
     ensures read_fault { result ≢ Status.ReadFault }
     ensures write_fault { result ≡ Status.WriteFault →
-        Rose (K.faults sink.old) (K.faults sink.new) }
-    ensures sink { K.faults sink.old ≤ K.faults sink.new }
+        Rose (K.faults outlets.old.sink.now) (K.faults outlets.new.sink.now) }
+    ensures sink { K.faults outlets.old.sink.now ≤ K.faults outlets.new.sink.now }
+    ensures folder { outlets.new.folder ≡ outlets.old.folder }
+    ensures lent { KeepsOutlets outlets.old outlets.new }
 {
     let mut folder = match demo_data::folder(alloc, number) {
         Ok(folder) => folder,
         Err(_) => return Status::NoMemory,
     };
-    carry_out_script(
-        alloc,
-        key,
-        max_work,
-        demo_data::script(),
-        &mut folder,
-        sink,
-        book,
-    )
+    let mut own = Outlets {
+        max_work: outlets.max_work,
+        folder: &mut folder,
+        sink: outlets.sink,
+        book: outlets.book,
+    };
+    carry_out_script(alloc, key, demo_data::script(), &mut own)
 }

@@ -6,6 +6,7 @@
 
 mod demonstration;
 mod fold;
+mod outlets;
 mod program;
 mod run;
 mod script;

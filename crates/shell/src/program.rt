@@ -11,6 +11,7 @@ ghost use Rattle.shell.specs.Source.{TakesAtMost};
 
 use crate::Status;
 use crate::demonstration::run_demonstration;
+use crate::outlets::Outlets;
 use crate::run::run_source;
 use crate::sink::put_text;
 use bouquet_run::Book;
@@ -106,9 +107,15 @@ pub fn serve<S: Source, F: Folder, K: Sink>(
         Err(WordsFault::BadWords) => return refuse_words(sink),
         Err(WordsFault::NoMemory) => return Status::NoMemory,
     };
+    let mut outlets = Outlets {
+        max_work: options.max_work,
+        folder,
+        sink,
+        book,
+    };
     match options.demo {
-        Some(number) => run_demonstration(alloc, key, options.max_work, number, sink, book),
-        None => run_source(alloc, key, options.max_work, source, folder, sink, book),
+        Some(number) => run_demonstration(alloc, key, number, &mut outlets),
+        None => run_source(alloc, key, source, &mut outlets),
     }
 }
 

@@ -1,5 +1,5 @@
 -- Each statement's text stands after those before it.
-use Rattle.std.proofs.Common.{◌+◌, ◌≤◌, map, arith}
+use Rattle.std.proofs.Common.{◌+◌, ◌≤◌, map, refl, arith}
 use Rattle.std.proofs.lemmas.List.{length-map}
 use Rattle.sql_parse.specs.Trees.{statement_tree}
 use Rattle.workspace.specs.States.{world_of}
@@ -10,31 +10,33 @@ use Rattle.shell.proofs.fold.carry_out_each.Goals as goal
 
 pub loop-statement-init : goal.loop-statement-init
 loop-statement-init g c = record {
-  carried = rw (c.requires.new, c.requires.unpaid) (carried_none c.args.max_work (map statement_tree c.args.statements.now) (g.F.Folder.state c.args.folder.now) (g.K.Sink.got c.args.sink.now));
+  carried = rw (c.requires.new, c.requires.unpaid) (carried_none c.args.outlets.now.max_work (map statement_tree c.args.statements.now) (g.F.Folder.state c.args.outlets.now.folder.now) (g.K.Sink.got c.args.outlets.now.sink.now));
   sink = omega arith;
   spent = omega arith;
+  lent = record { most = refl; folder = refl; sink = refl; book = refl };
 }
 
 pub returns-in-Err-clause-carries : goal.returns-in-Err-clause-carries
 returns-in-Err-clause-carries g c =
-    ended_at c.args.max_work c.args.statements.now c.loop-statement.statement-index (g.F.Folder.state c.args.folder.now) (g.F.Folder.state c.loop-statement.folder) (g.F.Folder.state c.carry_out_one.new.folder)
-    (world_of c.loop-statement.session) (world_of c.carry_out_one.new.session) c.statement-item.result (g.K.Sink.got c.args.sink.now) (g.K.Sink.got c.loop-statement.sink) (g.K.Sink.got c.carry_out_one.new.sink)
-    c.loop-statement.book c.carry_out_one.new.book _ (omega arith) c.statement-item.is c.loop-statement.invariant.carried
-    _ c.in-Err.ended (rose_in c.loop-statement.invariant.sink (omega arith)) c.in-Err.ensures.carries
+    ended_at c.args.outlets.now.max_work c.args.statements.now c.loop-statement.statement-index (g.F.Folder.state c.args.outlets.now.folder.now) (g.F.Folder.state c.loop-statement.outlets.folder.now) (g.F.Folder.state c.carry_out_one.new.outlets.folder.now)
+    (world_of c.loop-statement.session) (world_of c.carry_out_one.new.session) c.statement-item.result (g.K.Sink.got c.args.outlets.now.sink.now) (g.K.Sink.got c.loop-statement.outlets.sink.now) (g.K.Sink.got c.carry_out_one.new.outlets.sink.now)
+    c.loop-statement.outlets.book.now c.carry_out_one.new.outlets.book.now _ (omega arith) c.statement-item.is c.loop-statement.invariant.carried
+    _ c.in-Err.ended (rose_in c.loop-statement.invariant.sink (omega arith)) (rw c.loop-statement.invariant.lent.most at c.in-Err.ensures.carries)
 
 pub loop-statement-preserved : goal.loop-statement-preserved
 loop-statement-preserved g c =
-    let within : c.carry_out_one.new.book ≤ c.loop-statement.book + c.args.max_work = c.in-Ok.ensures.within in
+    let within : c.carry_out_one.new.outlets.book.now ≤ c.loop-statement.outlets.book.now + c.args.outlets.now.max_work = rw c.loop-statement.invariant.lent.most at c.in-Ok.ensures.within in
     record {
       carried =
-          on_at c.args.max_work c.args.statements.now c.loop-statement.statement-index (g.F.Folder.state c.args.folder.now) (g.F.Folder.state c.loop-statement.folder) (g.F.Folder.state c.carry_out_one.new.folder)
-          (world_of c.loop-statement.session) (world_of c.carry_out_one.new.session) c.statement-item.result (g.K.Sink.got c.args.sink.now) (g.K.Sink.got c.loop-statement.sink) (g.K.Sink.got c.carry_out_one.new.sink)
-          c.loop-statement.book c.carry_out_one.new.book _ (omega arith) c.statement-item.is c.loop-statement.invariant.carried tt c.in-Ok.ensures.carries;
+          on_at c.args.outlets.now.max_work c.args.statements.now c.loop-statement.statement-index (g.F.Folder.state c.args.outlets.now.folder.now) (g.F.Folder.state c.loop-statement.outlets.folder.now) (g.F.Folder.state c.carry_out_one.new.outlets.folder.now)
+          (world_of c.loop-statement.session) (world_of c.carry_out_one.new.session) c.statement-item.result (g.K.Sink.got c.args.outlets.now.sink.now) (g.K.Sink.got c.loop-statement.outlets.sink.now) (g.K.Sink.got c.carry_out_one.new.outlets.sink.now)
+          c.loop-statement.outlets.book.now c.carry_out_one.new.outlets.book.now _ (omega arith) c.statement-item.is c.loop-statement.invariant.carried tt (rw c.loop-statement.invariant.lent.most at c.in-Ok.ensures.carries);
       sink = omega arith;
       spent = omega (arith, within, c.loop-statement.invariant.spent);
+      lent = search;
     }
 
 pub returns-clause-carries : goal.returns-clause-carries
 returns-clause-carries g c =
-    carried_all c.args.max_work (map statement_tree c.args.statements.now) c.loop-statement.statement-index (g.F.Folder.state c.args.folder.now) (g.F.Folder.state c.loop-statement.folder) (world_of c.loop-statement.session)
-    (g.K.Sink.got c.args.sink.now) (g.K.Sink.got c.loop-statement.sink) c.loop-statement.book c.loop-statement.invariant.carried _ (omega (arith, length-map c.args.statements.now statement_tree))
+    carried_all c.args.outlets.now.max_work (map statement_tree c.args.statements.now) c.loop-statement.statement-index (g.F.Folder.state c.args.outlets.now.folder.now) (g.F.Folder.state c.loop-statement.outlets.folder.now) (world_of c.loop-statement.session)
+    (g.K.Sink.got c.args.outlets.now.sink.now) (g.K.Sink.got c.loop-statement.outlets.sink.now) c.loop-statement.outlets.book.now c.loop-statement.invariant.carried _ (omega (arith, length-map c.args.statements.now statement_tree))

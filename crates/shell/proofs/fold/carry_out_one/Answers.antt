@@ -17,42 +17,42 @@ use Rattle.shell.proofs.fold.carry_out_one.Goals as goal
 pub returns-in-Ok-Ok-clause-carries : goal.returns-in-Ok-Ok-clause-carries
 returns-in-Ok-Ok-clause-carries g c =
     let out = rw c.in-Ok-Ok.field-0-is at c.in-Ok-Ok.ensures in
-    returned_text c.args.max_work _ (statement_tree c.args.statement.now) (g.F.Folder.state c.args.folder.now) (g.F.Folder.state c.carry_out.new.folder) (world_of c.args.session.now) (world_of c.carry_out.new.session) c.args.book.now c.carry_out.new.book
-    (g.K.Sink.got c.args.sink.now) (g.K.Sink.got c.put_text.new.sink) c.in-Ok-Ok.text c.put_text.result out.carries out.pays.within out.bounded
-    (rw c.deref.ensures.value at c.put_text.ensures.whole) (rw c.deref.ensures.value at c.put_text.ensures.part) c.put_text.ensures.nothing (rw c.deref.ensures.value at c.put_text.ensures.some) c.put_text.ensures.kinds c.put_text.ensures.sink.rose
+    returned_text c.args.outlets.now.max_work _ (statement_tree c.args.statement.now) (g.F.Folder.state c.args.outlets.now.folder.now) (g.F.Folder.state c.carry_out.new.outlets.folder.now) (world_of c.args.session.now) (world_of c.carry_out.new.session) c.args.outlets.now.book.now c.carry_out.new.outlets.book.now
+    (g.K.Sink.got c.args.outlets.now.sink.now) (g.K.Sink.got c.put_text.new.sink) c.in-Ok-Ok.text c.put_text.result out.carries out.pays.within out.bounded
+    (rw (c.deref.ensures.value, out.sink) at c.put_text.ensures.whole) (rw (c.deref.ensures.value, out.sink) at c.put_text.ensures.part) (rw out.sink at c.put_text.ensures.nothing) (rw c.deref.ensures.value at c.put_text.ensures.some) c.put_text.ensures.kinds (rw out.sink at c.put_text.ensures.sink.rose)
 
 pub returns-in-Ok-Err-Refused-clause-carries : goal.returns-in-Ok-Err-Refused-clause-carries
 returns-in-Ok-Err-Refused-clause-carries g c =
     let out = c.in-Ok-Err-Refused.ensures in
-    let before = g.F.Folder.state c.args.folder.now in
-    let after = g.F.Folder.state c.carry_out.new.folder in
-    let carried : IsCarriedOut c.args.max_work (statement_tree c.args.statement.now) before after (world_of c.args.session.now) (world_of c.carry_out.new.session) c.args.book.now c.carry_out.new.book (Ok (Err (stop.Refused c.in-Ok-Err-Refused.refusal))) =
+    let before = g.F.Folder.state c.args.outlets.now.folder.now in
+    let after = g.F.Folder.state c.carry_out.new.outlets.folder.now in
+    let carried : IsCarriedOut c.args.outlets.now.max_work (statement_tree c.args.statement.now) before after (world_of c.args.session.now) (world_of c.carry_out.new.session) c.args.outlets.now.book.now c.carry_out.new.outlets.book.now (Ok (Err (stop.Refused c.in-Ok-Err-Refused.refusal))) =
     rw (c.in-Ok-Err-Refused.field-0-is, c.in-Ok-Err-Refused.field-0-0-is) at out.carries in
     let does = carried.does in
-    stopped_at c.args.max_work _ (statement_tree c.args.statement.now) before after (world_of c.args.session.now) (world_of c.carry_out.new.session) c.args.book.now c.carry_out.new.book (g.K.Sink.got c.args.sink.now) (g.K.Sink.got c.put_refusal.new.sink)
+    stopped_at c.args.outlets.now.max_work _ (statement_tree c.args.statement.now) before after (world_of c.args.session.now) (world_of c.carry_out.new.session) c.args.outlets.now.book.now c.carry_out.new.outlets.book.now (g.K.Sink.got c.args.outlets.now.sink.now) (g.K.Sink.got c.put_refusal.new.sink)
     _ c.put_refusal.result carried
-    (ends_refused c.args.max_work _ (statement_tree c.args.statement.now) carried.file before after (world_of c.args.session.now) (g.K.Sink.got c.args.sink.now) (g.K.Sink.got c.put_refusal.new.sink) c.args.book.now c.carry_out.new.book
-    c.in-Ok-Err-Refused.refusal c.put_refusal.result does.0 does.1 out.pays.within carried.quiet does.2 c.put_refusal.ensures.kinds c.put_refusal.ensures.whole c.put_refusal.ensures.part c.put_refusal.ensures.nothing c.put_refusal.ensures.sink.rose c.put_refusal.ensures.some)
+    (ends_refused c.args.outlets.now.max_work _ (statement_tree c.args.statement.now) carried.file before after (world_of c.args.session.now) (g.K.Sink.got c.args.outlets.now.sink.now) (g.K.Sink.got c.put_refusal.new.sink) c.args.outlets.now.book.now c.carry_out.new.outlets.book.now
+    c.in-Ok-Err-Refused.refusal c.put_refusal.result does.0 does.1 out.pays.within carried.quiet does.2 c.put_refusal.ensures.kinds (rw out.sink at c.put_refusal.ensures.whole) (rw out.sink at c.put_refusal.ensures.part) (rw out.sink at c.put_refusal.ensures.nothing) (rw out.sink at c.put_refusal.ensures.sink.rose) c.put_refusal.ensures.some)
 
 pub returns-in-Ok-Err-NoMemory-clause-carries : goal.returns-in-Ok-Err-NoMemory-clause-carries
 returns-in-Ok-Err-NoMemory-clause-carries g c =
     let out = c.in-Ok-Err-NoMemory.ensures in
-    let before = g.F.Folder.state c.args.folder.now in
-    let after = g.F.Folder.state c.carry_out.new.folder in
-    let got = g.K.Sink.got c.args.sink.now in
-    let carried : IsCarriedOut c.args.max_work (statement_tree c.args.statement.now) before after (world_of c.args.session.now) (world_of c.carry_out.new.session) c.args.book.now c.carry_out.new.book (Ok (Err stop.NoMemory)) =
+    let before = g.F.Folder.state c.args.outlets.now.folder.now in
+    let after = g.F.Folder.state c.carry_out.new.outlets.folder.now in
+    let got = g.K.Sink.got c.args.outlets.now.sink.now in
+    let carried : IsCarriedOut c.args.outlets.now.max_work (statement_tree c.args.statement.now) before after (world_of c.args.session.now) (world_of c.carry_out.new.session) c.args.outlets.now.book.now c.carry_out.new.outlets.book.now (Ok (Err stop.NoMemory)) =
     rw (c.in-Ok-Err-NoMemory.field-0-is, c.in-Ok-Err-NoMemory.field-0-0-is) at out.carries in
-    let more = paid_more c.args.book.now c.carry_out.new.book c.args.max_work out.pays.never_falls out.pays.within in
-    stopped_at c.args.max_work _ (statement_tree c.args.statement.now) before after (world_of c.args.session.now) (world_of c.carry_out.new.session) c.args.book.now c.carry_out.new.book got got
+    let more = paid_more c.args.outlets.now.book.now c.carry_out.new.outlets.book.now c.args.outlets.now.max_work out.pays.never_falls out.pays.within in
+    stopped_at c.args.outlets.now.max_work _ (statement_tree c.args.statement.now) before after (world_of c.args.session.now) (world_of c.carry_out.new.session) c.args.outlets.now.book.now c.carry_out.new.outlets.book.now got (g.K.Sink.got c.carry_out.new.outlets.sink.now)
     _ status.NoMemory carried
-    (breaks status.NoMemory [] more.0 (Appends-nil got) more.2 (λ later. no_memory more.0 more.1 carried.quiet carried.does))
+    (breaks status.NoMemory [] more.0 (rw out.sink (Appends-nil got)) more.2 (λ later. no_memory more.0 more.1 carried.quiet carried.does))
 
 pub returns-in-Err-clause-carries : goal.returns-in-Err-clause-carries
 returns-in-Err-clause-carries g c =
     let out = c.in-Err.ensures in
-    let before = g.F.Folder.state c.args.folder.now in
-    let got = g.K.Sink.got c.args.sink.now in
-    let unpaid : c.carry_out.new.book ≡ c.args.book.now + 0 = omega (arith, out.carries.does.0) in
-    stopped_at c.args.max_work _ (statement_tree c.args.statement.now) before (g.F.Folder.state c.carry_out.new.folder) (world_of c.args.session.now) (world_of c.carry_out.new.session) c.args.book.now c.carry_out.new.book got got
+    let before = g.F.Folder.state c.args.outlets.now.folder.now in
+    let got = g.K.Sink.got c.args.outlets.now.sink.now in
+    let unpaid : c.carry_out.new.outlets.book.now ≡ c.args.outlets.now.book.now + 0 = omega (arith, out.carries.does.0) in
+    stopped_at c.args.outlets.now.max_work _ (statement_tree c.args.statement.now) before (g.F.Folder.state c.carry_out.new.outlets.folder.now) (world_of c.args.session.now) (world_of c.carry_out.new.session) c.args.outlets.now.book.now c.carry_out.new.outlets.book.now got (g.K.Sink.got c.carry_out.new.outlets.sink.now)
     _ c.in-Err.ended out.carries
-    (breaks c.in-Err.ended [] 0 (Appends-nil got) unpaid (λ later. breaks_in (λ none. absurd none) (quiet_none before) (out.carries.does.1 later)))
+    (breaks c.in-Err.ended [] 0 (rw out.sink (Appends-nil got)) unpaid (λ later. breaks_in (λ none. absurd none) (quiet_none before) (out.carries.does.1 later)))

@@ -6,16 +6,16 @@ use Rattle.shell.proofs.run.run_source.Goals as goal
 
 pub returns-in-Err-Failed-clause-runs : goal.returns-in-Err-Failed-clause-runs
 returns-in-Err-Failed-clause-runs g c =
-    runs_nothing c.args.max_work _ _ status.ReadFault (g.K.Sink.got c.args.sink.now) (g.K.Sink.got c.args.sink.now) c.args.book.now (g.S.Source.left c.args.source.now) (g.F.Folder.state c.args.folder.now) c.requires.unpaid
+    runs_nothing c.args.outlets.now.max_work _ _ status.ReadFault (g.K.Sink.got c.args.outlets.now.sink.now) (g.K.Sink.got c.args.outlets.now.sink.now) c.args.outlets.now.book.now (g.S.Source.left c.args.source.now) (g.F.Folder.state c.args.outlets.now.folder.now) c.requires.unpaid
     (inl (refl, c.in-Err-Failed.ensures.faults.rose (ap Err c.in-Err-Failed.field-0-is)))
 
 pub returns-in-Err-NoMemory-clause-runs : goal.returns-in-Err-NoMemory-clause-runs
 returns-in-Err-NoMemory-clause-runs g c =
-    runs_nothing c.args.max_work _ _ status.NoMemory (g.K.Sink.got c.args.sink.now) (g.K.Sink.got c.args.sink.now) c.args.book.now (g.S.Source.left c.args.source.now) (g.F.Folder.state c.args.folder.now) c.requires.unpaid (inr refl)
+    runs_nothing c.args.outlets.now.max_work _ _ status.NoMemory (g.K.Sink.got c.args.outlets.now.sink.now) (g.K.Sink.got c.args.outlets.now.sink.now) c.args.outlets.now.book.now (g.S.Source.left c.args.source.now) (g.F.Folder.state c.args.outlets.now.folder.now) c.requires.unpaid (inr refl)
 
 pub returns-clause-runs : goal.returns-clause-runs
 returns-clause-runs g c =
-    runs_whole c.args.max_work _ _ c.carry_out_script.result (g.K.Sink.got c.args.sink.now) (g.K.Sink.got c.carry_out_script.new.sink) c.carry_out_script.new.book (g.S.Source.left c.args.source.now) (g.F.Folder.state c.args.folder.now) (g.F.Folder.state c.carry_out_script.new.folder)
+    runs_whole c.args.outlets.now.max_work _ _ c.carry_out_script.result (g.K.Sink.got c.args.outlets.now.sink.now) (g.K.Sink.got c.carry_out_script.new.outlets.sink.now) c.carry_out_script.new.outlets.book.now (g.S.Source.left c.args.source.now) (g.F.Folder.state c.args.outlets.now.folder.now) (g.F.Folder.state c.carry_out_script.new.outlets.folder.now)
     c.in-Ok.script.items (known_read (g.S.Source.left c.args.source.now) (g.S.Source.left c.read_source.new.source) c.in-Ok.script.items c.in-Ok.ensures.whole) (rw c.deref.ensures.value at c.carry_out_script.ensures.runs)
 
 pub returns-clause-emptied : goal.returns-clause-emptied
