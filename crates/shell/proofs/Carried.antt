@@ -1,9 +1,9 @@
 -- A statement that the session began so, and finished, is carried out.
-use Rattle.std.proofs.Common.{◌≡◌, ◌∙◌, ◌⊎◌, inl, inr, ℕ, ◌+◌, List, [], ◌∷◌, Option, None, refl, sym, ap, subst, arith, false, Some}
-use Rattle.std.specs.Prelude.{IsErrOf, MatchOption, OnOk, Vec, Result, Ok, Err}
+use Rattle.std.proofs.Common.{◌≡◌, ◌∙◌, ◌⊎◌, inl, inr, ℕ, ◌+◌, List, [], Option, None, refl, sym, ap, subst, arith, false, Some}
+use Rattle.std.specs.Prelude.{IsErrOf, MatchOption, OnOk, Vec, Result, Ok, Err, option_map}
 use Rattle.std.specs.declared.alloc.Global.{Global}
 use Rattle.outside_io.specs.Count.{Rose, raised}
-use Rattle.outside_io.specs.Files.{FolderState, KeepsOthers, OnlyWrites}
+use Rattle.outside_io.specs.Files.{FolderState, KeepsOthers, OnlyWrites, with_file}
 use Rattle.outside_io.specs.declared.fault.FileFault.{FileFault}
 use Rattle.outside_io.specs.declared.fault.FileFault.TheVariants as fault
 use Rattle.sql_parse.specs.Trees.{StatementTree}
@@ -20,8 +20,8 @@ use Rattle.workspace.specs.declared.begun.GivenFile.{GivenFile}
 use Rattle.workspace.specs.declared.stop.Stop.{Stop}
 use Rattle.workspace.specs.declared.stop.Stop.TheVariants as stop
 use Rattle.shell.specs.Due.{CarriesDue, GivesFile, IsCarriedOut, state_of}
-use Rattle.shell.specs.Script.{IsGiven, IsGivenFor, IsGivenStep, IsMissing, Step, with_saved, printed_by, left_by}
-use Rattle.shell.specs.Serve.{AsksNext, BreaksBefore, NeverFalls, NoneFailed, ReadFailed}
+use Rattle.shell.specs.Script.{IsGiven, IsGivenFor, IsGivenStep, IsMissing, Step, printed_by, left_by}
+use Rattle.shell.specs.Serve.{BreaksBefore, HasFaults, NeverFalls, NoneFailed}
 use Rattle.shell.specs.Serve.BreaksBefore.{no_read, no_write, no_memory}
 use Rattle.shell.specs.declared.status.Status.{Status}
 use Rattle.shell.specs.declared.status.Status.TheVariants as status
@@ -67,7 +67,7 @@ module _ (max_work : ℕ) (statement : StatementTree) (world next : World) (befo
           → IsCarriedOut max_work statement before after world next old new result
       unread_but_written result none does = record { file = given_any.0; given = record { counts = inl writes.misses; given = given_any.1 }; falls = falls; quiet = none; does = does }
 
-      pub carried_saves : ¬ IsErrOf wrote fault.Failed → (text : Vec ℕ Global) → text.items ≡ [] → after.files ≡ with_saved name bytes.items before.files → IsCarriedOut max_work statement before after world next old new (Ok (Ok text))
+      pub carried_saves : ¬ IsErrOf wrote fault.Failed → (text : Vec ℕ Global) → text.items ≡ [] → after.files ≡ option_map (λ files. with_file files name bytes.items) before.files → IsCarriedOut max_work statement before after world next old new (Ok (Ok text))
       carried_saves other text none written = unread_but_written (Ok (Ok text)) (quiet other) (record {
         work = 0;
         prints = ap printed_by (begins.0.due given_any.0) ∙ (λ i. record { text = sym none i; work = 0; refused = false });
@@ -78,10 +78,10 @@ module _ (max_work : ℕ) (statement : StatementTree) (world next : World) (befo
 
       pub carried_unsaved : IsErrOf wrote fault.Failed → KeepsOthers name before.files after.files → IsCarriedOut max_work statement before after world next old new (Err status.WriteFault)
       carried_unsaved failed others = unread_but_written (Err status.WriteFault) tt
-          (begins.2, λ later. no_write (record { reads = writes.read_faults; writes = writes.write_faults.counted failed }) (record { name = name; writes = begins.0.writes; others = others }))
+          (begins.2, no_write (record { reads = writes.read_faults; writes = writes.write_faults.counted failed }) name begins.0.writes others)
 
       pub carried_no_room : ¬ IsErrOf wrote fault.Failed → after.files ≡ before.files → IsCarriedOut max_work statement before after world next old new (Err status.NoMemory)
-      carried_no_room other kept = unread_but_written (Err status.NoMemory) tt (begins.2, λ later. no_memory 0 (omega arith) (quiet other) kept)
+      carried_no_room other kept = unread_but_written (Err status.NoMemory) tt (begins.2, no_memory 0 (omega arith) (quiet other) kept)
 
 -- a file was asked for
 module _ (max_work : ℕ) (statement : StatementTree) (world : World) (before after : FolderState) (old new : ℕ) (asked : Asked) (mid : World)
@@ -100,13 +100,13 @@ module _ (max_work : ℕ) (statement : StatementTree) (world : World) (before af
     given = given_for gives.file gives.given gives.counts;
     falls = gives.falls;
     quiet = tt;
-    does = (begins.2, λ later. broke (record { statement = statement; file = gives.file } ∷ later) begins.0.asks gives.reads);
+    does = (begins.2, broke gives.reads);
   }
     where
-      broke : (steps : List Step) → AsksNext (state_of world before) steps → ((ended ≡ status.ReadFault) × ReadFailed before after) ⊎ ((ended ≡ status.NoMemory) × NoneFailed before after)
-          → BreaksBefore max_work ⊥ before after (state_of world before) steps ended [] 0
-      broke steps asks (inl failed) = rw failed.0 (no_read failed.1 asks gives.files)
-      broke steps asks (inr memory) = rw memory.0 (no_memory 0 (omega arith) memory.1 gives.files)
+      broke : ((ended ≡ status.ReadFault) × HasFaults (raised before.read_faults) before.write_faults after) ⊎ ((ended ≡ status.NoMemory) × NoneFailed before after)
+          → BreaksBefore max_work ⊥ before after (state_of world before) (record { statement = statement; file = gives.file }) ended [] 0
+      broke (inl failed) = rw failed.0 (no_read failed.1 begins.0.asks gives.files)
+      broke (inr memory) = rw memory.0 (no_memory 0 (omega arith) memory.1 gives.files)
 
   -- it was given, and the statement finished with it
   pub carried_with_file : (file : GivenFile) (returned : Result (Vec ℕ Global) Stop) (next : World) → (gives : GivesFile asked.name before after (Ok file))

@@ -10,7 +10,7 @@ use Rattle.outside_io.specs.Count.{raised}
 use Rattle.outside_io.specs.Files.{FolderState}
 use Rattle.sql_parse.specs.Trees.{StatementTree}
 use Rattle.session.specs.Bounds.{IsAnsweredWithin}
-use Rattle.shell.specs.Script.{IsGivenStep, Answer, AreAnsweredWithin, AreGiven, ScriptState, Step, and_then, at_start, files_after, left_by, printed_by, script_answer, state_after}
+use Rattle.shell.specs.Script.{IsGivenStep, Answer, AreAnsweredWithin, AreGiven, ScriptState, Step, and_then, at_start, files_after, left_by, printed_by, script_answer, state_after, step_outcome}
 use Rattle.workspace.specs.Outcome.{Outcome, Refuses, refused_work}
 use Rattle.workspace.specs.Refusal.{line_of}
 use Rattle.session.specs.Statements.{statement_outcome}
@@ -20,7 +20,7 @@ use Rattle.shell.specs.declared.status.Status.{Status}
 use Rattle.shell.specs.declared.status.Status.TheVariants as status
 use Rattle.shell.specs.Due.{CarriesAll, EndsAt, HasCauses, LeadsOn, state_of}
 use Rattle.shell.specs.Due.EndsAt.{refuses, breaks}
-use Rattle.shell.specs.Serve.{BreaksBefore, EndsAsDue, NeverFalls, NoneFailed, next_text, statements_of_steps}
+use Rattle.shell.specs.Serve.{BreaksBefore, EndsAsDue, NeverFalls, NoneFailed, statements_of_steps}
 use Rattle.shell.specs.Serve.BreaksBefore.{no_read, no_write, no_put, no_memory}
 use Rattle.shell.proofs.Beginning.{whole_begins}
 use Rattle.shell.proofs.Folders.{falls_none, falls_on, quiet_none, quiet_on}
@@ -48,23 +48,23 @@ nothing_after text work =
     λ i. record { text = same i; work = none i; refused = false }
 
 -- what went out when a run broke off is a beginning of the next text; it didn't end as its text does, nor without a cause
-pub record IsBroken (max_work : ℕ) (source_failed sink_failed : Type 0) (old new : FolderState) (state : ScriptState) (later : List Step) (ended : Status) (part : List ℕ) : Type 0 where
-  pub begins : (n : ℕ) × (part ≡ take n (next_text max_work state later))
+pub record IsBroken (max_work : ℕ) (source_failed sink_failed : Type 0) (old new : FolderState) (state : ScriptState) (step : Step) (ended : Status) (part : List ℕ) : Type 0 where
+  pub begins : (n : ℕ) × (part ≡ take n (printed_by (step_outcome max_work state step)).text)
   pub other : ¬ EndsAsDue ended
   pub causes : HasCauses source_failed sink_failed old new ended
 
-pub broken_by : {max_work : ℕ} {source_failed sink_failed : Type 0} {old new : FolderState} {state : ScriptState} {later : List Step} {ended : Status} {part : List ℕ} {spent : ℕ}
-    → BreaksBefore max_work sink_failed old new state later ended part spent → IsBroken max_work source_failed sink_failed old new state later ended part
+pub broken_by : {max_work : ℕ} {source_failed sink_failed : Type 0} {old new : FolderState} {state : ScriptState} {step : Step} {ended : Status} {part : List ℕ} {spent : ℕ}
+    → BreaksBefore max_work sink_failed old new state step ended part spent → IsBroken max_work source_failed sink_failed old new state step ended part
 broken_by (no_read failed asks kept) = record { begins = (0, refl); other = λ due. elim due [ inl is ↦ cc is | inr is ↦ cc is ]; causes = record { words = λ is. cc is; read_fault = λ _. inr (omega (arith, failed.reads)); write_fault = λ is. cc is } }
-broken_by (no_write failed fails) = record { begins = (0, refl); other = λ due. elim due [ inl is ↦ cc is | inr is ↦ cc is ]; causes = record { words = λ is. cc is; read_fault = λ is. cc is; write_fault = λ _. inr (omega (arith, failed.writes)) } }
+broken_by (no_write failed name writes others) = record { begins = (0, refl); other = λ due. elim due [ inl is ↦ cc is | inr is ↦ cc is ]; causes = record { words = λ is. cc is; read_fault = λ is. cc is; write_fault = λ _. inr (omega (arith, failed.writes)) } }
 broken_by (no_put failed some quiet kept n) = record { begins = (n, refl); other = λ due. elim due [ inl is ↦ cc is | inr is ↦ cc is ]; causes = record { words = λ is. cc is; read_fault = λ is. cc is; write_fault = λ _. inl failed } }
 broken_by (no_memory spent within quiet kept) = record { begins = (0, refl); other = λ due. elim due [ inl is ↦ cc is | inr is ↦ cc is ]; causes = record { words = λ is. cc is; read_fault = λ is. cc is; write_fault = λ is. cc is } }
 
 -- a cause in a part of a run, before which no call of the folder failed, is one in the run
-pub breaks_in : {max_work : ℕ} {failed sink_failed : Type 0} {before mid now : FolderState} {state : ScriptState} {later : List Step} {ended : Status} {part : List ℕ} {spent : ℕ} → (failed → sink_failed) → NoneFailed before mid
-    → BreaksBefore max_work failed mid now state later ended part spent → BreaksBefore max_work sink_failed before now state later ended part spent
+pub breaks_in : {max_work : ℕ} {failed sink_failed : Type 0} {before mid now : FolderState} {state : ScriptState} {step : Step} {ended : Status} {part : List ℕ} {spent : ℕ} → (failed → sink_failed) → NoneFailed before mid
+    → BreaksBefore max_work failed mid now state step ended part spent → BreaksBefore max_work sink_failed before now state step ended part spent
 breaks_in sinks first (no_read failed asks kept) = no_read (record { reads = failed.reads ∙ ap raised first.reads; writes = failed.writes ∙ first.writes }) asks kept
-breaks_in sinks first (no_write failed fails) = no_write (record { reads = failed.reads ∙ first.reads; writes = failed.writes ∙ ap raised first.writes }) fails
+breaks_in sinks first (no_write failed name writes others) = no_write (record { reads = failed.reads ∙ first.reads; writes = failed.writes ∙ ap raised first.writes }) name writes others
 breaks_in {before = before} {mid = mid} {now = now} sinks first (no_put failed some quiet kept n) = no_put (sinks failed) some (quiet_on before mid now first quiet) kept n
 breaks_in {before = before} {mid = mid} {now = now} sinks first (no_memory spent within quiet kept) = no_memory spent within (quiet_on before mid now first quiet) kept
 
@@ -266,8 +266,7 @@ module _ (max_work : ℕ) (all : List StatementTree) (i : ℕ) (before mid now :
       let there = printed_by what in
       let more = begins there (left_by what state) (λ s. script_answer max_work s others.0) in
       let text : (script_answer max_work start all_steps).text ≡ carried.printed ++ (there.text ++ more.0) = ap (λ (a : Answer). a.text) answer_here ∙ ap (λ (l : List ℕ). carried.printed ++ l) more.1 in
-      let here_is = cause others.0 in
-      let here_broken : IsBroken max_work ⊥ failed mid now state (here ∷ others.0) ended part = broken_by here_is in
+      let here_broken : IsBroken max_work ⊥ failed mid now state here ended part = broken_by cause in
       let of_next = here_broken.begins in
       let out : Appends had new (carried.printed ++ part) = Appends-trans had got new carried.printed part carried.put put in
       let so_far = answer_so_far max_work all i before mid world had got paid carried in
@@ -288,13 +287,14 @@ module _ (max_work : ℕ) (all : List StatementTree) (i : ℕ) (before mid now :
         whole = λ e. absurd (here_broken.other e);
         broken = λ _. record {
           earlier = carried.steps;
-          later = here ∷ others.0;
+          step = here;
+          later = others.0;
           are = refl;
           state = state;
           reached = state_so_far max_work all i before mid world had got paid carried;
           part = part;
           spent = spent;
-          cause = breaks_in sinks carried.quiet here_is;
+          cause = breaks_in sinks carried.quiet cause;
           put = rw so_far out;
           pays = omega (arith, work, pays);
           bounds = within_so_far max_work all i before mid world had got paid carried;

@@ -45,10 +45,10 @@ module _ (max_work : ℕ) (sink_failed : Type 0) (statement : StatementTree) (fi
   ends_in_part : (text : List ℕ) (ended : Status) → IsUnput ended → (printed_by due).text ≡ text → new ≡ old + (printed_by due).work → new ≤ old + max_work → NoneFailed before after → after.files ≡ before.files → ((n : ℕ) × Appends had got (take n text)) → (ended ≡ status.NoMemory → Keeps had got)
       → (ended ≡ status.WriteFault → sink_failed) → (ended ≡ status.WriteFault → text ≢ []) → Ends ended
   ends_in_part text ended (inl fault) is pays within quiet kept part nothing sink some =
-      rw fault (breaks status.WriteFault (take part.0 (printed_by due).text) (printed_by due).work (rw is part.1) pays (λ later. no_put (sink fault) (rw is (some fault)) quiet kept part.0))
+      rw fault (breaks status.WriteFault (take part.0 (printed_by due).text) (printed_by due).work (rw is part.1) pays (no_put (sink fault) (rw is (some fault)) quiet kept part.0))
   ends_in_part text ended (inr memory) is pays within quiet kept part nothing sink some =
       let most : (printed_by due).work ≤ max_work = omega (arith, pays, within) in
-      rw memory (breaks status.NoMemory [] (printed_by due).work (keeps_nothing had got (nothing memory)) pays (λ later. no_memory (printed_by due).work most quiet kept))
+      rw memory (breaks status.NoMemory [] (printed_by due).work (keeps_nothing had got (nothing memory)) pays (no_memory (printed_by due).work most quiet kept))
 
   -- the line of the refusal that is due was put, whole or in part
   pub ends_refused : (why : Refusal) (ended : Status) → due ≡ Refuses why → new ≡ old + refused_work why → new ≤ old + max_work → NoneFailed before after → after.files ≡ before.files → IsRefused ended → (ended ≡ status.Refused → Appends had got (line_of why))

@@ -4,7 +4,7 @@ use Rattle.std.specs.Prelude.{IfSome}
 use Rattle.std.proofs.Math.Seq.{drop-append-add}
 use Rattle.std.proofs.lemmas.Bool.{cases_eq}
 use Rattle.std.proofs.lemmas.List.{append-nil, nil_from_length, take_at, drop_at, take_all, drop_all}
-use Rattle.shell.specs.Source.{TakesAtMost, Took}
+use Rattle.shell.specs.Source.{TakesAtMost}
 
 -- the bytes so far and what is left are the whole
 abbrev pub IsSplit : List ℕ → Option (List ℕ) → Option (List ℕ) → Type 0
@@ -16,7 +16,7 @@ pub record IsReading (most turn : ℕ) (bytes : List ℕ) (whole now : Option (L
   pub short : length bytes ≤ most
   pub split : IsSplit bytes whole now
 
-split_on : (bytes more : List ℕ) (whole now later : Option (List ℕ)) → IsSplit bytes whole now → Took bytes more now later → IsSplit more whole later
+split_on : (bytes more : List ℕ) (whole now later : Option (List ℕ)) → IsSplit bytes whole now → IfSome now (λ left. IsSplit more (Some (bytes ++ left)) later) → IsSplit more whole later
 split_on bytes more None now later s t = tt
 split_on bytes more (Some w) None later s t = cc s.1
 split_on bytes more (Some w) (Some l) later s t =
@@ -24,7 +24,7 @@ split_on bytes more (Some w) (Some l) later s t =
     (t.0, t.1, t.2 ∙ ap (λ (r : List ℕ). bytes ++ r) same ∙ s.2)
 
 -- a turn that took something goes on
-pub reading_on : (most turn n : ℕ) (bytes more : List ℕ) (whole now later : Option (List ℕ)) → IsReading most turn bytes whole now → 0 < n → n + length bytes ≤ most → length more ≡ length bytes + n → Took bytes more now later
+pub reading_on : (most turn n : ℕ) (bytes more : List ℕ) (whole now later : Option (List ℕ)) → IsReading most turn bytes whole now → 0 < n → n + length bytes ≤ most → length more ≡ length bytes + n → IfSome now (λ left. IsSplit more (Some (bytes ++ left)) later)
     → IsReading most (turn + 1) more whole later
 reading_on most turn n bytes more whole now later is some room longer took = record {
   turns = omega (arith, is.turns);
@@ -59,7 +59,7 @@ nothing_left most bytes more rest left short longer same end = elim (cases_eq (l
 ]
 
 -- so are the bytes after a turn that took nothing
-pub read_last : (most : ℕ) (bytes more : List ℕ) (whole now later : Option (List ℕ)) → length bytes ≤ most → length more ≡ length bytes + 0 → IsSplit bytes whole now → Took bytes more now later
+pub read_last : (most : ℕ) (bytes more : List ℕ) (whole now later : Option (List ℕ)) → length bytes ≤ most → length more ≡ length bytes + 0 → IsSplit bytes whole now → IfSome now (λ left. IsSplit more (Some (bytes ++ left)) later)
     → (length bytes < most → IfSome now (λ left. left ≡ [])) → IfSome whole (λ left. (more ≡ take most left) × (later ≡ Some (drop most left)))
 unfolding split_on
 read_last most bytes more None now later short longer s took end = tt

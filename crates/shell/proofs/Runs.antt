@@ -1,9 +1,10 @@
 -- What is said of a whole run of the program.
 use Rattle.std.proofs.Common.{◌≡◌, ◌⊎◌, inl, inr, ℕ, ◌≤◌, List, [], length, take, drop, Option, Some, None, refl, sym, ap, ◌∙◌, subst, arith}
-use Rattle.std.specs.Prelude.{IfSome, IsSome, Result, Ok, Err, IfErr, IfOk}
+use Rattle.std.specs.Prelude.{IfSome, IsSome, Result, Ok, Err, IfErr, IfOk, if◌then◌else◌}
 use Rattle.std.specs.Io.KnownBytes.{Appends, Keeps}
 use Rattle.std.proofs.KnownBytes.{Appends-nil}
 use Rattle.std.proofs.lemmas.List.{drop_all, length-take}
+use Rattle.outside_io.specs.Count.{Rose}
 use Rattle.outside_io.specs.Files.{FolderState}
 use Rattle.sql_values.specs.Limits.{max_script_bytes}
 use Rattle.sql_parse.specs.Trees.{StatementTree}
@@ -12,7 +13,7 @@ use Rattle.workspace.specs.Refusal.{line_of}
 use Rattle.shell.specs.declared.status.Status.{Status}
 use Rattle.shell.specs.declared.status.Status.TheVariants as status
 use Rattle.shell.specs.Script.{Answer, AreGiven, Step, answer_of, at_start}
-use Rattle.shell.specs.Serve.{BreaksOff, BreaksOffLine, Carries, EndsAsDue, EndsBy, EndsWhole, IsAnswer, IsScript, IsUnread, MeetsNoFault, NeverFalls, Serves, statements_read}
+use Rattle.shell.specs.Serve.{BreaksOff, BreaksOffLine, Carries, EndsAsDue, EndsWhole, IsAnswer, IsScript, IsUnread, NeverFalls, Serves, statements_read}
 use Rattle.shell.specs.Due.{CarriesAll, HasCauses, RunsScript}
 use Rattle.shell.specs.Source.{TakesAtMost}
 use Rattle.shell.proofs.Beginning.{IsRefused, refused_not_done}
@@ -68,15 +69,16 @@ module _ (max_work : ℕ) (source_failed sink_failed : Type 0) (before after : F
   break_causes (Err why) (inr off) = line_causes (line_of why) off.1
 
   -- a status that no fault explains is the one of the answer, or out of memory
-  decided_by : (answer : Answer) → Carries answer ended had got → Causes → MeetsNoFault source_failed sink_failed before after → EndsBy answer ended
-  decided_by answer carries causes quiet = by ended refl
+  decided_by : (answer : Answer) → Carries answer ended had got → Causes → ¬ source_failed → ¬ sink_failed → ¬ Rose before.read_faults after.read_faults → ¬ Rose before.write_faults after.write_faults
+      → (ended ≡ (if answer.refused then status.Refused else status.Done)) ⊎ (ended ≡ status.NoMemory)
+  decided_by answer carries causes source sink reads writes = by ended refl
     where
-      by : (end : Status) → ended ≡ end → EndsBy answer ended
+      by : (end : Status) → ended ≡ end → (ended ≡ (if answer.refused then status.Refused else status.Done)) ⊎ (ended ≡ status.NoMemory)
       by status.Done is = inl (rw (carries.done is).0 is)
       by status.Refused is = inl (rw (carries.refused is).0 is)
       by status.BadWords is = absurd (causes.words is)
-      by status.ReadFault is = elim (causes.read_fault is) [ inl source ↦ absurd (quiet.source source) | inr folder ↦ absurd (quiet.reads folder) ]
-      by status.WriteFault is = elim (causes.write_fault is) [ inl sink ↦ absurd (quiet.sink sink) | inr folder ↦ absurd (quiet.writes folder) ]
+      by status.ReadFault is = elim (causes.read_fault is) [ inl failed ↦ absurd (source failed) | inr folder ↦ absurd (reads folder) ]
+      by status.WriteFault is = elim (causes.write_fault is) [ inl failed ↦ absurd (sink failed) | inr folder ↦ absurd (writes folder) ]
       by status.NoMemory is = inr is
 
   module _ (script : List ℕ) where

@@ -1,11 +1,11 @@
 -- The steps of a run: its statements, each with the file that the folder gives for it.
 use Rattle.std.proofs.Common.{◌≡◌, inl, ℕ, List, [], ◌∷◌, Option, Some, None, refl, sym, ap, ◌∙◌, subst}
-use Rattle.std.specs.Prelude.{IfSome, IsSome, MatchOption}
+use Rattle.std.specs.Prelude.{IfSome, IsSome, MatchOption, option_map}
 use Rattle.outside_io.specs.Count.{Rose}
-use Rattle.outside_io.specs.Files.{Files}
+use Rattle.outside_io.specs.Files.{Files, with_file}
 use Rattle.sql_parse.specs.Trees.{StatementTree}
 use Rattle.workspace.specs.Outcome.{Outcome, Prints, Saves, Refuses}
-use Rattle.shell.specs.Script.{IsGivenFor, IsGivenStep, Answer, AreGiven, ScriptState, Step, and_then, left_by, printed_by, script_answer, step_outcome, with_saved}
+use Rattle.shell.specs.Script.{IsGivenFor, IsGivenStep, Answer, AreGiven, ScriptState, Step, and_then, left_by, printed_by, script_answer, step_outcome}
 use Rattle.shell.specs.Serve.{statements_of_steps}
 use Rattle.shell.proofs.Folders.{any_given_for, one_file_for}
 
@@ -33,7 +33,7 @@ pub steps_behind : (max_work misses : ℕ) (statements : List StatementTree) (st
 steps_behind max_work misses statements state left = steps_from max_work misses statements state left (any_steps max_work misses statements)
 
 -- a folder of known contents stays one
-saved_known : (name bytes : List ℕ) (held : Option Files) → IsSome held → IsSome (with_saved name bytes held)
+saved_known : (name bytes : List ℕ) (held : Option Files) → IsSome held → IsSome (option_map (λ files. with_file files name bytes) held)
 saved_known name bytes None known = cc known
 saved_known name bytes (Some files) known = refl
 

@@ -1,5 +1,5 @@
 -- What a run of statements did, held against what is due to them.
-use Rattle.std.specs.Prelude.{◌≡◌, ◌≢◌, ◌⊎◌, ℕ, ◌+◌, ⊤, false, Result, Ok, Err, IfErr, OnOk, IfSome, List, ◌∷◌, Option, Some, Vec, []}
+use Rattle.std.specs.Prelude.{◌≡◌, ◌≢◌, ◌⊎◌, ℕ, ◌+◌, ⊤, false, Result, Ok, Err, IfErr, OnOk, IfSome, List, Option, Some, Vec, []}
 use Rattle.std.specs.Io.KnownBytes.{Appends}
 use Rattle.outside_io.specs.Count.{Rose, raised}
 use Rattle.outside_io.specs.Files.{FolderState}
@@ -16,7 +16,7 @@ use Rattle.shell.specs.declared.script.ScriptFault.TheVariants as script_fault
 use Rattle.shell.specs.declared.status.Status.{Status}
 use Rattle.shell.specs.declared.status.Status.TheVariants as status
 use Rattle.shell.specs.Script.{AreGiven, IsGivenStep, ScriptState, Step, at_start, left_by, printed_by, script_answer, step_outcome, IsGiven, IsMissing}
-use Rattle.shell.specs.Serve.{BreaksBefore, BreaksOff, Carries, EndsAsDue, EndsWhole, IsScript, NeverFalls, NoneFailed, ReadFailed, Serves, statements_of_steps}
+use Rattle.shell.specs.Serve.{BreaksBefore, BreaksOff, Carries, EndsAsDue, EndsWhole, HasFaults, IsScript, NeverFalls, NoneFailed, Serves, statements_of_steps}
 use Rattle.std.specs.declared.alloc.Global.{Global}
 use Rattle.workspace.specs.Given.{IsFileGiven}
 use Rattle.workspace.specs.declared.begun.GivenFile.{GivenFile}
@@ -26,7 +26,7 @@ use Rattle.workspace.specs.declared.stop.Stop.TheVariants as stop
 -- what a read gave stands for the file, and nothing failed; or the run ends
 abbrev pub ReadsFile : (file : Option (List ℕ)) → (before after : FolderState) → Result GivenFile Status → Type 0
 ReadsFile file before after (Ok given) = IsFileGiven file given × NoneFailed before after
-ReadsFile file before after (Err ended) = ((ended ≡ status.ReadFault) × ReadFailed before after) ⊎ ((ended ≡ status.NoMemory) × NoneFailed before after)
+ReadsFile file before after (Err ended) = ((ended ≡ status.ReadFault) × HasFaults (raised before.read_faults) before.write_faults after) ⊎ ((ended ≡ status.NoMemory) × NoneFailed before after)
 
 -- a read gave the file that the folder gives under a name, which it counted where it is missing, or the run ends
 pub record GivesFile (name : List ℕ) (before after : FolderState) (result : Result GivenFile Status) : Type 0 where
@@ -59,7 +59,7 @@ CarriesDue max_work step before after world next old new (Ok (Err (stop.Refused 
     (step_outcome max_work (state_of world before) step ≡ Refuses why) × (new ≡ old + refused_work why) × (after.files ≡ before.files)
 CarriesDue max_work step before after world next old new (Ok (Err stop.NoMemory)) = after.files ≡ before.files
 CarriesDue max_work step before after world next old new (Err ended) =
-    (new ≡ old) × ((later : List Step) → BreaksBefore max_work ⊥ before after (state_of world before) (step ∷ later) ended [] 0)
+    (new ≡ old) × BreaksBefore max_work ⊥ before after (state_of world before) step ended [] 0
 
 -- a statement was carried out, with the file that the folder gave for it, and no call of the folder failed; or the run ends
 pub record IsCarriedOut (max_work : ℕ) (statement : StatementTree) (before after : FolderState) (world next : World) (old new : ℕ) (result : Result (Result (Vec ℕ Global) Stop) Status) : Type 0 where
@@ -88,7 +88,7 @@ pub record LeadsOn (due : Outcome) (state next : ScriptState) (had got : Option 
 pub data EndsAt (max_work : ℕ) (sink_failed : Type 0) (step : Step) (state : ScriptState) (before after : FolderState) (had got : Option (List ℕ)) (old new : ℕ) : Status → Type 0 where
   refuses : (why : Refusal) → step_outcome max_work state step ≡ Refuses why → Appends had got (line_of why) → new ≡ old + refused_work why → NoneFailed before after → after.files ≡ before.files
       → EndsAt max_work sink_failed step state before after had got old new status.Refused
-  breaks : (ended : Status) (part : List ℕ) (spent : ℕ) → Appends had got part → new ≡ old + spent → ((later : List Step) → BreaksBefore max_work sink_failed before after state (step ∷ later) ended part spent)
+  breaks : (ended : Status) (part : List ℕ) (spent : ℕ) → Appends had got part → new ≡ old + spent → BreaksBefore max_work sink_failed before after state step ended part spent
       → EndsAt max_work sink_failed step state before after had got old new ended
 
 -- what came of a statement, with the file that the folder gave for it: the run goes on, an answer being within its bound, or ends

@@ -52,14 +52,10 @@ at_start files = record { world = nothing_made; files = files }
 abbrev pub step_outcome : (max_work : ℕ) → ScriptState → Step → Outcome
 step_outcome max_work state step = statement_outcome max_work state.world step.statement step.file
 
--- a file stands under the name now, where the files are known
-abbrev pub with_saved : (name bytes : List ℕ) → Option Files → Option Files
-with_saved name bytes held = option_map (λ files. with_file files name bytes) held
-
 -- the state that an outcome leaves; a refusal leaves none
 abbrev pub left_by : Outcome → ScriptState → Option ScriptState
 left_by (Prints text work world) state = Some (record state { world = world })
-left_by (Saves name bytes) state = Some (record state { files = with_saved name bytes state.files })
+left_by (Saves name bytes) state = Some (record state { files = option_map (λ files. with_file files name bytes) state.files })
 left_by (Refuses why) state = None
 
 -- what an outcome prints and costs
@@ -94,13 +90,10 @@ files_after max_work state [] = state.files
 files_after max_work state (step ∷ rest) =
     option_map_or (λ next. files_after max_work next rest) (left_by (step_outcome max_work state step) state) state.files
 
--- a step's own count of misses: it stayed, or it is one higher, as the statement asks for a file that is missing
-abbrev pub CountsMiss : World → Step → (before after : ℕ) → Type 0
-CountsMiss world step before after = (after ≡ before) ⊎ (AsksForFile world step.statement × IsMissing step.file × (after ≡ raised before))
-
--- the folder gives the file of a step, whose own miss is counted while the count goes from here to there
+-- the folder gives the file of a step, whose own miss is counted while the count goes from here to there: it stayed, or it is one
+-- higher, as the statement asks for a file that is missing
 pub record IsGivenStep (state : ScriptState) (step : Step) (before after : ℕ) : Type 0 where
-  pub counts : CountsMiss state.world step before after
+  pub counts : (after ≡ before) ⊎ (AsksForFile state.world step.statement × IsMissing step.file × (after ≡ raised before))
   pub given : IsGivenFor state.files (Rose before after) step.statement step.file
 
 -- the folder gives each step's file, up to and with the first that is refused, and its count of misses goes from step to step

@@ -2,7 +2,7 @@
 use Rattle.std.specs.Prelude.{◌≡◌, ◌≢◌, ◌⊎◌, ℕ, ◌+◌, ◌<◌, ◌≤◌, true, false, List, [], ◌∷◌, ◌++◌, take, length, map, codes, Option, Some, None, IsSomeAnd, Result, Ok, Err, IfOk, IfErr, if◌then◌else◌}
 use Rattle.std.specs.Io.KnownBytes.{Appends, Keeps}
 use Rattle.outside_io.specs.Count.{Rose, raised}
-use Rattle.outside_io.specs.Files.{Files, FolderState, KeepsOthers}
+use Rattle.outside_io.specs.Files.{FolderState, KeepsOthers}
 use Rattle.sql_lex.specs.declared.token.Token.{Token}
 use Rattle.sql_lex.specs.declared.fault.LexFault.{LexFault}
 use Rattle.sql_lex.specs.Tokens.{Tokens, IsFirstFault}
@@ -13,7 +13,6 @@ use Rattle.sql_values.specs.declared.limit.LimitName.TheVariants as limit
 use Rattle.command_line.specs.Words.{options_of}
 use Rattle.workspace.specs.Refusal.{line_of}
 use Rattle.workspace.specs.Files.{AsksForFile, WritesFile}
-use Rattle.workspace.specs.World.{World}
 use Rattle.workspace.specs.declared.refusal.Refusal.{Refusal}
 use Rattle.workspace.specs.declared.refusal.Refusal.TheVariants as refusal
 use Rattle.demo_data.specs.Demo.{demo_files, demo_script}
@@ -79,15 +78,9 @@ pub record HasFaults (read_faults write_faults : ℕ) (folder : FolderState) : T
   pub reads : folder.read_faults ≡ read_faults
   pub writes : folder.write_faults ≡ write_faults
 
--- none of its calls failed; one read did, and no write; one write did, and no read
+-- none of its calls failed
 abbrev pub NoneFailed : (old new : FolderState) → Type 0
 NoneFailed old new = HasFaults old.read_faults old.write_faults new
-
-abbrev pub ReadFailed : (old new : FolderState) → Type 0
-ReadFailed old new = HasFaults (raised old.read_faults) old.write_faults new
-
-abbrev pub WriteFailed : (old new : FolderState) → Type 0
-WriteFailed old new = HasFaults old.read_faults (raised old.write_faults) new
 
 -- a run that ended so: the folder holds what the steps leave, and was left alone by a script that is refused whole; none of its calls
 -- failed, exactly the work that the text prints was paid, and each query was answered within its bound
@@ -105,58 +98,33 @@ pub record IsUnread (source_failed : Type 0) (ended : Status) (old new : FolderS
   pub sink : after ≡ before
   pub unpaid : paid ≡ 0
 
--- the text that the first of these steps puts in this state: what it prints, or the line of its refusal
-abbrev pub next_text : (max_work : ℕ) → ScriptState → List Step → List ℕ
-next_text max_work state [] = []
-next_text max_work state (step ∷ later) = (printed_by (step_outcome max_work state step)).text
-
--- what the first of these steps costs in this state
-abbrev pub next_work : (max_work : ℕ) → ScriptState → List Step → ℕ
-next_work max_work state [] = 0
-next_work max_work state (step ∷ later) = (printed_by (step_outcome max_work state step)).work
-
--- it asks for a file
-abbrev pub AsksNext : ScriptState → List Step → Type 0
-AsksNext state [] = ⊥
-AsksNext state (step ∷ later) = AsksForFile state.world step.statement
-
--- the file that a statement writes may hold anything, and every other is as it was
-pub record FailsToWrite (world : World) (statement : StatementTree) (before after : Option Files) : Type 0 where
-  pub name : List ℕ
-  pub writes : WritesFile world statement name
-  pub others : KeepsOthers name before after
-
--- it writes a file, which may hold anything now, and the folder holds what it held otherwise
-abbrev pub FailsNext : (left : Option Files) → ScriptState → List Step → Type 0
-FailsNext left state [] = ⊥
-FailsNext left state (step ∷ later) = FailsToWrite state.world step.statement state.files left
-
--- why a run broke off in front of these steps, how it ended, which part of the next one's text went out, and what was paid for
--- it. Where the sink failed, a beginning went out, and all that the step costs was paid. Where the folder failed, nothing went
--- out, and nothing was paid. Where memory ran out, nothing went out, and at most what a query may cost was paid. The folder holds
--- what the steps before leave, but for a file that couldn't be written; one of its calls failed, or none
-pub data BreaksBefore (max_work : ℕ) (sink_failed : Type 0) (old new : FolderState) (state : ScriptState) (later : List Step) : Status → (part : List ℕ) → (spent : ℕ) → Type 0 where
-  no_read : ReadFailed old new → AsksNext state later → new.files ≡ state.files
-      → BreaksBefore max_work sink_failed old new state later status.ReadFault [] 0
-  no_write : WriteFailed old new → FailsNext new.files state later
-      → BreaksBefore max_work sink_failed old new state later status.WriteFault [] 0
-  no_put : sink_failed → next_text max_work state later ≢ [] → NoneFailed old new → new.files ≡ state.files → (n : ℕ)
-      → BreaksBefore max_work sink_failed old new state later status.WriteFault (take n (next_text max_work state later)) (next_work max_work state later)
+-- why a run broke off in front of this step, how it ended, which part of the step's text went out, and what was paid for it.
+-- Where the sink failed, a beginning went out, and all that the step costs was paid. Where the folder failed, nothing went out,
+-- and nothing was paid. Where memory ran out, nothing went out, and at most what a query may cost was paid. The folder holds what
+-- the steps before leave, but for a file that couldn't be written, which may hold anything; one of its calls failed, or none
+pub data BreaksBefore (max_work : ℕ) (sink_failed : Type 0) (old new : FolderState) (state : ScriptState) (step : Step) : Status → (part : List ℕ) → (spent : ℕ) → Type 0 where
+  no_read : HasFaults (raised old.read_faults) old.write_faults new → AsksForFile state.world step.statement → new.files ≡ state.files
+      → BreaksBefore max_work sink_failed old new state step status.ReadFault [] 0
+  no_write : HasFaults old.read_faults (raised old.write_faults) new → (name : List ℕ) → WritesFile state.world step.statement name → KeepsOthers name state.files new.files
+      → BreaksBefore max_work sink_failed old new state step status.WriteFault [] 0
+  no_put : sink_failed → (printed_by (step_outcome max_work state step)).text ≢ [] → NoneFailed old new → new.files ≡ state.files → (n : ℕ)
+      → BreaksBefore max_work sink_failed old new state step status.WriteFault (take n (printed_by (step_outcome max_work state step)).text) (printed_by (step_outcome max_work state step)).work
   no_memory : (spent : ℕ) → spent ≤ max_work → NoneFailed old new → new.files ≡ state.files
-      → BreaksBefore max_work sink_failed old new state later status.NoMemory [] spent
+      → BreaksBefore max_work sink_failed old new state step status.NoMemory [] spent
 
 -- a run that broke off among these steps: the texts of the earlier ones, none of which is refused, went out whole, and that part
 -- behind them; what was paid is exactly their work and what was paid for the next; each query among them was answered within its
 -- bound
 pub record BreaksOff (max_work : ℕ) (sink_failed : Type 0) (ended : Status) (old new : FolderState) (before after : Option (List ℕ)) (paid : ℕ) (steps : List Step) : Type 0 where
   pub earlier : List Step
+  pub step : Step
   pub later : List Step
-  pub are : steps ≡ earlier ++ later
+  pub are : steps ≡ earlier ++ step ∷ later
   pub state : ScriptState
   pub reached : state_after max_work (at_start old.files) earlier ≡ Some state
   pub part : List ℕ
   pub spent : ℕ
-  pub cause : BreaksBefore max_work sink_failed old new state later ended part spent
+  pub cause : BreaksBefore max_work sink_failed old new state step ended part spent
   pub put : Appends before after ((script_answer max_work (at_start old.files) earlier).text ++ part)
   pub pays : paid ≡ (script_answer max_work (at_start old.files) earlier).work + spent
   pub bounds : AreAnsweredWithin max_work (at_start old.files) earlier
@@ -168,19 +136,8 @@ pub record BreaksOffLine (sink_failed : Type 0) (ended : Status) (old new : Fold
   pub folder : new ≡ old
   pub unpaid : paid ≡ 0
 
--- neither the source nor the sink failed, and no count of the folder's faults rose
-pub record MeetsNoFault (source_failed sink_failed : Type 0) (old new : FolderState) : Type 0 where
-  pub source : ¬ source_failed
-  pub sink : ¬ sink_failed
-  pub reads : ¬ Rose old.read_faults new.read_faults
-  pub writes : ¬ Rose old.write_faults new.write_faults
-
--- the run ended as this answer does, or out of memory
-abbrev pub EndsBy : Answer → Status → Type 0
-EndsBy answer ended = (ended ≡ (if answer.refused then status.Refused else status.Done)) ⊎ (ended ≡ status.NoMemory)
-
 -- one answer is due to the script; a run that ended as its text does did all of it, and every other broke off before the script
--- was read, among its steps or at the line that refuses it; one that met no fault ended as the answer does, or out of memory
+-- was read, among its steps or at the line that refuses it; one in which nothing failed ended as the answer does, or out of memory
 pub record Serves (max_work : ℕ) (source_failed sink_failed : Type 0) (script : List ℕ) (old new : FolderState) (ended : Status) (before after : Option (List ℕ)) (paid : ℕ) : Type 0 where
   pub answer : Answer
   pub due : IsAnswer max_work script old new answer
@@ -189,7 +146,8 @@ pub record Serves (max_work : ℕ) (source_failed sink_failed : Type 0) (script 
   pub broken : ¬ EndsAsDue ended → IsUnread source_failed ended old new before after paid
       ⊎ (IfOk due.steps (BreaksOff max_work sink_failed ended old new before after paid)
       × IfErr due.steps (λ why. BreaksOffLine sink_failed ended old new before after paid (line_of why)))
-  pub decided : MeetsNoFault source_failed sink_failed old new → EndsBy answer ended
+  pub decided : ¬ source_failed → ¬ sink_failed → ¬ Rose old.read_faults new.read_faults → ¬ Rose old.write_faults new.write_faults
+      → (ended ≡ (if answer.refused then status.Refused else status.Done)) ⊎ (ended ≡ status.NoMemory)
 
 -- the folder of the demonstration of this number, before its script is carried out
 abbrev pub demo_folder : ℕ → FolderState

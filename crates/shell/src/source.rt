@@ -1,7 +1,7 @@
 // Reads a source to its end, or as far as shows that it is too long for a script. After a failed take the source isn't
 // asked again.
-ghost use Rattle.std.specs.Prelude.{◌≡◌, ◌+◌, ◌<◌, ◌≤◌, [], length, take, drop, Some, OnOk, IfOk, OnErr, IfSome, IsErrOf, vec_len};
-ghost use Rattle.shell.specs.Source.{TakesAtMost, Took};
+ghost use Rattle.std.specs.Prelude.{◌≡◌, ℕ, ◌+◌, ◌<◌, ◌≤◌, List, [], ◌++◌, length, take, drop, Some, OnOk, IfOk, OnErr, IfSome, IsErrOf, vec_len};
+ghost use Rattle.shell.specs.Source.{TakesAtMost};
 ghost use Rattle.sql_values.specs.Limits.{max_script_bytes};
 ghost use Rattle.outside_io.specs.Count.{HasCause};
 
@@ -52,7 +52,8 @@ fn take_block<S: Source>(
     ensures within { IfOk result (λ n. n ≤ room) }
     ensures appended { IfOk result (λ n. length bytes.new.items ≡ length bytes.old.items + n) }
     ensures taken { OnOk result
-        (Took bytes.old.items bytes.new.items (S.left source.old) (S.left source.new)) }
+        (IfSome (S.left source.old) (λ left. (rest : List ℕ) × (S.left source.new ≡ Some rest)
+        × (bytes.new.items ++ rest ≡ bytes.old.items ++ left))) }
     ensures end { IfOk result (λ n. n ≡ 0 → 0 < room →
         IfSome (S.left source.old) (λ left. left ≡ [])) }
     ensures bounded { OnErr result

@@ -45,7 +45,7 @@ returns-in-Ok-Err-NoMemory-clause-carries g c =
     let more = paid_more c.args.outlets.now.book.now c.carry_out.new.outlets.book.now c.args.outlets.now.max_work out.pays.never_falls out.pays.within in
     stopped_at c.args.outlets.now.max_work _ (statement_tree c.args.statement.now) before after (world_of c.args.session.now) (world_of c.carry_out.new.session) c.args.outlets.now.book.now c.carry_out.new.outlets.book.now got (g.K.Sink.got c.carry_out.new.outlets.sink.now)
     _ status.NoMemory carried
-    (breaks status.NoMemory [] more.0 (rw out.sink (Appends-nil got)) more.2 (λ later. no_memory more.0 more.1 carried.quiet carried.does))
+    (breaks status.NoMemory [] more.0 (rw out.sink (Appends-nil got)) more.2 (no_memory more.0 more.1 carried.quiet carried.does))
 
 pub returns-in-Err-clause-carries : goal.returns-in-Err-clause-carries
 returns-in-Err-clause-carries g c =
@@ -55,4 +55,4 @@ returns-in-Err-clause-carries g c =
     let unpaid : c.carry_out.new.outlets.book.now ≡ c.args.outlets.now.book.now + 0 = omega (arith, out.carries.does.0) in
     stopped_at c.args.outlets.now.max_work _ (statement_tree c.args.statement.now) before (g.F.Folder.state c.carry_out.new.outlets.folder.now) (world_of c.args.session.now) (world_of c.carry_out.new.session) c.args.outlets.now.book.now c.carry_out.new.outlets.book.now got (g.K.Sink.got c.carry_out.new.outlets.sink.now)
     _ c.in-Err.ended out.carries
-    (breaks c.in-Err.ended [] 0 (rw out.sink (Appends-nil got)) unpaid (λ later. breaks_in (λ none. absurd none) (quiet_none before) (out.carries.does.1 later)))
+    (breaks c.in-Err.ended [] 0 (rw out.sink (Appends-nil got)) unpaid (breaks_in (λ none. absurd none) (quiet_none before) out.carries.does.1))
