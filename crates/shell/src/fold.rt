@@ -69,7 +69,10 @@ fn carry_out<F: Folder, K: Sink>(
         },
         Ok(Begun::Asks(asked)) => match read_file(alloc, &asked.name, outlets.folder) {
             Ok(given) => Ok(session.finish(alloc, asked, given)),
-            Err(ended) => Err(ended),
+            Err(ended) => {
+                drop(asked);
+                Err(ended)
+            }
         },
         Err(stop) => Ok(Err(stop)),
     }
@@ -97,7 +100,11 @@ fn carry_out_one<F: Folder, K: Sink>(
 {
     match carry_out(alloc, session, statement, outlets) {
         Ok(Ok(text)) => put_text(outlets.sink, &text),
-        Ok(Err(Stop::Refused(refusal))) => Err(put_refusal(alloc, outlets.sink, &refusal)),
+        Ok(Err(Stop::Refused(refusal))) => {
+            let refused = put_refusal(alloc, outlets.sink, &refusal);
+            drop(refusal);
+            Err(refused)
+        }
         Ok(Err(Stop::NoMemory)) => Err(Status::NoMemory),
         Err(ended) => Err(ended),
     }
@@ -154,5 +161,7 @@ pub(crate) fn carry_out_all<F: Folder, K: Sink>(
     ensures lent { KeepsOutlets outlets.old outlets.new }
 {
     let mut session = Session::new(alloc, key);
-    carry_out_each(alloc, &mut session, statements, outlets)
+    let ended = carry_out_each(alloc, &mut session, statements, outlets);
+    drop(session);
+    ended
 }

@@ -34,8 +34,16 @@ pub(crate) fn carry_out_script<F: Folder, K: Sink>(
     ensures lent { KeepsOutlets outlets.old outlets.new }
 {
     match read_script(alloc, script) {
-        Ok(statements) => carry_out_all(alloc, key, &statements, outlets),
-        Err(ScriptFault::Refused(refusal)) => put_refusal(alloc, outlets.sink, &refusal),
+        Ok(statements) => {
+            let ended = carry_out_all(alloc, key, &statements, outlets);
+            drop(statements);
+            ended
+        }
+        Err(ScriptFault::Refused(refusal)) => {
+            let ended = put_refusal(alloc, outlets.sink, &refusal);
+            drop(refusal);
+            ended
+        }
         Err(ScriptFault::NoMemory) => Status::NoMemory,
     }
 }

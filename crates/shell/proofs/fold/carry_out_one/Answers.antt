@@ -29,10 +29,10 @@ returns-in-Ok-Err-Refused-clause-carries g c =
     let carried : IsCarriedOut c.args.outlets.now.max_work (statement_tree c.args.statement.now) before after (world_of c.args.session.now) (world_of c.carry_out.new.session) c.args.outlets.now.book.now c.carry_out.new.outlets.book.now (Ok (Err (stop.Refused c.in-Ok-Err-Refused.refusal))) =
     rw (c.in-Ok-Err-Refused.field-0-is, c.in-Ok-Err-Refused.field-0-0-is) at out.carries in
     let does = carried.does in
-    stopped_at c.args.outlets.now.max_work _ (statement_tree c.args.statement.now) before after (world_of c.args.session.now) (world_of c.carry_out.new.session) c.args.outlets.now.book.now c.carry_out.new.outlets.book.now (g.K.Sink.got c.args.outlets.now.sink.now) (g.K.Sink.got c.put_refusal.new.sink)
-    _ c.put_refusal.result carried
-    (ends_refused c.args.outlets.now.max_work _ (statement_tree c.args.statement.now) carried.file before after (world_of c.args.session.now) (g.K.Sink.got c.args.outlets.now.sink.now) (g.K.Sink.got c.put_refusal.new.sink) c.args.outlets.now.book.now c.carry_out.new.outlets.book.now
-    c.in-Ok-Err-Refused.refusal c.put_refusal.result does.0 does.1 out.pays.within carried.quiet does.2 c.put_refusal.ensures.kinds (rw out.sink at c.put_refusal.ensures.whole) (rw out.sink at c.put_refusal.ensures.part) (rw out.sink at c.put_refusal.ensures.nothing) (rw out.sink at c.put_refusal.ensures.sink.rose) c.put_refusal.ensures.some)
+    stopped_at c.args.outlets.now.max_work _ (statement_tree c.args.statement.now) before after (world_of c.args.session.now) (world_of c.carry_out.new.session) c.args.outlets.now.book.now c.carry_out.new.outlets.book.now (g.K.Sink.got c.args.outlets.now.sink.now) (g.K.Sink.got c.put_refusal-refused.new.sink)
+    _ c.put_refusal-refused.result carried
+    (ends_refused c.args.outlets.now.max_work _ (statement_tree c.args.statement.now) carried.file before after (world_of c.args.session.now) (g.K.Sink.got c.args.outlets.now.sink.now) (g.K.Sink.got c.put_refusal-refused.new.sink) c.args.outlets.now.book.now c.carry_out.new.outlets.book.now
+    c.in-Ok-Err-Refused.refusal c.put_refusal-refused.result does.0 does.1 out.pays.within carried.quiet does.2 c.put_refusal-refused.ensures.kinds (rw out.sink at c.put_refusal-refused.ensures.whole) (rw out.sink at c.put_refusal-refused.ensures.part) (rw out.sink at c.put_refusal-refused.ensures.nothing) (rw out.sink at c.put_refusal-refused.ensures.sink.rose) c.put_refusal-refused.ensures.some)
 
 pub returns-in-Ok-Err-NoMemory-clause-carries : goal.returns-in-Ok-Err-NoMemory-clause-carries
 returns-in-Ok-Err-NoMemory-clause-carries g c =
