@@ -161,7 +161,5 @@ pub(crate) fn carry_out_all<F: Folder, K: Sink>(
     ensures lent { KeepsOutlets outlets.old outlets.new }
 {
     let mut session = Session::new(alloc, key);
-    let ended = carry_out_each(alloc, &mut session, statements, outlets);
-    drop(session);
-    ended
+    carry_out_each(alloc, &mut session, statements, outlets)
 }
