@@ -8,7 +8,6 @@
 
 mod bare;
 mod corners;
-mod cover;
 mod frontiers;
 mod learned;
 mod lesson;

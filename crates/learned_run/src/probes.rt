@@ -11,9 +11,8 @@ ghost use Rattle.cost_model.specs.Greedy.{covers_at};
 ghost use Rattle.cost_model.specs.Optimal.{optimal_cost};
 ghost use Rattle.learned_run.specs.Skips.{covers_above, is_at_or_below};
 
-use crate::cover::cost_covers;
 use crate::optima::optimal_at;
-use cost_model::Costing;
+use cost_model::{Costing, is_covered};
 use ess_grid::{Point, below};
 use plan_tree::Plan;
 
@@ -30,7 +29,7 @@ fn covers_at(costing: &Costing<'_>, costs: &[u128], threshold: u32, p: &Plan, po
     ensures { result ≡ covers_at (costing_tree costing.now) threshold (plan_tree p.now) point.now }
 {
     let cost = costing.cost(p, point);
-    cost_covers(threshold, cost, optimal_at(costing, costs, point))
+    is_covered(cost, optimal_at(costing, costs, point), threshold)
 }
 
 /// Whether a plan is found to cover one of some points at or above this one: of each few points the last is looked at, from the

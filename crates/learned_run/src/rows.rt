@@ -8,7 +8,7 @@ ghost use Rattle.plan_space.specs.Parts.{nth_plan};
 ghost use Rattle.learned_run.specs.Skips.{covers_above, is_at_or_below};
 ghost use Rattle.learned_run.specs.Covering.{AreTriedPlans, IsRowOfPlans, KeepsPlans, covers_point};
 
-use crate::cover::cost_covers;
+use cost_model::is_covered;
 use ess_grid::{Point, below};
 use plan_space::CostedPlans;
 use std::alloc::{AllocError, Global};
@@ -40,14 +40,14 @@ fn tests(alloc: Global, plans: &TriedPlans<'_>, row: &FrontierRow) -> Result<Vec
     requires count { plans.now.count ≡ length plans.now.all.plans }
     requires threshold { plans.now.threshold ≤ max_threshold }
     requires costed { plans.now.all.point ≡ Some row.now.point }
-    requires cost { row.now.cost ≤ cost_bound }
+    requires cost { row.now.cost < cost_bound }
     ensures { IfOk result (λ tests. tests.items ≡ map (λ p. nat_le
         (100 * cost_of (costing_tree plans.now.all.costing) p row.now.point)
         ((100 + plans.now.threshold) * row.now.cost)) plans.now.all.plans) }
 {
     let mut tests = Vec::with_capacity(alloc, plans.count)?;
     for place in 0..plans.count {
-        tests.push(cost_covers(plans.threshold, plans.all.cost(place), row.cost))?;
+        tests.push(is_covered(plans.all.cost(place), row.cost, plans.threshold))?;
     }
     Ok(tests)
 }
