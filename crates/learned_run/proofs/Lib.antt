@@ -2,7 +2,7 @@ pub mod Left
 pub mod Levels
 pub mod CornerPoints
 pub mod RuledOut
-pub mod Covered
+pub mod AtOrBelow
 pub mod Looked
 pub mod Outlines
 pub mod Stepped

@@ -6,10 +6,8 @@ use Rattle.std.proofs.lemmas.List.{length-map, get_or-map, map_push, take_more}
 use Rattle.std.proofs.lemmas.List.Folds.{list_any_more, list_any_at}
 use Rattle.std.proofs.Math.Seq.{map-set_same}
 use Rattle.learned_run.specs.declared.rows.FrontierRow.{FrontierRow}
-use Rattle.learned_run.specs.declared.rows.TriedPlans.{TriedPlans}
 use Rattle.learned_run.specs.Skips.{is_at_or_below}
-use Rattle.learned_run.specs.Covering.{KeepsPlans, covers_point}
-use Rattle.learned_run.proofs.Covered.{covers-kept}
+use Rattle.learned_run.specs.Covering.{TriedShape, covers_point}
 
 abbrev pub row_points : List FrontierRow → List (List ℕ)
 row_points rows = map (λ (row : FrontierRow). row.point) rows
@@ -28,7 +26,7 @@ pub points-stay : (first rows : List FrontierRow) (at : ℕ) (row worked : Front
 points-stay first rows at row worked is same before =
     map-set_same (λ (row : FrontierRow). row.point) rows at worked row (same ∙ ap (λ (row : FrontierRow). row.point) is) ∙ before
 
-module _ (first now : TriedPlans) (kept : KeepsPlans first now) (place : ℕ) (point : List ℕ) (all rows : List FrontierRow) (at : ℕ) (row : FrontierRow) (there : at < length all)
+module _ (first now : TriedShape) (kept : now ≡ first) (place : ℕ) (point : List ℕ) (all rows : List FrontierRow) (at : ℕ) (row : FrontierRow) (there : at < length all)
     (is : row ≡ get_or rows at row) (same : row_points rows ≡ row_points all) (told : Bool) (tells : told ≡ is_at_or_below point row.point && covers_point now place row.point) where
   abbrev test : List ℕ → Bool
   test other = is_at_or_below point other && covers_point first place other
@@ -45,7 +43,7 @@ module _ (first now : TriedPlans) (kept : KeepsPlans first now) (place : ℕ) (p
   long = omega (arith, there, length-map all (λ (row : FrontierRow). row.point))
 
   passes : test row.point ≡ told
-  passes = sym (tells ∙ ap (λ covers. is_at_or_below point row.point && covers) (covers-kept first now place row.point kept))
+  passes = sym (tells ∙ ap (λ (tried : TriedShape). is_at_or_below point row.point && covers_point tried place row.point) kept)
 
   -- one that covers settles it; one that doesn't leaves it to those behind it
   pub one-covers : told ≡ true → true ≡ list_any test (row_points all)

@@ -5,20 +5,17 @@ use Rattle.std.specs.declared.alloc.Global.{Global}
 use Rattle.std.proofs.lemmas.List.{length-map, get_or-map}
 use Rattle.std.proofs.lemmas.Option.{slice_get_within, get_or_from_slice_get}
 use Rattle.plan_tree.specs.Plans.{PlanTree, Scan, plan_tree}
-use Rattle.cost_model.specs.Costing.{CostingTree, IsCosting, costing_tree}
+use Rattle.cost_model.specs.Costing.{CostingTree, costing_tree}
 use Rattle.cost_model.specs.Frontier.{frontier}
 use Rattle.cost_model.specs.Greedy.{covers_at}
 use Rattle.plan_space.specs.Parts.{nth_plan}
-use Rattle.plan_space.specs.CostedPlans.{HoldsPlans}
 use Rattle.bouquet_type.specs.declared.contour.Contour.{Contour}
 use Rattle.bouquet_type.specs.declared.schedule.Attempt.{Attempt}
 use Rattle.bouquet_type.specs.Shapes.{BouquetShape, cost_on}
-use Rattle.bouquet_type.specs.Trees.{BouquetTree, ContourTree, IsBouquet, bouquet_tree, contour_tree}
+use Rattle.bouquet_type.specs.Trees.{BouquetTree, ContourTree, bouquet_tree, contour_tree}
 use Rattle.learned_run.specs.declared.rows.FrontierRow.{FrontierRow}
-use Rattle.learned_run.specs.declared.rows.TriedPlans.{TriedPlans}
 use Rattle.learned_run.specs.Skips.{covers_above}
-use Rattle.learned_run.specs.Covering.{AreBareRows, AreOfContour, AreOfNumber, IsBareRow, IsFrontierRow, IsMemberOf, IsNumbered, IsRowOfPlans, KeepsPlans, costing_shape, member_of}
-use Rattle.learned_run.proofs.Covered.{tried-kept, rows-kept}
+use Rattle.learned_run.specs.Covering.{AreBareRows, AreOfContour, AreOfNumber, IsBareRow, IsMemberOf, IsNumbered, IsRowOf, TriedShape, costing_shape, member_of}
 use Rattle.learned_run.proofs.Looked.{row_points}
 
 -- the contour of a number, as the bouquet holds it
@@ -32,59 +29,50 @@ numbered-is contours number contour held at is =
     ∙ ap contour_tree (sym is)
 
 -- a row of which nothing is worked out is one for any plans
-bare-row : (costing : CostingTree) (threshold : ℕ) (plans : List PlanTree) (row : FrontierRow) → IsBareRow costing row → IsFrontierRow costing threshold plans row
-bare-row costing threshold plans row is = record {
+bare-row : (tried : TriedShape) (row : FrontierRow) → IsBareRow (costing_tree tried.costing) row → IsRowOf tried row
+bare-row tried row is = record {
   point = is.point;
   cost = is.cost;
-  covers = subst (λ (covers : Option (Vec Bool Global)). IfSome covers (λ covers. covers.items ≡ map (λ p. covers_at costing threshold p row.point) plans)) (sym is.bare) tt;
+  covers = subst (λ (covers : Option (Vec Bool Global)). IfSome covers (λ covers. covers.items ≡ map (λ p. covers_at (costing_tree tried.costing) tried.threshold p row.point) tried.plans)) (sym is.bare) tt;
 }
 
 -- the plans of a contour that was come to, and the rows of its frontier
-pub at-hand : (b : BouquetShape) (number : ℕ) (contours : List Contour) (held : Contour) (plans : TriedPlans) (rows : List FrontierRow) → IsBouquet b → contours ≡ b.contours
-    → held ≡ get_or contours (number - 1) held → 1 ≤ number → number ≤ length b.contours → HoldsPlans (costing_shape b) held.plans.items plans.all → plans.count ≡ length held.plans.items
-    → plans.threshold ≡ b.threshold → AreBareRows (bouquet_tree b).costing (frontier (bouquet_tree b).costing (cost_on b number)) rows → AreOfNumber (bouquet_tree b) number plans rows
-at-hand b number contours held plans rows is same at some there holds count percent bare =
+pub at-hand : (b : BouquetShape) (number : ℕ) (contours : List Contour) (held : Contour) (tried : TriedShape) (rows : List FrontierRow) → contours ≡ b.contours
+    → held ≡ get_or contours (number - 1) held → 1 ≤ number → number ≤ length b.contours
+    → tried ≡ record { costing = costing_shape b; plans = map plan_tree held.plans.items; threshold = b.threshold }
+    → AreBareRows (bouquet_tree b).costing (frontier (bouquet_tree b).costing (cost_on b number)) rows → AreOfNumber (bouquet_tree b) number tried rows
+at-hand b number contours held tried rows same at some there is bare =
     let costing = (bouquet_tree b).costing in
-    let costs : costing_tree plans.all.costing ≡ costing = ap costing_tree holds.costing in
+    let made : TriedShape = record { costing = costing_shape b; plans = map plan_tree held.plans.items; threshold = b.threshold } in
     let inside : number - 1 < length contours = omega (arith, some, there, ap length same) in
     let cost : cost_on b number ≡ held.cost =
     ap (λ (all : List Contour). slice_index (map (λ (contour : Contour). contour.cost) all) (number - 1)) (sym same)
     ∙ get_or-map (λ (contour : Contour). contour.cost) contours (number - 1) held 0 inside ∙ ap (λ (contour : Contour). contour.cost) (sym at) in
-    record {
-      tried = record {
-        costing = subst IsCosting (sym costs) is.costing;
-        threshold = omega (arith, percent, is.threshold);
-        count = count ∙ sym (ap length holds.plans ∙ length-map held.plans.items plan_tree);
-      };
-      each = λ k d within.
-          subst (λ (one : CostingTree). IsFrontierRow one plans.threshold plans.all.plans (get_or rows k d)) (sym costs)
-          (bare-row costing plans.threshold plans.all.plans (get_or rows k d) (bare.each k d within));
+    subst (λ (one : TriedShape). AreOfNumber (bouquet_tree b) number one rows) (sym is)
+    (record {
+      each = λ k d within. bare-row made (get_or rows k d) (bare.each k d within);
       those = λ contour numbered.
           let listed = subst (λ (cs : List Contour). slice_get (map contour_tree cs) (number - 1) ≡ Some contour) (sym same) numbered.1 in
           let tree = numbered-is contours number contour held listed at in
           record {
-            costing = costs;
-            threshold = percent;
-            tried = holds.plans ∙ ap (λ (one : ContourTree). one.plans) (sym tree);
+            costing = refl;
+            threshold = refl;
+            plans = ap (λ (one : ContourTree). one.plans) (sym tree);
             points = bare.those ∙ ap (frontier costing) (cost ∙ ap (λ (one : ContourTree). one.cost) (sym tree));
           };
-    }
+    })
 
 -- the same, where rows were looked at
-pub at-hand-still : (bouquet : BouquetTree) (number : ℕ) (old new : TriedPlans) (rows looked : List FrontierRow) → AreOfNumber bouquet number old rows → KeepsPlans old new
-    → All (IsRowOfPlans old) looked → row_points looked ≡ row_points rows → AreOfNumber bouquet number new looked
-at-hand-still bouquet number old new rows looked are same each points = record {
-  tried = tried-kept old new same are.tried;
-  each = rows-kept old new looked same each;
-  those = λ contour numbered.
-      let those = are.those contour numbered in
-      record {
-        costing = ap costing_tree same.costing ∙ those.costing;
-        threshold = same.threshold ∙ those.threshold;
-        tried = same.plans ∙ those.tried;
-        points = points ∙ those.points;
-      };
-}
+pub at-hand-still : (bouquet : BouquetTree) (number : ℕ) (old new : TriedShape) (rows looked : List FrontierRow) → AreOfNumber bouquet number old rows → new ≡ old
+    → All (IsRowOf old) looked → row_points looked ≡ row_points rows → AreOfNumber bouquet number new looked
+at-hand-still bouquet number old new rows looked are same each points =
+    subst (λ (one : TriedShape). AreOfNumber bouquet number one looked) (sym same)
+    (record {
+      each = each;
+      those = λ contour numbered.
+          let those = are.those contour numbered in
+          record { costing = those.costing; threshold = those.threshold; plans = those.plans; points = points ∙ those.points };
+    })
 
 -- there is such a contour
 pub step-there : (b : BouquetShape) (step : Attempt) (budget : ℕ) → IsMemberOf (bouquet_tree b) (member_of step budget) → step.contour ≤ length b.contours
@@ -107,24 +95,24 @@ step-cost b step budget is =
     ∙ ap (λ (contour : ContourTree). contour.cost) (get_or_from_slice_get trees place is.contour is.contour is.numbered.1)
     ∙ sym is.cost
 
-module _ (bouquet : BouquetTree) (step : Attempt) (budget number : ℕ) (plans : TriedPlans) (rows : List FrontierRow) (is : IsMemberOf bouquet (member_of step budget)) (at : number ≡ step.contour)
-    (are : AreOfNumber bouquet number plans rows) where
-  of-contour : AreOfContour bouquet is.contour plans rows
+module _ (bouquet : BouquetTree) (step : Attempt) (budget number : ℕ) (tried : TriedShape) (rows : List FrontierRow) (is : IsMemberOf bouquet (member_of step budget)) (at : number ≡ step.contour)
+    (are : AreOfNumber bouquet number tried rows) where
+  of-contour : AreOfContour bouquet is.contour tried rows
   of-contour = are.those is.contour (subst (λ n. IsNumbered bouquet n is.contour) (sym at) is.numbered)
 
-  listed : slice_get plans.all.plans (step.place - 1) ≡ Some (plan_tree step.plan.now)
-  listed = ap (λ (all : List PlanTree). slice_get all (step.place - 1)) of-contour.tried ∙ is.plan
+  listed : slice_get tried.plans (step.place - 1) ≡ Some (plan_tree step.plan.now)
+  listed = ap (λ (all : List PlanTree). slice_get all (step.place - 1)) of-contour.plans ∙ is.plan
 
   -- the step's plan is one of those
-  pub step-among : step.place - 1 < length plans.all.plans
-  step-among = slice_get_within plans.all.plans (step.place - 1) (plan_tree step.plan.now) listed
+  pub step-among : step.place - 1 < length tried.plans
+  step-among = slice_get_within tried.plans (step.place - 1) (plan_tree step.plan.now) listed
 
   -- and whether it covers is told of the contour's frontier
-  pub step-covers : (point : List ℕ) → covers_above (costing_tree plans.all.costing) plans.threshold (nth_plan plans.all.plans (step.place - 1)) point (row_points rows)
+  pub step-covers : (point : List ℕ) → covers_above (costing_tree tried.costing) tried.threshold (nth_plan tried.plans (step.place - 1)) point (row_points rows)
       ≡ covers_above bouquet.costing bouquet.threshold (plan_tree step.plan.now) point (frontier bouquet.costing step.cost)
   step-covers point =
       let p = plan_tree step.plan.now in
-      let plan : nth_plan plans.all.plans (step.place - 1) ≡ p = get_or_from_slice_get plans.all.plans (step.place - 1) p (Scan 0) listed in
-      ap₂ (λ (one : PlanTree) (points : List (List ℕ)). covers_above (costing_tree plans.all.costing) plans.threshold one point points) plan
+      let plan : nth_plan tried.plans (step.place - 1) ≡ p = get_or_from_slice_get tried.plans (step.place - 1) p (Scan 0) listed in
+      ap₂ (λ (one : PlanTree) (points : List (List ℕ)). covers_above (costing_tree tried.costing) tried.threshold one point points) plan
       (of-contour.points ∙ ap (frontier bouquet.costing) (sym is.cost))
       ∙ ap₂ (λ (costing : CostingTree) (percent : ℕ). covers_above costing percent p point (frontier bouquet.costing step.cost)) of-contour.costing of-contour.threshold

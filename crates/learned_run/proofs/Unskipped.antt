@@ -30,7 +30,7 @@ use Rattle.learned_run.specs.Learning.{is_left, learned_point, points_left}
 use Rattle.learned_run.specs.Skips.{covers_above, is_at_or_below, is_skipped, learned_end, skip_by}
 use Rattle.learned_run.proofs.Left.{in-left}
 use Rattle.learned_run.proofs.Levels.{levels-below}
-use Rattle.learned_run.proofs.Covered.{below-passes}
+use Rattle.learned_run.proofs.AtOrBelow.{below-passes}
 
 -- where works are at most costs, executions that were exhausted leave the point
 point-left : (costing : CostingTree) (work : PlanTree → ℕ) (point : List ℕ) (before : List Member) → ((p : PlanTree) → IsPlan costing.block p → work p ≤ cost_of costing p point)

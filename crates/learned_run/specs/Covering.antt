@@ -1,9 +1,8 @@
 -- Which plans of a contour cover which points of its frontier; and the members of a schedule, by their places.
-use Rattle.std.specs.Prelude.{◌≡◌, ℕ, ◌-◌, ◌≤◌, Bool, All, IfSome, List, Option, Some, None, length, map, slice_get}
-use Rattle.sql_values.specs.Limits.{max_threshold}
+use Rattle.std.specs.Prelude.{◌≡◌, ℕ, ◌-◌, ◌≤◌, Bool, All, IfSome, List, Option, Some, None, map, slice_get}
 use Rattle.ess_grid.specs.Points.{IsPoint}
 use Rattle.plan_tree.specs.Plans.{PlanTree, plan_tree}
-use Rattle.cost_model.specs.Costing.{CostingShape, CostingTree, IsCosting, costing_tree}
+use Rattle.cost_model.specs.Costing.{CostingShape, CostingTree, costing_tree}
 use Rattle.cost_model.specs.Frontier.{frontier}
 use Rattle.cost_model.specs.Greedy.{covers_at}
 use Rattle.cost_model.specs.Optimal.{optimal_cost}
@@ -13,16 +12,21 @@ use Rattle.bouquet_type.specs.Shapes.{BouquetShape}
 use Rattle.bouquet_type.specs.Schedule.{Member}
 use Rattle.bouquet_type.specs.declared.schedule.Attempt.{Attempt}
 use Rattle.learned_run.specs.declared.rows.FrontierRow.{FrontierRow}
-use Rattle.learned_run.specs.declared.rows.TriedPlans.{TriedPlans}
 use Rattle.learned_run.specs.Skips.{skip_by}
 
--- a point of a contour's frontier with the optimal cost there; and which of some plans cover it, if that is worked out
-pub record IsFrontierRow (costing : CostingTree) (threshold : ℕ) (plans : List PlanTree) (row : FrontierRow) : Type 0 where
-  pub point : IsPoint costing.grid row.point
-  pub cost : row.cost ≡ optimal_cost costing row.point
-  pub covers : IfSome row.covers (λ covers. covers.items ≡ map (λ p. covers_at costing threshold p row.point) plans)
+-- plans of a costing, which may cost so many percent more than the best one where they cover
+pub record TriedShape : Type 0 where
+  pub costing : CostingShape
+  pub plans : List PlanTree
+  pub threshold : ℕ
 
--- so where nothing is worked out, and so for each of some points, in order
+-- a point of a contour's frontier with the optimal cost there; and which of the plans cover it, if that is worked out
+pub record IsRowOf (tried : TriedShape) (row : FrontierRow) : Type 0 where
+  pub point : IsPoint tried.costing.grid row.point
+  pub cost : row.cost ≡ optimal_cost (costing_tree tried.costing) row.point
+  pub covers : IfSome row.covers (λ covers. covers.items ≡ map (λ p. covers_at (costing_tree tried.costing) tried.threshold p row.point) tried.plans)
+
+-- the point and the cost where nothing is worked out, and so for each of some points, in order
 pub record IsBareRow (costing : CostingTree) (row : FrontierRow) : Type 0 where
   pub point : IsPoint costing.grid row.point
   pub cost : row.cost ≡ optimal_cost costing row.point
@@ -32,31 +36,15 @@ pub record AreBareRows (costing : CostingTree) (points : List (List ℕ)) (rows 
   pub those : map (λ row. row.point) rows ≡ points
   pub each : All (IsBareRow costing) rows
 
--- plans that can be costed, as many as are told; and a row for them
-pub record AreTriedPlans (plans : TriedPlans) : Type 0 where
-  pub costing : IsCosting (costing_tree plans.all.costing)
-  pub threshold : plans.threshold ≤ max_threshold
-  pub count : plans.count ≡ length plans.all.plans
-
-abbrev pub IsRowOfPlans : TriedPlans → FrontierRow → Type 0
-IsRowOfPlans plans row = IsFrontierRow (costing_tree plans.all.costing) plans.threshold plans.all.plans row
-
 -- whether the plan at this place covers a point
-abbrev pub covers_point : TriedPlans → (place : ℕ) → (point : List ℕ) → Bool
-covers_point plans place point = covers_at (costing_tree plans.all.costing) plans.threshold (nth_plan plans.all.plans place) point
-
--- the same plans, costed at some point
-pub record KeepsPlans (old new : TriedPlans) : Type 0 where
-  pub costing : new.all.costing ≡ old.all.costing
-  pub plans : new.all.plans ≡ old.all.plans
-  pub count : new.count ≡ old.count
-  pub threshold : new.threshold ≡ old.threshold
+abbrev pub covers_point : TriedShape → (place : ℕ) → (point : List ℕ) → Bool
+covers_point tried place point = covers_at (costing_tree tried.costing) tried.threshold (nth_plan tried.plans place) point
 
 -- plans are those of a contour, and rows those of its frontier
-pub record AreOfContour (bouquet : BouquetTree) (contour : ContourTree) (plans : TriedPlans) (rows : List FrontierRow) : Type 0 where
-  pub costing : costing_tree plans.all.costing ≡ bouquet.costing
-  pub threshold : plans.threshold ≡ bouquet.threshold
-  pub tried : plans.all.plans ≡ contour.plans
+pub record AreOfContour (bouquet : BouquetTree) (contour : ContourTree) (tried : TriedShape) (rows : List FrontierRow) : Type 0 where
+  pub costing : costing_tree tried.costing ≡ bouquet.costing
+  pub threshold : tried.threshold ≡ bouquet.threshold
+  pub plans : tried.plans ≡ contour.plans
   pub points : map (λ row. row.point) rows ≡ frontier bouquet.costing contour.cost
 
 -- a contour of this number, from 1
@@ -64,14 +52,13 @@ abbrev pub IsNumbered : BouquetTree → (number : ℕ) → ContourTree → Type 
 IsNumbered bouquet number contour = (1 ≤ number) × (slice_get bouquet.contours (number - 1) ≡ Some contour)
 
 -- plans and rows are those of the contour of this number; 0 where there are none yet
-pub record AreOfNumber (bouquet : BouquetTree) (number : ℕ) (plans : TriedPlans) (rows : List FrontierRow) : Type 0 where
-  pub tried : AreTriedPlans plans
-  pub each : All (IsRowOfPlans plans) rows
-  pub those : (contour : ContourTree) → IsNumbered bouquet number contour → AreOfContour bouquet contour plans rows
+pub record AreOfNumber (bouquet : BouquetTree) (number : ℕ) (tried : TriedShape) (rows : List FrontierRow) : Type 0 where
+  pub each : All (IsRowOf tried) rows
+  pub those : (contour : ContourTree) → IsNumbered bouquet number contour → AreOfContour bouquet contour tried rows
 
-abbrev pub AreAtHand : BouquetTree → (number : ℕ) → Option TriedPlans → List FrontierRow → Type 0
+abbrev pub AreAtHand : BouquetTree → (number : ℕ) → Option TriedShape → List FrontierRow → Type 0
 AreAtHand bouquet number None rows = number ≡ 0
-AreAtHand bouquet number (Some plans) rows = AreOfNumber bouquet number plans rows
+AreAtHand bouquet number (Some tried) rows = AreOfNumber bouquet number tried rows
 
 -- a member is the plan at its place on a contour of the bouquet, of its cost
 pub record IsMemberOf (bouquet : BouquetTree) (member : Member) : Type 0 where
@@ -106,7 +93,7 @@ pub record FrontiersShape : Type 0 where
   pub number : ℕ
 
 -- what is known of a bouquet's frontiers: the optimal costs, once they are asked for, and the contour at hand
-pub record AreFrontiers (frontiers : FrontiersShape) (costing : CostingShape) (surface : Option CostingShape) (plans : Option TriedPlans) (rows : List FrontierRow) : Type 0 where
+pub record AreFrontiers (frontiers : FrontiersShape) (costing : CostingShape) (surface : Option CostingShape) (plans : Option TriedShape) (rows : List FrontierRow) : Type 0 where
   pub same : costing ≡ costing_shape frontiers.bouquet
   pub made : IfSome surface (λ shape. shape ≡ costing_shape frontiers.bouquet)
   pub at_hand : AreAtHand (bouquet_tree frontiers.bouquet) frontiers.number plans rows

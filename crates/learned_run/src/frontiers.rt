@@ -8,13 +8,13 @@ ghost use Rattle.bouquet_type.specs.Trees.{bouquet_tree};
 ghost use Rattle.learned_run.specs.Skips.{covers_above};
 ghost use Rattle.learned_run.specs.Covering.{AreBareRows, IsMemberOf, IsStepOf, costing_shape, member_of, step_skip};
 
-use crate::bare::{found_rows, kept_rows};
 use crate::probes::probe_covers;
-use crate::rows::{FrontierRow, TriedPlans, any_row_covers};
+use crate::rows::{FrontierRow, found_rows, kept_rows};
+use crate::tried::TriedPlans;
 use bouquet_type::{Attempt, Bouquet};
 use cost_model::Costing;
 use ess_grid::Point;
-use plan_space::{CostSurface, CostedPlans};
+use plan_space::CostSurface;
 use std::alloc::{AllocError, Global};
 use std::marker::Model;
 
@@ -115,13 +115,10 @@ impl<'c> Frontiers<'c> {
             return Ok(());
         }
         let contour = &self.bouquet.contours()[number as usize - 1];
-        let all = CostedPlans::of_plans(alloc, self.costing, &contour.plans)?;
+        let threshold = self.bouquet.threshold();
+        let plans = TriedPlans::new(alloc, self.costing, &contour.plans, threshold)?;
         let rows = self.bare_rows(alloc, number)?;
-        self.plans = Some(TriedPlans {
-            all,
-            count: contour.plans.len(),
-            threshold: self.bouquet.threshold(),
-        });
+        self.plans = Some(plans);
         self.rows = rows;
         self.number = number;
         Ok(())
@@ -144,7 +141,7 @@ impl<'c> Frontiers<'c> {
         ensures same { self.new ≡ self.old }
     {
         match &mut self.plans {
-            Some(plans) => any_row_covers(alloc, plans, &mut self.rows, step.place - 1, point),
+            Some(plans) => plans.any_row_covers(alloc, &mut self.rows, step.place - 1, point),
             None => Ok(false),
         }
     }

@@ -6,7 +6,6 @@
 //! It never changes a budget or the order of executions, never skips the last execution, and never looks at a table itself.
 #![tactic(auto)]
 
-mod bare;
 mod corners;
 mod frontiers;
 mod learned;
@@ -16,6 +15,7 @@ mod probes;
 mod raise;
 mod rows;
 mod run;
+mod tried;
 
 pub use learned::{Learned, Skip};
 pub use run::learn;

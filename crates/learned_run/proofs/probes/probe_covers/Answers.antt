@@ -7,7 +7,7 @@ use Rattle.plan_tree.specs.Plans.{plan_tree}
 use Rattle.cost_model.specs.Costing.{costing_tree}
 use Rattle.cost_model.specs.Greedy.{covers_at}
 use Rattle.learned_run.specs.Skips.{is_at_or_below}
-use Rattle.learned_run.proofs.Covered.{below-told}
+use Rattle.learned_run.proofs.AtOrBelow.{below-told}
 use Rattle.learned_run.proofs.probes.probe_covers.Goals as goal
 
 pub returns-then-covers_at : goal.returns-then-covers_at

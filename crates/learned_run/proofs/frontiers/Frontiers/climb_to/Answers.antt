@@ -2,7 +2,7 @@ use Rattle.std.proofs.Common.{◌≡◌, ◌∙◌, ◌≤◌, length, map, ap, 
 use Rattle.plan_tree.specs.Plans.{plan_tree}
 use Rattle.cost_model.specs.Frontier.{frontier}
 use Rattle.bouquet_type.specs.Shapes.{BouquetShape, cost_on}
-use Rattle.bouquet_type.specs.Trees.{IsBouquet, bouquet_tree}
+use Rattle.bouquet_type.specs.Trees.{bouquet_tree}
 use Rattle.learned_run.specs.Covering.{AreBareRows, FrontiersShape, costing_shape}
 use Rattle.learned_run.proofs.Stepped.{at-hand}
 use Rattle.learned_run.proofs.frontiers.Frontiers.climb_to.Goals as goal
@@ -17,15 +17,13 @@ invariant_of-self c =
     let there : c.args.number ≤ length b.contours =
     omega (arith, c.requires.there, ap (λ (b : BouquetShape). length b.contours) seen) in
     let value = c.deref.ensures.value in
+    let costing : c.self.inside.costing.now ≡ costing_shape b = c.self.invariant.same ∙ ap costing_shape same in
+    let percent : c.threshold-threshold.result ≡ b.threshold = c.threshold-threshold.ensures ∙ ap (λ (b : BouquetShape). b.threshold) same in
     record {
       same = c.self-2.invariant.same;
       made = c.self-2.invariant.made;
-      at_hand = at-hand b c.args.number c.contours.result.now contour (record { all = c.in_ok-all.all; count = c.len.result; threshold = c.threshold.result }) rows
-          (subst IsBouquet same c.contours.ensures.bouquet) (c.contours.ensures.contours ∙ ap (λ (b : BouquetShape). b.contours) same) c.index-contours-number.is c.requires.some there
-          (record {
-            costing = c.in_ok-all.ensures.costing ∙ c.self.invariant.same ∙ ap costing_shape same;
-            plans = c.in_ok-all.ensures.plans ∙ ap (map plan_tree) value;
-          })
-          (c.len.ensures ∙ sym c.deref.ensures.len ∙ ap length value) c.threshold.ensures
+      at_hand = at-hand b c.args.number c.contours.result.now contour c.in_ok-plans.plans rows (c.contours.ensures.contours ∙ ap (λ (b : BouquetShape). b.contours) same)
+          c.index-contours-number.is c.requires.some there
+          (c.in_ok-plans.ensures ∙ λ i. record { costing = costing i; plans = map plan_tree (value i); threshold = percent i })
           (subst (λ (b : BouquetShape). AreBareRows (bouquet_tree b).costing (frontier (bouquet_tree b).costing (cost_on b c.args.number)) rows) seen c.in_ok-rows.ensures.rows);
     }

@@ -8,7 +8,7 @@ use Rattle.plan_space.specs.SurfacePoints.{IsSurfacePoint}
 use Rattle.learned_run.specs.declared.rows.FrontierRow.{FrontierRow}
 use Rattle.learned_run.specs.Covering.{IsBareRow}
 use Rattle.learned_run.proofs.Looked.{row_points, points-more}
-use Rattle.learned_run.proofs.bare.found_rows.Goals as goal
+use Rattle.learned_run.proofs.rows.found_rows.Goals as goal
 
 pub loop-at-preserved : goal.loop-at-preserved
 loop-at-preserved c =

@@ -1,8 +1,8 @@
 use Rattle.std.proofs.Common.{◌≡◌, ◌∙◌, refl, sym}
 use Rattle.std.specs.Prelude.{true, false}
 use Rattle.learned_run.specs.Skips.{is_at_or_below}
-use Rattle.learned_run.proofs.Covered.{below-told}
-use Rattle.learned_run.proofs.rows.row_covers.Goals as goal
+use Rattle.learned_run.proofs.AtOrBelow.{below-told}
+use Rattle.learned_run.proofs.tried.TriedPlans.row_covers.Goals as goal
 
 pub returns-then-not-below-clause-covers : goal.returns-then-not-below-clause-covers
 returns-then-not-below-clause-covers c =

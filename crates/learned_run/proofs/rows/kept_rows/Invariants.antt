@@ -2,7 +2,7 @@ use Rattle.std.proofs.Common.{◌≡◌, map, take}
 use Rattle.std.specs.Prelude.{All}
 use Rattle.cost_model.specs.Costing.{costing_tree}
 use Rattle.learned_run.specs.Covering.{IsBareRow}
-use Rattle.learned_run.proofs.bare.kept_rows.Given as goal
+use Rattle.learned_run.proofs.rows.kept_rows.Given as goal
 
 abbrev pub invariant-loop-point : goal.invariant-loop-point
 invariant-loop-point l = record {

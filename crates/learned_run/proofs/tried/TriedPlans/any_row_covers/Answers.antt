@@ -1,9 +1,8 @@
-use Rattle.std.proofs.Common.{arith}
+use Rattle.std.proofs.Common.{◌∙◌, subst, arith}
 use Rattle.std.proofs.lemmas.List.Elements.{All-set}
-use Rattle.learned_run.specs.Covering.{IsRowOfPlans}
-use Rattle.learned_run.proofs.Covered.{keeps-back, keeps-on, row-kept}
+use Rattle.learned_run.specs.Covering.{IsRowOf, TriedShape}
 use Rattle.learned_run.proofs.Looked.{points-stay, one-covers, none-covers}
-use Rattle.learned_run.proofs.rows.any_row_covers.Goals as goal
+use Rattle.learned_run.proofs.tried.TriedPlans.any_row_covers.Goals as goal
 
 pub returns-in_err-row_covers-clause-points : goal.returns-in_err-row_covers-clause-points
 returns-in_err-row_covers-clause-points c =
@@ -15,18 +14,18 @@ returns-then-branch-clause-points c =
 
 pub returns-then-branch-clause-covers : goal.returns-then-branch-clause-covers
 returns-then-branch-clause-covers c =
-    one-covers c.args.plans.now c.loop-at.plans c.loop-at.invariant.same c.args.place c.args.point.now c.args.rows.now.items c.loop-at.rows.items c.loop-at.at c.index_mut.result.now
+    one-covers c.args.self.now c.loop-at.self c.loop-at.invariant.same c.args.place c.args.point.now c.args.rows.now.items c.loop-at.rows.items c.loop-at.at c.index_mut.result.now
     (omega (arith, c.loop-at-test.true, c.loop-at.auto.at-end, c.len-at-end.ensures)) c.index_mut.ensures.value c.loop-at.invariant.points c.in_ok-row_covers.field-0 c.in_ok-row_covers.ensures.covers c.if-branch.true
 
 pub loop-at-preserved : goal.loop-at-preserved
 loop-at-preserved c =
-    let first = c.args.plans.now in
-    let now = c.loop-at.plans in
+    let first = c.args.self.now in
+    let now = c.loop-at.self in
     let same = c.loop-at.invariant.same in
+    let row = c.row_covers.new.row in
     record {
-      same = keeps-on first now c.row_covers.new.plans same c.in_ok-row_covers.ensures.same;
-      rows = All-set (IsRowOfPlans first) c.loop-at.rows.items c.loop-at.at c.row_covers.new.row (row-kept now first c.row_covers.new.row (keeps-back first now same) c.in_ok-row_covers.ensures.row)
-          c.loop-at.invariant.rows;
+      same = c.in_ok-row_covers.ensures.same ∙ same;
+      rows = All-set (IsRowOf first) c.loop-at.rows.items c.loop-at.at row (subst (λ (tried : TriedShape). IsRowOf tried row) same c.in_ok-row_covers.ensures.row) c.loop-at.invariant.rows;
       points = points-stay c.args.rows.now.items c.loop-at.rows.items c.loop-at.at c.index_mut.result.now c.row_covers.new.row c.index_mut.ensures.value c.in_ok-row_covers.ensures.point
           c.loop-at.invariant.points;
       none = none-covers first now same c.args.place c.args.point.now c.args.rows.now.items c.loop-at.rows.items c.loop-at.at c.index_mut.result.now

@@ -6,7 +6,7 @@ use Rattle.cost_model.specs.Costing.{costing_tree}
 use Rattle.learned_run.specs.declared.rows.FrontierRow.{FrontierRow}
 use Rattle.learned_run.specs.Covering.{IsBareRow}
 use Rattle.learned_run.proofs.Looked.{row_points, points-more}
-use Rattle.learned_run.proofs.bare.kept_rows.Goals as goal
+use Rattle.learned_run.proofs.rows.kept_rows.Goals as goal
 
 pub loop-point-preserved : goal.loop-point-preserved
 loop-point-preserved c =
