@@ -38,13 +38,10 @@ skip_point costing threshold exhausted member = skip_by costing threshold member
 abbrev pub is_skipped : CostingTree → (threshold : ℕ) → (exhausted : List Member) → Member → Bool
 is_skipped costing threshold exhausted member = is_some (skip_point costing threshold exhausted member)
 
--- the executions under budgets that aren't skipped, where all of them are exhausted; and the end of a run over these. The last
--- execution, without a budget, is never skipped
-abbrev pub learned_members : BouquetTree → List Member
-learned_members bouquet = without_skipped (is_skipped bouquet.costing bouquet.threshold) [] (schedule bouquet)
-
+-- the end of a run over the executions under budgets that aren't skipped, where all of them are exhausted. The last execution,
+-- without a budget, is never skipped
 abbrev pub learned_end : BouquetTree → (work : PlanTree → ℕ) → RunEnd
-learned_end bouquet work = end_of work (learned_members bouquet) (final_plan bouquet)
+learned_end bouquet work = end_of work (without_skipped (is_skipped bouquet.costing bouquet.threshold) [] (schedule bouquet)) (final_plan bouquet)
 
 -- the skip of a member, by this point
 abbrev pub skip_of : Member → (point : List ℕ) → Skip

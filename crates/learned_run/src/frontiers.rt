@@ -8,7 +8,7 @@ ghost use Rattle.bouquet_type.specs.Trees.{bouquet_tree};
 ghost use Rattle.learned_run.specs.Skips.{covers_above};
 ghost use Rattle.learned_run.specs.Covering.{AreBareRows, IsMemberOf, IsStepOf, costing_shape, member_of, step_skip};
 
-use crate::probes::probe_covers;
+use crate::probes::{CoverTest, probe_covers};
 use crate::rows::{FrontierRow, found_rows, kept_rows};
 use crate::tried::TriedPlans;
 use bouquet_type::{Attempt, Bouquet};
@@ -162,10 +162,12 @@ impl<'c> Frontiers<'c> {
         };
         let _contours = self.bouquet.contours();
         let kept = &outline.frontiers[step.contour as usize - 1];
-        let points = kept.as_slice();
-        let costs = outline.costs.as_slice();
-        let threshold = self.bouquet.threshold();
-        probe_covers(self.costing, costs, threshold, step.plan, points, point)
+        let test = CoverTest {
+            costing: self.costing,
+            costs: outline.costs.as_slice(),
+            threshold: self.bouquet.threshold(),
+        };
+        probe_covers(&test, step.plan, kept.as_slice(), point)
     }
 
     /// By which point an execution is skipped, if it is, where this one is learned. An error is want of memory.

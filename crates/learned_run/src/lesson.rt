@@ -1,11 +1,11 @@
 // What a run has learned so far.
-ghost use Rattle.std.specs.Prelude.{◌≡◌, [], true, None, IfSome, if◌then◌else◌, map};
-ghost use Rattle.ess_grid.specs.Points.{IsPoint, points_of};
+ghost use Rattle.std.specs.Prelude.{◌≡◌, [], true, None, IfSome, if◌then◌else◌};
+ghost use Rattle.ess_grid.specs.Points.{IsPoint};
 ghost use Rattle.query_block.specs.Blocks.{block_tree};
 ghost use Rattle.plan_tree.specs.Plans.{plan_tree};
 ghost use Rattle.plan_tree.specs.Enumerated.{IsPlan};
 ghost use Rattle.cost_model.specs.Costing.{costing_tree};
-ghost use Rattle.cost_model.specs.Optimal.{optimal_cost};
+ghost use Rattle.plan_space.specs.Surface.{optimal_costs};
 ghost use Rattle.learned_run.specs.Raising.{IsLearned, RulesOut};
 
 use crate::corners::even;
@@ -47,8 +47,7 @@ impl Lesson {
     /// of the grid, in its order, are used where they are known.
     pub(crate) fn learn(&mut self, costing: &Costing<'_>, costs: Option<&[u128]>, step: Attempt<'_>)
         requires plan { IsPlan (block_tree costing.now.block) (plan_tree step.plan.now) }
-        requires costs { IfSome costs (λ costs. costs.now
-            ≡ map (optimal_cost (costing_tree costing.now)) (points_of costing.now.grid)) }
+        requires costs { IfSome costs (λ costs. costs.now ≡ optimal_costs (costing_tree costing.now)) }
         requires point { IfSome self.old.least (IsPoint costing.now.grid) }
         ensures some { IfSome step.entry.budget (λ _. self.new.some ≡ true) }
         ensures levels { IfSome step.entry.budget (λ budget. RulesOut (costing_tree costing.now)

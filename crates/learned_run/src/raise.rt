@@ -1,14 +1,14 @@
 // How the least levels of the points that are left rise. Costs grow with selectivity, so these points are closed upwards, and
 // on each axis the least level is the first at whose corner, the top but for this level, all plans cost more than their
 // budgets. Where even the best plan costs more at these corners, nothing rises: so much the optimal costs tell, without a plan.
-ghost use Rattle.std.specs.Prelude.{◌≡◌, ◌<◌, IfSome, IsTrue, map, slice_index};
-ghost use Rattle.ess_grid.specs.Points.{IsPoint, points_of, top_of};
+ghost use Rattle.std.specs.Prelude.{◌≡◌, ◌<◌, IfSome, IsTrue, slice_index};
+ghost use Rattle.ess_grid.specs.Points.{IsPoint, top_of};
 ghost use Rattle.query_block.specs.Blocks.{block_tree};
 ghost use Rattle.plan_tree.specs.Plans.{plan_tree};
 ghost use Rattle.plan_tree.specs.Enumerated.{IsPlan};
 ghost use Rattle.cost_model.specs.Costing.{costing_tree};
 ghost use Rattle.cost_model.specs.Costs.{cost_of};
-ghost use Rattle.cost_model.specs.Optimal.{optimal_cost};
+ghost use Rattle.plan_space.specs.Surface.{optimal_costs};
 ghost use Rattle.learned_run.specs.Raising.{ArePast, IsLevelPast, IsRaised, RulesOut};
 
 use crate::corners::{corner, even, highest};
@@ -57,8 +57,7 @@ fn raised(costing: &Costing<'_>, p: &Plan, budget: u128, point: &Point) -> Point
 
 // Whether the optimal costs are above a budget at the top, and at the corner of each of a point's levels.
 fn are_past(costing: &Costing<'_>, costs: &[u128], budget: u128, point: &Point) -> bool
-    requires costs { costs.now
-        ≡ map (optimal_cost (costing_tree costing.now)) (points_of costing.now.grid) }
+    requires costs { costs.now ≡ optimal_costs (costing_tree costing.now) }
     requires point { IsPoint costing.now.grid point.now }
     ensures { IsTrue result → ArePast (costing_tree costing.now) budget point.now }
 {
@@ -82,8 +81,7 @@ pub(crate) fn rule_out(
     budget: u128,
 ) -> Option<Point>
     requires plan { IsPlan (block_tree costing.now.block) (plan_tree p.now) }
-    requires costs { IfSome costs (λ costs. costs.now
-        ≡ map (optimal_cost (costing_tree costing.now)) (points_of costing.now.grid)) }
+    requires costs { IfSome costs (λ costs. costs.now ≡ optimal_costs (costing_tree costing.now)) }
     requires point { IfSome least (IsPoint costing.now.grid) }
     ensures levels { RulesOut (costing_tree costing.now) (plan_tree p.now) budget least result }
     ensures of_grid { IfSome result (IsPoint costing.now.grid) }

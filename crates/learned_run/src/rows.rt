@@ -1,10 +1,10 @@
 // The rows of a contour's frontier, one for each of its points, made with nothing worked out of which plans cover them.
-ghost use Rattle.std.specs.Prelude.{◌≡◌, ◌≤◌, All, IfOk, map};
+ghost use Rattle.std.specs.Prelude.{◌≡◌, ◌≤◌, All, IfOk};
 ghost use Rattle.sql_values.specs.Limits.{max_contour_cost};
-ghost use Rattle.ess_grid.specs.Points.{IsPoint, points_of};
+ghost use Rattle.ess_grid.specs.Points.{IsPoint};
 ghost use Rattle.cost_model.specs.Costing.{costing_tree};
 ghost use Rattle.cost_model.specs.Frontier.{frontier};
-ghost use Rattle.cost_model.specs.Optimal.{optimal_cost};
+ghost use Rattle.plan_space.specs.Surface.{optimal_costs};
 ghost use Rattle.learned_run.specs.Covering.{AreBareRows};
 
 use crate::optima::optimal_at;
@@ -31,8 +31,7 @@ pub(crate) fn kept_rows(
     costs: &[u128],
     points: &[Point],
 ) -> Result<Vec<FrontierRow>, AllocError>
-    requires costs { costs.now
-        ≡ map (optimal_cost (costing_tree costing.now)) (points_of costing.now.grid) }
+    requires costs { costs.now ≡ optimal_costs (costing_tree costing.now) }
     requires points { All (IsPoint costing.now.grid) points.now }
     ensures { IfOk result (λ rows. AreBareRows (costing_tree costing.now) points.now rows.items) }
 {

@@ -6,5 +6,5 @@ use Rattle.learned_run.proofs.probes.covers_at.Goals as goal
 
 pub is_covered-requires-clause-optimal : goal.is_covered-requires-clause-optimal
 is_covered-requires-clause-optimal c =
-    let least = optimal-least (costing_tree c.args.costing.now) (plan_tree c.args.p.now) c.args.point.now c.requires.plan in
-    omega (arith, least, c.optimal_at.ensures, c.cost-cost.ensures.cost, c.cost-cost.ensures.bound)
+    let least = optimal-least (costing_tree c.args.test.now.costing.now) (plan_tree c.args.p.now) c.args.point.now c.requires.plan in
+    omega (arith, least, c.optimal_at-optimal.ensures, c.cost-cost.ensures.cost, c.cost-cost.ensures.bound)

@@ -12,15 +12,15 @@ use Rattle.learned_run.proofs.probes.probe_covers.Goals as goal
 
 pub returns-then-covers_at : goal.returns-then-covers_at
 returns-then-covers_at c = λ _.
-    let costing = costing_tree c.args.costing.now in
+    let costing = costing_tree c.args.test.now.costing.now in
     let p = plan_tree c.args.p.now in
     let point = c.args.point.now in
     let points = c.args.points.now in
     let other = c.index-points-count.result in
     let at = length points - 1 - c.loop-probe.probe * 5 in
-    let test : List ℕ → Bool = λ one. is_at_or_below point one && covers_at costing c.args.threshold p one in
+    let test : List ℕ → Bool = λ one. is_at_or_below point one && covers_at costing c.args.test.now.threshold p one in
     let above : is_at_or_below point other ≡ true = sym (below-told c.below.result point other c.below.ensures) ∙ c.if-below.true in
-    let covers : covers_at costing c.args.threshold p other ≡ true = sym c.covers_at.ensures ∙ c.if-covers_at.true in
+    let covers : covers_at costing c.args.test.now.threshold p other ≡ true = sym c.covers_at.ensures ∙ c.if-covers_at.true in
     let some : 0 < length points =
     elim (cases_lt 0 (length points)) [
       | inl more ↦ more
