@@ -1,24 +1,44 @@
 -- Rows of a frontier that are looked at one after another, and worked out.
-use Rattle.std.proofs.Common.{◌≡◌, ◌∙◌, ℕ, ◌+◌, ◌<◌, ◌++◌, List, [], ◌∷◌, get_or, length, map, set, take, ap, ap₂, sym, arith}
-use Rattle.std.specs.Prelude.{Bool, true, false, ◌&&◌, ◌||◌}
+use Rattle.std.proofs.Common.{◌≡◌, ◌∙◌, ℕ, ◌+◌, ◌<◌, List, [], ◌∷◌, get_or, length, map, set, take, refl, ap, ap₂, sym, arith}
+use Rattle.std.specs.Prelude.{All, Bool, None, true, false, ◌&&◌, ◌||◌}
 use Rattle.std.specs.List.{list_any}
-use Rattle.std.proofs.lemmas.List.{length-map, get_or-map, map_push, take_more}
+use Rattle.std.proofs.lemmas.List.{length-map, get_or-map}
+use Rattle.std.proofs.lemmas.List.Elements.{All-nil, All-cons, All-head, All-tail}
 use Rattle.std.proofs.lemmas.List.Folds.{list_any_more, list_any_at}
 use Rattle.std.proofs.Math.Seq.{map-set_same}
+use Rattle.ess_grid.specs.Points.{IsPoint}
+use Rattle.cost_model.specs.Costing.{CostingTree, costing_tree}
+use Rattle.plan_space.specs.SurfacePoints.{IsSurfacePoint, surface_points}
+use Rattle.plan_space.specs.declared.surface.SurfacePoint.{SurfacePoint}
 use Rattle.learned_run.specs.declared.rows.FrontierRow.{FrontierRow}
 use Rattle.learned_run.specs.Skips.{is_at_or_below}
-use Rattle.learned_run.specs.Covering.{TriedShape, covers_point}
+use Rattle.learned_run.specs.Covering.{IsRowOf, TriedShape, bare_row, covers_point}
 
 abbrev pub row_points : List FrontierRow → List (List ℕ)
 row_points rows = map (λ (row : FrontierRow). row.point) rows
 
--- a row more
-pub points-more : (rows : List FrontierRow) (row : FrontierRow) (points : List (List ℕ)) (at : ℕ) (point : List ℕ) → at < length points → point ≡ get_or points at point → row.point ≡ point
-    → row_points rows ≡ take at points → row_points (rows ++ row ∷ []) ≡ take (at + 1) points
-points-more rows row points at point there is same before =
-    map_push (λ (row : FrontierRow). row.point) rows row
-    ∙ ap₂ (λ (some : List (List ℕ)) (one : List ℕ). some ++ one ∷ []) before (same ∙ is)
-    ∙ sym (take_more points at point there)
+-- the row of a point of a frontier, as it is found with its cost
+abbrev pub row_at : SurfacePoint → FrontierRow
+row_at at = record { point = at.point; cost = at.cost; covers = None }
+
+pub found-bare : (costing : CostingTree) (points : List SurfacePoint) → All (IsSurfacePoint costing) points → map row_at points ≡ map (bare_row costing) (surface_points points)
+found-bare costing [] are = refl
+found-bare costing (at ∷ more) are =
+    ap₂ (λ (cost : ℕ) (rows : List FrontierRow). let row : FrontierRow = record { point = at.point; cost = cost; covers = None } in row ∷ rows)
+    (All-head (IsSurfacePoint costing) at more are).cost (found-bare costing more (All-tail (IsSurfacePoint costing) at more are))
+
+-- rows of which nothing is worked out are rows for any plans, of their points
+pub bare-points : (costing : CostingTree) (points : List (List ℕ)) → row_points (map (bare_row costing) points) ≡ points
+bare-points costing [] = refl
+bare-points costing (point ∷ more) = ap (λ points. point ∷ points) (bare-points costing more)
+
+pub bare-each : (tried : TriedShape) (points : List (List ℕ)) → All (IsPoint tried.costing.grid) points → All (IsRowOf tried) (map (bare_row (costing_tree tried.costing)) points)
+bare-each tried [] are = All-nil (IsRowOf tried)
+bare-each tried (point ∷ more) are =
+    let costing = costing_tree tried.costing in
+    All-cons (IsRowOf tried) (bare_row costing point) (map (bare_row costing) more)
+    (record { point = All-head (IsPoint tried.costing.grid) point more are; cost = refl; covers = tt })
+    (bare-each tried more (All-tail (IsPoint tried.costing.grid) point more are))
 
 -- a row is worked out in its place
 pub points-stay : (first rows : List FrontierRow) (at : ℕ) (row worked : FrontierRow) → row ≡ get_or rows at row → worked.point ≡ row.point → row_points rows ≡ row_points first

@@ -1,22 +1,21 @@
 -- Whether an execution is skipped, by the rows of its contour's frontier.
 use Rattle.std.proofs.Common.{◌≡◌, ◌∙◌, ℕ, ◌-◌, ◌≤◌, ◌<◌, List, [], ◌∷◌, length, map, get_or, refl, ap, ap₂, sym, subst, arith}
-use Rattle.std.specs.Prelude.{All, Bool, IfSome, Option, Some, Vec, slice_get, slice_index}
-use Rattle.std.specs.declared.alloc.Global.{Global}
+use Rattle.std.specs.Prelude.{All, Some, slice_get, slice_index}
 use Rattle.std.proofs.lemmas.List.{length-map, get_or-map}
 use Rattle.std.proofs.lemmas.Option.{slice_get_within, get_or_from_slice_get}
 use Rattle.plan_tree.specs.Plans.{PlanTree, Scan, plan_tree}
 use Rattle.cost_model.specs.Costing.{CostingTree, costing_tree}
 use Rattle.cost_model.specs.Frontier.{frontier}
-use Rattle.cost_model.specs.Greedy.{covers_at}
 use Rattle.plan_space.specs.Parts.{nth_plan}
 use Rattle.bouquet_type.specs.declared.contour.Contour.{Contour}
 use Rattle.bouquet_type.specs.declared.schedule.Attempt.{Attempt}
 use Rattle.bouquet_type.specs.Shapes.{BouquetShape, cost_on}
-use Rattle.bouquet_type.specs.Trees.{BouquetTree, ContourTree, bouquet_tree, contour_tree}
+use Rattle.bouquet_type.specs.Trees.{BouquetTree, ContourTree, IsBouquet, bouquet_tree, contour_tree}
 use Rattle.learned_run.specs.declared.rows.FrontierRow.{FrontierRow}
 use Rattle.learned_run.specs.Skips.{covers_above}
-use Rattle.learned_run.specs.Covering.{AreBareRows, AreOfContour, AreOfNumber, IsBareRow, IsMemberOf, IsNumbered, IsRowOf, TriedShape, costing_shape, member_of}
-use Rattle.learned_run.proofs.Looked.{row_points}
+use Rattle.learned_run.specs.Covering.{AreOfContour, AreOfNumber, IsMemberOf, IsNumbered, IsRowOf, TriedShape, bare_row, costing_shape, member_of}
+use Rattle.learned_run.proofs.Looked.{bare-each, bare-points, row_points}
+use Rattle.learned_run.proofs.Outlines.{frontier-points}
 
 -- the contour of a number, as the bouquet holds it
 numbered-is : (contours : List Contour) (number : ℕ) (contour : ContourTree) (held : Contour) → slice_get (map contour_tree contours) (number - 1) ≡ Some contour
@@ -28,29 +27,22 @@ numbered-is contours number contour held at is =
     ∙ get_or-map contour_tree contours (number - 1) held (contour_tree held) there
     ∙ ap contour_tree (sym is)
 
--- a row of which nothing is worked out is one for any plans
-bare-row : (tried : TriedShape) (row : FrontierRow) → IsBareRow (costing_tree tried.costing) row → IsRowOf tried row
-bare-row tried row is = record {
-  point = is.point;
-  cost = is.cost;
-  covers = subst (λ (covers : Option (Vec Bool Global)). IfSome covers (λ covers. covers.items ≡ map (λ p. covers_at (costing_tree tried.costing) tried.threshold p row.point) tried.plans)) (sym is.bare) tt;
-}
-
 -- the plans of a contour that was come to, and the rows of its frontier
-pub at-hand : (b : BouquetShape) (number : ℕ) (contours : List Contour) (held : Contour) (tried : TriedShape) (rows : List FrontierRow) → contours ≡ b.contours
+pub at-hand : (b : BouquetShape) (number : ℕ) (contours : List Contour) (held : Contour) (tried : TriedShape) (rows : List FrontierRow) → IsBouquet b → contours ≡ b.contours
     → held ≡ get_or contours (number - 1) held → 1 ≤ number → number ≤ length b.contours
     → tried ≡ record { costing = costing_shape b; plans = map plan_tree held.plans.items; threshold = b.threshold }
-    → AreBareRows (bouquet_tree b).costing (frontier (bouquet_tree b).costing (cost_on b number)) rows → AreOfNumber (bouquet_tree b) number tried rows
-at-hand b number contours held tried rows same at some there is bare =
+    → rows ≡ map (bare_row (bouquet_tree b).costing) (frontier (bouquet_tree b).costing (cost_on b number)) → AreOfNumber (bouquet_tree b) number tried rows
+at-hand b number contours held tried rows bouquet same at some there is bare =
     let costing = (bouquet_tree b).costing in
     let made : TriedShape = record { costing = costing_shape b; plans = map plan_tree held.plans.items; threshold = b.threshold } in
+    let points = frontier costing (cost_on b number) in
     let inside : number - 1 < length contours = omega (arith, some, there, ap length same) in
     let cost : cost_on b number ≡ held.cost =
     ap (λ (all : List Contour). slice_index (map (λ (contour : Contour). contour.cost) all) (number - 1)) (sym same)
     ∙ get_or-map (λ (contour : Contour). contour.cost) contours (number - 1) held 0 inside ∙ ap (λ (contour : Contour). contour.cost) (sym at) in
     subst (λ (one : TriedShape). AreOfNumber (bouquet_tree b) number one rows) (sym is)
     (record {
-      each = λ k d within. bare-row made (get_or rows k d) (bare.each k d within);
+      each = subst (All (IsRowOf made)) (sym bare) (bare-each made points (frontier-points costing (cost_on b number) bouquet.costing.grid));
       those = λ contour numbered.
           let listed = subst (λ (cs : List Contour). slice_get (map contour_tree cs) (number - 1) ≡ Some contour) (sym same) numbered.1 in
           let tree = numbered-is contours number contour held listed at in
@@ -58,7 +50,7 @@ at-hand b number contours held tried rows same at some there is bare =
             costing = refl;
             threshold = refl;
             plans = ap (λ (one : ContourTree). one.plans) (sym tree);
-            points = bare.those ∙ ap (frontier costing) (cost ∙ ap (λ (one : ContourTree). one.cost) (sym tree));
+            points = ap row_points bare ∙ bare-points costing points ∙ ap (frontier costing) (cost ∙ ap (λ (one : ContourTree). one.cost) (sym tree));
           };
     })
 

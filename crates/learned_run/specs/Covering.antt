@@ -26,15 +26,9 @@ pub record IsRowOf (tried : TriedShape) (row : FrontierRow) : Type 0 where
   pub cost : row.cost ≡ optimal_cost (costing_tree tried.costing) row.point
   pub covers : IfSome row.covers (λ covers. covers.items ≡ map (λ p. covers_at (costing_tree tried.costing) tried.threshold p row.point) tried.plans)
 
--- the point and the cost where nothing is worked out, and so for each of some points, in order
-pub record IsBareRow (costing : CostingTree) (row : FrontierRow) : Type 0 where
-  pub point : IsPoint costing.grid row.point
-  pub cost : row.cost ≡ optimal_cost costing row.point
-  pub bare : row.covers ≡ None
-
-pub record AreBareRows (costing : CostingTree) (points : List (List ℕ)) (rows : List FrontierRow) : Type 0 where
-  pub those : map (λ row. row.point) rows ≡ points
-  pub each : All (IsBareRow costing) rows
+-- the row of a point while nothing is worked out
+abbrev pub bare_row : CostingTree → (point : List ℕ) → FrontierRow
+bare_row costing point = record { point = point; cost = optimal_cost costing point; covers = None }
 
 -- whether the plan at this place covers a point
 abbrev pub covers_point : TriedShape → (place : ℕ) → (point : List ℕ) → Bool

@@ -1,12 +1,12 @@
 // The frontiers of a bouquet's contours, of which one is at hand: that of the plan that was asked for last.
-ghost use Rattle.std.specs.Prelude.{◌≡◌, ◌≤◌, IfOk, IsTrue, OnOk, length, true};
+ghost use Rattle.std.specs.Prelude.{◌≡◌, ◌≤◌, IfOk, IsTrue, OnOk, length, map, true};
 ghost use Rattle.plan_tree.specs.Plans.{plan_tree};
 ghost use Rattle.plan_tree.specs.Enumerated.{IsPlan};
 ghost use Rattle.cost_model.specs.Frontier.{frontier};
 ghost use Rattle.bouquet_type.specs.Shapes.{cost_on};
 ghost use Rattle.bouquet_type.specs.Trees.{bouquet_tree};
 ghost use Rattle.learned_run.specs.Skips.{covers_above};
-ghost use Rattle.learned_run.specs.Covering.{AreBareRows, IsMemberOf, IsStepOf, costing_shape, member_of, step_skip};
+ghost use Rattle.learned_run.specs.Covering.{IsMemberOf, IsStepOf, bare_row, costing_shape, member_of, step_skip};
 
 use crate::probes::{CoverTest, probe_covers};
 use crate::rows::{FrontierRow, found_rows, kept_rows};
@@ -82,9 +82,8 @@ impl<'c> Frontiers<'c> {
     fn bare_rows(&mut self, alloc: Global, number: u32) -> Result<Vec<FrontierRow>, AllocError>
         requires some { 1 ≤ number }
         requires there { number ≤ length self.old.bouquet.contours }
-        ensures rows { IfOk result (λ rows. AreBareRows (bouquet_tree self.old.bouquet).costing
-            (frontier (bouquet_tree self.old.bouquet).costing (cost_on self.old.bouquet number))
-            rows.items) }
+        ensures rows { let costing = (bouquet_tree self.old.bouquet).costing in IfOk result (λ rows.
+            rows.items ≡ map (bare_row costing) (frontier costing (cost_on self.old.bouquet number))) }
         ensures same { self.new ≡ self.old }
     {
         let place = number as usize - 1;

@@ -1,11 +1,11 @@
 // The rows of a contour's frontier, one for each of its points, made with nothing worked out of which plans cover them.
-ghost use Rattle.std.specs.Prelude.{◌≡◌, ◌≤◌, All, IfOk};
+ghost use Rattle.std.specs.Prelude.{◌≡◌, ◌≤◌, All, IfOk, map};
 ghost use Rattle.sql_values.specs.Limits.{max_contour_cost};
 ghost use Rattle.ess_grid.specs.Points.{IsPoint};
 ghost use Rattle.cost_model.specs.Costing.{costing_tree};
 ghost use Rattle.cost_model.specs.Frontier.{frontier};
 ghost use Rattle.plan_space.specs.Surface.{optimal_costs};
-ghost use Rattle.learned_run.specs.Covering.{AreBareRows};
+ghost use Rattle.learned_run.specs.Covering.{bare_row};
 
 use crate::optima::optimal_at;
 use cost_model::Costing;
@@ -33,7 +33,8 @@ pub(crate) fn kept_rows(
 ) -> Result<Vec<FrontierRow>, AllocError>
     requires costs { costs.now ≡ optimal_costs (costing_tree costing.now) }
     requires points { All (IsPoint costing.now.grid) points.now }
-    ensures { IfOk result (λ rows. AreBareRows (costing_tree costing.now) points.now rows.items) }
+    ensures { IfOk result (λ rows. rows.items
+        ≡ map (bare_row (costing_tree costing.now)) points.now) }
 {
     let mut rows = Vec::with_capacity(alloc, points.len())?;
     for point in points {
@@ -53,8 +54,8 @@ pub(crate) fn found_rows(
     cost: u128,
 ) -> Result<Vec<FrontierRow>, AllocError>
     requires { cost ≤ max_contour_cost }
-    ensures { IfOk result (λ rows. AreBareRows (costing_tree surface.now)
-        (frontier (costing_tree surface.now) cost) rows.items) }
+    ensures { IfOk result (λ rows. rows.items
+        ≡ map (bare_row (costing_tree surface.now)) (frontier (costing_tree surface.now) cost)) }
 {
     let frontier = surface.frontier(alloc, cost)?;
     let points = frontier.as_slice();

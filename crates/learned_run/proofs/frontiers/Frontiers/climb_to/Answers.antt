@@ -2,8 +2,8 @@ use Rattle.std.proofs.Common.{◌≡◌, ◌∙◌, ◌≤◌, length, map, ap, 
 use Rattle.plan_tree.specs.Plans.{plan_tree}
 use Rattle.cost_model.specs.Frontier.{frontier}
 use Rattle.bouquet_type.specs.Shapes.{BouquetShape, cost_on}
-use Rattle.bouquet_type.specs.Trees.{bouquet_tree}
-use Rattle.learned_run.specs.Covering.{AreBareRows, FrontiersShape, costing_shape}
+use Rattle.bouquet_type.specs.Trees.{IsBouquet, bouquet_tree}
+use Rattle.learned_run.specs.Covering.{FrontiersShape, bare_row, costing_shape}
 use Rattle.learned_run.proofs.Stepped.{at-hand}
 use Rattle.learned_run.proofs.frontiers.Frontiers.climb_to.Goals as goal
 
@@ -22,8 +22,8 @@ invariant_of-self c =
     record {
       same = c.self-2.invariant.same;
       made = c.self-2.invariant.made;
-      at_hand = at-hand b c.args.number c.contours.result.now contour c.in_ok-plans.plans rows (c.contours.ensures.contours ∙ ap (λ (b : BouquetShape). b.contours) same)
+      at_hand = at-hand b c.args.number c.contours.result.now contour c.in_ok-plans.plans rows (subst IsBouquet same c.contours.ensures.bouquet) (c.contours.ensures.contours ∙ ap (λ (b : BouquetShape). b.contours) same)
           c.index-contours-number.is c.requires.some there
           (c.in_ok-plans.ensures ∙ λ i. record { costing = costing i; plans = map plan_tree (value i); threshold = percent i })
-          (subst (λ (b : BouquetShape). AreBareRows (bouquet_tree b).costing (frontier (bouquet_tree b).costing (cost_on b c.args.number)) rows) seen c.in_ok-rows.ensures.rows);
+          (subst (λ (b : BouquetShape). rows ≡ map (bare_row (bouquet_tree b).costing) (frontier (bouquet_tree b).costing (cost_on b c.args.number))) seen c.in_ok-rows.ensures.rows);
     }
