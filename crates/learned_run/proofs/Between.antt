@@ -37,7 +37,7 @@ use Rattle.learned_run.specs.Learning.{learned_point}
 use Rattle.learned_run.specs.Skips.{IsSkipOf, covers_above, is_skipped, learned_end, skip_by, skip_of, skip_point, skips_among, skips_of}
 use Rattle.learned_run.specs.Outcomes.{AnswersLearned}
 use Rattle.learned_run.specs.Raising.{IsLearned, RulesOut}
-use Rattle.learned_run.specs.Covering.{IsMemberOf, IsStepOf, member_of, step_skip}
+use Rattle.learned_run.specs.Covering.{IsMemberOf, member_of, step_skip}
 use Rattle.learned_run.proofs.RuledOut.{learned-is, learned-more}
 use Rattle.learned_run.proofs.Members.{members-are}
 use Rattle.learned_run.proofs.Unskipped.{learned-bound}
@@ -102,10 +102,11 @@ step-at : (old new : ScheduleState) (step : Attempt) → TakesNext old new → a
     → IsStepAt (members_left old) step
 step-at old new step takes is = first-step (members_left old) (final_plan old.ladder.whole) new step (is ∙ takes.step) takes.first
 
-member-step : (bouquet : BouquetTree) (left : List Member) (step : Attempt) → All (IsMemberOf bouquet) left → IsStepAt left step → IsStepOf bouquet step step.budget
-member-step bouquet [] step members at = subst (IsStepOf bouquet step) (sym at) tt
+member-step : (bouquet : BouquetTree) (left : List Member) (step : Attempt) → All (IsMemberOf bouquet) left → IsStepAt left step
+    → IfSome step.budget (λ budget. IsMemberOf bouquet (member_of step budget))
+member-step bouquet [] step members at = subst (λ (budget : Option ℕ). IfSome budget (λ budget. IsMemberOf bouquet (member_of step budget))) (sym at) tt
 member-step bouquet (member ∷ more) step members at =
-    subst (IsStepOf bouquet step) (sym at.0) (subst (IsMemberOf bouquet) (sym at.1) (All-head (IsMemberOf bouquet) member more members))
+    subst (λ (budget : Option ℕ). IfSome budget (λ budget. IsMemberOf bouquet (member_of step budget))) (sym at.0) (subst (IsMemberOf bouquet) (sym at.1) (All-head (IsMemberOf bouquet) member more members))
 
 -- its place is one on a contour
 pub place-few : (state : ScheduleState) → IsSchedule state → state.given ≤ 4096
@@ -228,7 +229,7 @@ module _ (bouquet : BouquetTree) (first old : Engine) (now next : ScheduleState)
   stands : IsStepAt left step
   stands = step-at now next step takes at place cost
 
-  pub step-of : IsStepOf bouquet step step.budget
+  pub step-of : IfSome step.budget (λ budget. IsMemberOf bouquet (member_of step budget))
   step-of = member-step bouquet left step is.members stands
 
   module _ (learned : Option (List ℕ)) (same : learned ≡ (if lesson.some then lesson.least else None)) where

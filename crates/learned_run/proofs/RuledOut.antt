@@ -1,6 +1,7 @@
 -- The least levels of the points that are left rise as is defined.
 use Rattle.std.proofs.Common.{◌≡◌, ◌∙◌, inl, inr, ℕ, ◌<◌, ◌≤◌, ◌++◌, List, [], ◌∷◌, refl, ap, sym, subst, arith}
 use Rattle.std.specs.Prelude.{Bool, Option, Some, None, true, false, slice_index, IfSome, if◌then◌else◌}
+use Rattle.std.specs.List.{list_any}
 use Rattle.std.proofs.lemmas.List.{length-replicate, get_or-replicate}
 use Rattle.std.proofs.lemmas.List.Elements.{All-replicate}
 use Rattle.std.proofs.lemmas.Bool.{cases_lt}
@@ -12,11 +13,12 @@ use Rattle.plan_tree.specs.Enumerated.{IsPlan}
 use Rattle.plan_tree.proofs.Members.{IsIn}
 use Rattle.cost_model.specs.Costing.{CostingTree}
 use Rattle.cost_model.specs.Costs.{cost_of}
+use Rattle.cost_model.specs.Optimal.{optimal_cost}
 use Rattle.cost_model.proofs.Least.{optimal-least}
 use Rattle.cost_model.proofs.Monotone.{cost-le}
 use Rattle.bouquet_type.specs.Schedule.{Member}
 use Rattle.learned_run.specs.Learning.{learned_point, least_levels, points_left}
-use Rattle.learned_run.specs.Raising.{ArePast, IsRaised, RulesOut, IsLearned, are_some, corner_of}
+use Rattle.learned_run.specs.Raising.{IsRaised, RulesOut, IsLearned, corner_of}
 use Rattle.learned_run.proofs.Left.{left-above, left-still, left-before, in-left, of-left}
 use Rattle.learned_run.proofs.Levels.{AreLeast, levels-are, are-levels, no-points, levels-none}
 use Rattle.learned_run.proofs.CornerPoints.{corner-level, corner-point, below-corner}
@@ -98,7 +100,7 @@ module _ (costing : CostingTree) (exhausted : List Member) (member : Member) (is
       )
   ruled-out (Some before) (Some after) is rules = sym (are-levels costing.grid still after (raised-least before after (sym is) rules))
 
-some-behind : (exhausted : List Member) (member : Member) → true ≡ are_some (exhausted ++ member ∷ [])
+some-behind : (exhausted : List Member) (member : Member) → true ≡ list_any (λ _. true) (exhausted ++ member ∷ [])
 some-behind [] member = refl
 some-behind (first ∷ more) member = refl
 
@@ -119,14 +121,15 @@ stays-raised costing p budget point is_point past =
 
 -- so where even the best plan costs more at the top and at the corners
 pub stays-past : (costing : CostingTree) (p : PlanTree) (budget : ℕ) (point : List ℕ) → IsPlan costing.block p → IsPoint costing.grid point
-    → ArePast costing budget point → IsRaised costing p budget point point
+    → (budget < optimal_cost costing (top_of costing.grid)) × ((axis : ℕ) → axis < costing.grid.axes → budget < optimal_cost costing (corner_of costing.grid axis (slice_index point axis)))
+    → IsRaised costing p budget point point
 stays-past costing p budget point plan is_point past = record {
   of_grid = is_point;
-  top = omega (arith, past.top, optimal-least costing p (top_of costing.grid) plan);
+  top = omega (arith, past.0, optimal-least costing p (top_of costing.grid) plan);
   levels = λ axis there. record {
     risen = omega arith;
     past =
-        omega (arith, past.corners axis there, optimal-least costing p (corner_of costing.grid axis (slice_index point axis)) plan);
+        omega (arith, past.1 axis there, optimal-least costing p (corner_of costing.grid axis (slice_index point axis)) plan);
     within = λ lower least less. absurd (omega (arith, least, less));
   };
 }

@@ -7,7 +7,7 @@ use Rattle.cost_model.specs.Frontier.{frontier}
 use Rattle.cost_model.specs.Greedy.{covers_at}
 use Rattle.cost_model.specs.Optimal.{optimal_cost}
 use Rattle.plan_space.specs.Parts.{nth_plan}
-use Rattle.bouquet_type.specs.Trees.{BouquetTree, ContourTree, bouquet_tree}
+use Rattle.bouquet_type.specs.Trees.{BouquetTree, ContourTree}
 use Rattle.bouquet_type.specs.Shapes.{BouquetShape}
 use Rattle.bouquet_type.specs.Schedule.{Member}
 use Rattle.bouquet_type.specs.declared.schedule.Attempt.{Attempt}
@@ -67,11 +67,6 @@ abbrev pub member_of : Attempt → (budget : ℕ) → Member
 member_of step budget =
     record { plan = plan_tree step.plan.now; budget = budget; contour = step.contour; place = step.place; cost = step.cost }
 
--- it is one of the bouquet; or the last execution, without a budget
-abbrev pub IsStepOf : BouquetTree → Attempt → (budget : Option ℕ) → Type 0
-IsStepOf bouquet step None = Unit {0}
-IsStepOf bouquet step (Some budget) = IsMemberOf bouquet (member_of step budget)
-
 -- by which point it is skipped
 abbrev pub step_skip : BouquetTree → Attempt → (learned : Option (List ℕ)) → (budget : Option ℕ) → Option (List ℕ)
 step_skip bouquet step learned None = None
@@ -85,9 +80,3 @@ costing_shape bouquet = record { block = bouquet.block; stats = bouquet.stats; g
 pub record FrontiersShape : Type 0 where
   pub bouquet : BouquetShape
   pub number : ℕ
-
--- what is known of a bouquet's frontiers: the optimal costs, once they are asked for, and the contour at hand
-pub record AreFrontiers (frontiers : FrontiersShape) (costing : CostingShape) (surface : Option CostingShape) (plans : Option TriedShape) (rows : List FrontierRow) : Type 0 where
-  pub same : costing ≡ costing_shape frontiers.bouquet
-  pub made : IfSome surface (λ shape. shape ≡ costing_shape frontiers.bouquet)
-  pub at_hand : AreAtHand (bouquet_tree frontiers.bouquet) frontiers.number plans rows

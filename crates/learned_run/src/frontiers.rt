@@ -1,12 +1,12 @@
 // The frontiers of a bouquet's contours, of which one is at hand: that of the plan that was asked for last.
-ghost use Rattle.std.specs.Prelude.{◌≡◌, ◌≤◌, IfOk, IsTrue, OnOk, length, map, true};
+ghost use Rattle.std.specs.Prelude.{◌≡◌, ◌≤◌, IfOk, IfSome, IsTrue, OnOk, length, map, true};
 ghost use Rattle.plan_tree.specs.Plans.{plan_tree};
 ghost use Rattle.plan_tree.specs.Enumerated.{IsPlan};
 ghost use Rattle.cost_model.specs.Frontier.{frontier};
 ghost use Rattle.bouquet_type.specs.Shapes.{cost_on};
 ghost use Rattle.bouquet_type.specs.Trees.{bouquet_tree};
 ghost use Rattle.learned_run.specs.Skips.{covers_above};
-ghost use Rattle.learned_run.specs.Covering.{IsMemberOf, IsStepOf, bare_row, costing_shape, member_of, step_skip};
+ghost use Rattle.learned_run.specs.Covering.{IsMemberOf, bare_row, costing_shape, member_of, step_skip};
 
 use crate::probes::{CoverTest, probe_covers};
 use crate::rows::{FrontierRow, found_rows, kept_rows};
@@ -35,7 +35,9 @@ impl<'c> Model for Frontiers<'c> {
     ghost use Rattle.query_block.specs.contracts.condition.Condition as condition;
     ghost use Rattle.plan_tree.specs.contracts.plan.Plan as plan;
     ghost use Rattle.std.specs.Coded.{codes};
-    ghost use Rattle.learned_run.specs.Covering.{AreFrontiers, FrontiersShape};
+    ghost use Rattle.std.specs.Prelude.{◌≡◌, IfSome};
+    ghost use Rattle.bouquet_type.specs.Trees.{bouquet_tree};
+    ghost use Rattle.learned_run.specs.Covering.{AreAtHand, FrontiersShape, costing_shape};
 
     ghost Value = { FrontiersShape };
 
@@ -43,8 +45,9 @@ impl<'c> Model for Frontiers<'c> {
 
     ghost view = { λ f. record { bouquet = f.bouquet.now; number = f.number } };
 
-    ghost invariant = { λ f. AreFrontiers (record { bouquet = f.bouquet.now; number = f.number })
-        f.costing.now f.surface f.plans f.rows.items };
+    ghost invariant = { λ f. (f.costing.now ≡ costing_shape f.bouquet.now)
+        × IfSome f.surface (λ shape. shape ≡ costing_shape f.bouquet.now)
+        × AreAtHand (bouquet_tree f.bouquet.now) f.number f.plans f.rows.items };
 }
 
 impl<'c> Frontiers<'c> {
@@ -176,7 +179,8 @@ impl<'c> Frontiers<'c> {
         step: Attempt<'_>,
         learned: Option<Point>,
     ) -> Result<Option<Point>, AllocError>
-        requires step { IsStepOf (bouquet_tree self.old.bouquet) step step.budget }
+        requires step { IfSome step.budget (λ budget.
+            IsMemberOf (bouquet_tree self.old.bouquet) (member_of step budget)) }
         requires plan { IsPlan (bouquet_tree self.old.bouquet).costing.block (plan_tree step.plan.now) }
         ensures skip { IfOk result (λ skipped. skipped
             ≡ step_skip (bouquet_tree self.old.bouquet) step.entry learned step.entry.budget) }

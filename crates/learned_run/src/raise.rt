@@ -1,15 +1,16 @@
 // How the least levels of the points that are left rise. Costs grow with selectivity, so these points are closed upwards, and
 // on each axis the least level is the first at whose corner, the top but for this level, all plans cost more than their
 // budgets. Where even the best plan costs more at these corners, nothing rises: so much the optimal costs tell, without a plan.
-ghost use Rattle.std.specs.Prelude.{◌≡◌, ◌<◌, IfSome, IsTrue, slice_index};
+ghost use Rattle.std.specs.Prelude.{◌≡◌, ℕ, ◌<◌, IfSome, IsTrue, slice_index};
 ghost use Rattle.ess_grid.specs.Points.{IsPoint, top_of};
 ghost use Rattle.query_block.specs.Blocks.{block_tree};
 ghost use Rattle.plan_tree.specs.Plans.{plan_tree};
 ghost use Rattle.plan_tree.specs.Enumerated.{IsPlan};
 ghost use Rattle.cost_model.specs.Costing.{costing_tree};
 ghost use Rattle.cost_model.specs.Costs.{cost_of};
+ghost use Rattle.cost_model.specs.Optimal.{optimal_cost};
 ghost use Rattle.plan_space.specs.Surface.{optimal_costs};
-ghost use Rattle.learned_run.specs.Raising.{ArePast, IsLevelPast, IsRaised, RulesOut};
+ghost use Rattle.learned_run.specs.Raising.{IsLevelPast, IsRaised, RulesOut, corner_of};
 
 use crate::corners::{corner, even, highest};
 use crate::optima::optimal_at;
@@ -59,7 +60,10 @@ fn raised(costing: &Costing<'_>, p: &Plan, budget: u128, point: &Point) -> Point
 fn are_past(costing: &Costing<'_>, costs: &[u128], budget: u128, point: &Point) -> bool
     requires costs { costs.now ≡ optimal_costs (costing_tree costing.now) }
     requires point { IsPoint costing.now.grid point.now }
-    ensures { IsTrue result → ArePast (costing_tree costing.now) budget point.now }
+    ensures { let optimal = optimal_cost (costing_tree costing.now) in IsTrue result
+        → (budget < optimal (top_of costing.now.grid))
+        × ((axis : ℕ) → axis < costing.now.grid.axes → budget
+        < optimal (corner_of costing.now.grid axis (slice_index point.now axis))) }
 {
     let grid = costing.grid();
     let levels = point.levels();

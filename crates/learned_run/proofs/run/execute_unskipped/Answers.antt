@@ -15,7 +15,7 @@ use Rattle.bouquet_run.proofs.Stepping.{keeps-on, may-execute}
 use Rattle.learned_run.specs.declared.learned.Skip.{Skip}
 use Rattle.learned_run.specs.Raising.{IsLearned, RulesOut}
 use Rattle.learned_run.specs.Skips.{learned_end}
-use Rattle.learned_run.specs.Covering.{IsStepOf, step_skip}
+use Rattle.learned_run.specs.Covering.{IsMemberOf, member_of, step_skip}
 use Rattle.learned_run.proofs.Between.{IsLearning, due_among, learning-answered, learning-begun, learning-on, learning-refused, learning-skipped, place-few, step-of, works_of}
 use Rattle.learned_run.proofs.run.execute_unskipped.Goals as goal
 
@@ -40,7 +40,7 @@ skip_point-requires-clause-step c =
     let step = c.attempt-step.result in
     let of = step-of (bouquet_tree c.args.b.now) c.args.engine.now c.steps.engine (schedule_of ladder_of c.steps.schedule) (schedule_of ladder_of c.next.new.self) c.steps.runs c.steps.skips.items c.steps.lesson step
     c.steps.invariant.learning c.in_ok-next.ensures.goes_on c.attempt-step.ensures.step c.attempt-step.ensures.place c.attempt-step.ensures.cost in
-    subst (λ (one : BouquetShape). IsStepOf (bouquet_tree one) step step.budget) (sym c.steps.invariant.frontiers) of
+    subst (λ (one : BouquetShape). IfSome step.budget (λ budget. IsMemberOf (bouquet_tree one) (member_of step budget))) (sym c.steps.invariant.frontiers) of
 
 pub skip_point-requires-clause-plan : goal.skip_point-requires-clause-plan
 skip_point-requires-clause-plan c =

@@ -17,13 +17,12 @@ invariant_of-self c =
     let there : c.args.number ≤ length b.contours =
     omega (arith, c.requires.there, ap (λ (b : BouquetShape). length b.contours) seen) in
     let value = c.deref.ensures.value in
-    let costing : c.self.inside.costing.now ≡ costing_shape b = c.self.invariant.same ∙ ap costing_shape same in
-    let percent : c.threshold-threshold.result ≡ b.threshold = c.threshold-threshold.ensures ∙ ap (λ (b : BouquetShape). b.threshold) same in
-    record {
-      same = c.self-2.invariant.same;
-      made = c.self-2.invariant.made;
-      at_hand = at-hand b c.args.number c.contours.result.now contour c.in_ok-plans.plans rows (subst IsBouquet same c.contours.ensures.bouquet) (c.contours.ensures.contours ∙ ap (λ (b : BouquetShape). b.contours) same)
+    let costing : c.self.inside.costing.now ≡ costing_shape b = c.self.invariant.0 ∙ ap costing_shape same in
+    let percent : c.threshold-threshold.result ≡ b.threshold = c.threshold-threshold.ensures ∙ ap (λ (b : BouquetShape). b.threshold) same in (
+      c.self-2.invariant.0,
+      c.self-2.invariant.1,
+      at-hand b c.args.number c.contours.result.now contour c.in_ok-plans.plans rows (subst IsBouquet same c.contours.ensures.bouquet) (c.contours.ensures.contours ∙ ap (λ (b : BouquetShape). b.contours) same)
           c.index-contours-number.is c.requires.some there
           (c.in_ok-plans.ensures ∙ λ i. record { costing = costing i; plans = map plan_tree (value i); threshold = percent i })
-          (subst (λ (b : BouquetShape). rows ≡ map (bare_row (bouquet_tree b).costing) (frontier (bouquet_tree b).costing (cost_on b c.args.number))) seen c.in_ok-rows.ensures.rows);
-    }
+          (subst (λ (b : BouquetShape). rows ≡ map (bare_row (bouquet_tree b).costing) (frontier (bouquet_tree b).costing (cost_on b c.args.number))) seen c.in_ok-rows.ensures.rows),
+    )

@@ -20,7 +20,7 @@ probe_covers-requires-clause-points c =
     outlined-points b c.args.self.now.bouquet c.in-Some.outline.now number c.index-kept.result.now c.as_slice-2.result.now (ap (λ (f : FrontiersShape). f.bouquet) c.self.view_is)
     c.in-Some.ensures c.requires.some c.requires.there c.index-kept.ensures c.as_slice-2.ensures.value in
     subst (λ (some : List (List ℕ)). All (IsPoint c.self.inside.costing.now.grid) some) (sym points)
-    (subst (λ (grid : GridShape). All (IsPoint grid) (frontier (bouquet_tree b).costing (cost_on b number))) (sym (ap (λ (shape : CostingShape). shape.grid) c.self.invariant.same))
+    (subst (λ (grid : GridShape). All (IsPoint grid) (frontier (bouquet_tree b).costing (cost_on b number))) (sym (ap (λ (shape : CostingShape). shape.grid) c.self.invariant.0))
     (frontier-points (bouquet_tree b).costing (cost_on b number) c.contours-contours.ensures.bouquet.costing.grid))
 
 pub returns : goal.returns
@@ -36,7 +36,7 @@ returns c = λ found.
     c.in-Some.ensures c.requires.some c.requires.there c.index-kept.ensures c.as_slice-2.ensures.value in
     c.probe_covers.ensures found
     ∙ ap (λ (some : List (List ℕ)). covers_above (costing_tree c.self.inside.costing.now) c.threshold.result p point some) points
-    ∙ ap (λ (shape : CostingShape). covers_above (costing_tree shape) c.threshold.result p point (frontier (bouquet_tree b).costing (cost_on b number))) c.self.invariant.same
+    ∙ ap (λ (shape : CostingShape). covers_above (costing_tree shape) c.threshold.result p point (frontier (bouquet_tree b).costing (cost_on b number))) c.self.invariant.0
     ∙ ap (λ (percent : ℕ). covers_above (bouquet_tree b).costing percent p point (frontier (bouquet_tree b).costing (cost_on b number))) c.threshold.ensures
     ∙ ap (λ (b : BouquetShape). covers_above (bouquet_tree b).costing b.threshold p point (frontier (bouquet_tree b).costing (cost_on b number))) view
     ∙ ap (λ (cost : ℕ). covers_above (bouquet_tree seen).costing seen.threshold p point (frontier (bouquet_tree seen).costing cost)) (step-cost seen c.args.step c.args.budget c.requires.member)
