@@ -1,8 +1,8 @@
 -- Whether an execution is skipped, by the rows of its contour's frontier.
 use Rattle.std.proofs.Common.{◌≡◌, ◌∙◌, ℕ, ◌-◌, ◌≤◌, ◌<◌, List, [], ◌∷◌, length, map, get_or, refl, ap, ap₂, sym, subst, arith}
-use Rattle.std.specs.Prelude.{All, Some, slice_get, slice_index}
+use Rattle.std.specs.Prelude.{All, IfSome, Option, Some, slice_get, slice_index}
 use Rattle.std.proofs.lemmas.List.{length-map, get_or-map}
-use Rattle.std.proofs.lemmas.Option.{slice_get_within, get_or_from_slice_get}
+use Rattle.std.proofs.lemmas.Option.{IfSome_then, slice_get_within, slice_get-get_or, get_or_from_slice_get}
 use Rattle.plan_tree.specs.Plans.{PlanTree, Scan, plan_tree}
 use Rattle.cost_model.specs.Costing.{CostingTree, costing_tree}
 use Rattle.cost_model.specs.Frontier.{frontier}
@@ -13,25 +13,15 @@ use Rattle.bouquet_type.specs.Shapes.{BouquetShape, cost_on}
 use Rattle.bouquet_type.specs.Trees.{BouquetTree, ContourTree, IsBouquet, bouquet_tree, contour_tree}
 use Rattle.learned_run.specs.declared.rows.FrontierRow.{FrontierRow}
 use Rattle.learned_run.specs.Skips.{covers_above}
-use Rattle.learned_run.specs.Covering.{AreOfContour, AreOfNumber, IsMemberOf, IsNumbered, IsRowOf, TriedShape, bare_row, costing_shape, member_of}
+use Rattle.learned_run.specs.Covering.{AreAtHand, AreOfContour, IsMemberOf, IsRowOf, TriedShape, bare_row, costing_shape, member_of}
 use Rattle.learned_run.proofs.Looked.{bare-each, bare-points, row_points}
 use Rattle.learned_run.proofs.Outlines.{frontier-points}
-
--- the contour of a number, as the bouquet holds it
-numbered-is : (contours : List Contour) (number : ℕ) (contour : ContourTree) (held : Contour) → slice_get (map contour_tree contours) (number - 1) ≡ Some contour
-    → held ≡ get_or contours (number - 1) held → contour ≡ contour_tree held
-numbered-is contours number contour held at is =
-    let trees = map contour_tree contours in
-    let there : number - 1 < length contours = omega (arith, slice_get_within trees (number - 1) contour at, length-map contours contour_tree) in
-    sym (get_or_from_slice_get trees (number - 1) contour (contour_tree held) at)
-    ∙ get_or-map contour_tree contours (number - 1) held (contour_tree held) there
-    ∙ ap contour_tree (sym is)
 
 -- the plans of a contour that was come to, and the rows of its frontier
 pub at-hand : (b : BouquetShape) (number : ℕ) (contours : List Contour) (held : Contour) (tried : TriedShape) (rows : List FrontierRow) → IsBouquet b → contours ≡ b.contours
     → held ≡ get_or contours (number - 1) held → 1 ≤ number → number ≤ length b.contours
     → tried ≡ record { costing = costing_shape b; plans = map plan_tree held.plans.items; threshold = b.threshold }
-    → rows ≡ map (bare_row (bouquet_tree b).costing) (frontier (bouquet_tree b).costing (cost_on b number)) → AreOfNumber (bouquet_tree b) number tried rows
+    → rows ≡ map (bare_row (bouquet_tree b).costing) (frontier (bouquet_tree b).costing (cost_on b number)) → AreAtHand (bouquet_tree b) number (Some tried) rows
 at-hand b number contours held tried rows bouquet same at some there is bare =
     let costing = (bouquet_tree b).costing in
     let made : TriedShape = record { costing = costing_shape b; plans = map plan_tree held.plans.items; threshold = b.threshold } in
@@ -40,31 +30,26 @@ at-hand b number contours held tried rows bouquet same at some there is bare =
     let cost : cost_on b number ≡ held.cost =
     ap (λ (all : List Contour). slice_index (map (λ (contour : Contour). contour.cost) all) (number - 1)) (sym same)
     ∙ get_or-map (λ (contour : Contour). contour.cost) contours (number - 1) held 0 inside ∙ ap (λ (contour : Contour). contour.cost) (sym at) in
-    subst (λ (one : TriedShape). AreOfNumber (bouquet_tree b) number one rows) (sym is)
-    (record {
-      each = subst (All (IsRowOf made)) (sym bare) (bare-each made points (frontier-points costing (cost_on b number) bouquet.costing.grid));
-      those = λ contour numbered.
-          let listed = subst (λ (cs : List Contour). slice_get (map contour_tree cs) (number - 1) ≡ Some contour) (sym same) numbered.1 in
-          let tree = numbered-is contours number contour held listed at in
-          record {
-            costing = refl;
-            threshold = refl;
-            plans = ap (λ (one : ContourTree). one.plans) (sym tree);
-            points = ap row_points bare ∙ bare-points costing points ∙ ap (frontier costing) (cost ∙ ap (λ (one : ContourTree). one.cost) (sym tree));
-          };
-    })
+    let trees = map contour_tree contours in
+    let listed : slice_get (map contour_tree b.contours) (number - 1) ≡ Some (contour_tree held) =
+    ap (λ (all : List Contour). slice_get (map contour_tree all) (number - 1)) (sym same)
+    ∙ slice_get-get_or trees (number - 1) (contour_tree held) (omega (arith, inside, length-map contours contour_tree))
+    ∙ ap Some (get_or-map contour_tree contours (number - 1) held (contour_tree held) inside ∙ ap contour_tree (sym at)) in
+    subst (λ (one : TriedShape). AreAtHand (bouquet_tree b) number (Some one) rows) (sym is) (
+      subst (All (IsRowOf made)) (sym bare) (bare-each made points (frontier-points costing (cost_on b number) bouquet.costing.grid)),
+      subst (λ (contour : Option ContourTree). IfSome contour (AreOfContour (bouquet_tree b) made rows)) (sym listed)
+          (record { costing = refl; threshold = refl; plans = refl; points = ap row_points bare ∙ bare-points costing points ∙ ap (frontier costing) cost }),
+    )
 
 -- the same, where rows were looked at
-pub at-hand-still : (bouquet : BouquetTree) (number : ℕ) (old new : TriedShape) (rows looked : List FrontierRow) → AreOfNumber bouquet number old rows → new ≡ old
-    → All (IsRowOf old) looked → row_points looked ≡ row_points rows → AreOfNumber bouquet number new looked
+pub at-hand-still : (bouquet : BouquetTree) (number : ℕ) (old new : TriedShape) (rows looked : List FrontierRow) → AreAtHand bouquet number (Some old) rows → new ≡ old
+    → All (IsRowOf old) looked → row_points looked ≡ row_points rows → AreAtHand bouquet number (Some new) looked
 at-hand-still bouquet number old new rows looked are same each points =
-    subst (λ (one : TriedShape). AreOfNumber bouquet number one looked) (sym same)
-    (record {
-      each = each;
-      those = λ contour numbered.
-          let those = are.those contour numbered in
-          record { costing = those.costing; threshold = those.threshold; plans = those.plans; points = points ∙ those.points };
-    })
+    subst (λ (one : TriedShape). AreAtHand bouquet number (Some one) looked) (sym same) (
+      each,
+      IfSome_then (slice_get bouquet.contours (number - 1)) are.1
+          (λ contour those. record { costing = those.costing; threshold = those.threshold; plans = those.plans; points = points ∙ those.points }),
+    )
 
 -- there is such a contour
 pub step-there : (b : BouquetShape) (step : Attempt) (budget : ℕ) → IsMemberOf (bouquet_tree b) (member_of step budget) → step.contour ≤ length b.contours
@@ -88,9 +73,9 @@ step-cost b step budget is =
     ∙ sym is.cost
 
 module _ (bouquet : BouquetTree) (step : Attempt) (budget number : ℕ) (tried : TriedShape) (rows : List FrontierRow) (is : IsMemberOf bouquet (member_of step budget)) (at : number ≡ step.contour)
-    (are : AreOfNumber bouquet number tried rows) where
-  of-contour : AreOfContour bouquet is.contour tried rows
-  of-contour = are.those is.contour (subst (λ n. IsNumbered bouquet n is.contour) (sym at) is.numbered)
+    (are : AreAtHand bouquet number (Some tried) rows) where
+  of-contour : AreOfContour bouquet tried rows is.contour
+  of-contour = subst (λ (contour : Option ContourTree). IfSome contour (AreOfContour bouquet tried rows)) (ap (λ n. slice_get bouquet.contours (n - 1)) at ∙ is.numbered.1) are.1
 
   listed : slice_get tried.plans (step.place - 1) ≡ Some (plan_tree step.plan.now)
   listed = ap (λ (all : List PlanTree). slice_get all (step.place - 1)) of-contour.plans ∙ is.plan

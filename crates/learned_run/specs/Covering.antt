@@ -35,7 +35,7 @@ abbrev pub covers_point : TriedShape → (place : ℕ) → (point : List ℕ) �
 covers_point tried place point = covers_at (costing_tree tried.costing) tried.threshold (nth_plan tried.plans place) point
 
 -- plans are those of a contour, and rows those of its frontier
-pub record AreOfContour (bouquet : BouquetTree) (contour : ContourTree) (tried : TriedShape) (rows : List FrontierRow) : Type 0 where
+pub record AreOfContour (bouquet : BouquetTree) (tried : TriedShape) (rows : List FrontierRow) (contour : ContourTree) : Type 0 where
   pub costing : costing_tree tried.costing ≡ bouquet.costing
   pub threshold : tried.threshold ≡ bouquet.threshold
   pub plans : tried.plans ≡ contour.plans
@@ -46,13 +46,10 @@ abbrev pub IsNumbered : BouquetTree → (number : ℕ) → ContourTree → Type 
 IsNumbered bouquet number contour = (1 ≤ number) × (slice_get bouquet.contours (number - 1) ≡ Some contour)
 
 -- plans and rows are those of the contour of this number; 0 where there are none yet
-pub record AreOfNumber (bouquet : BouquetTree) (number : ℕ) (tried : TriedShape) (rows : List FrontierRow) : Type 0 where
-  pub each : All (IsRowOf tried) rows
-  pub those : (contour : ContourTree) → IsNumbered bouquet number contour → AreOfContour bouquet contour tried rows
-
 abbrev pub AreAtHand : BouquetTree → (number : ℕ) → Option TriedShape → List FrontierRow → Type 0
 AreAtHand bouquet number None rows = number ≡ 0
-AreAtHand bouquet number (Some tried) rows = AreOfNumber bouquet number tried rows
+AreAtHand bouquet number (Some tried) rows =
+    All (IsRowOf tried) rows × IfSome (slice_get bouquet.contours (number - 1)) (AreOfContour bouquet tried rows)
 
 -- a member is the plan at its place on a contour of the bouquet, of its cost
 pub record IsMemberOf (bouquet : BouquetTree) (member : Member) : Type 0 where
