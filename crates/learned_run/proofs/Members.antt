@@ -1,12 +1,12 @@
 -- The members of a bouquet's schedule are plans at their places on its contours.
-use Rattle.std.proofs.Common.{◌≡◌, ◌∙◌, ℕ, ◌+◌, ◌-◌, ◌++◌, List, [], ◌∷◌, length, refl, ap, sym, subst, arith, append_assoc, length-append}
+use Rattle.std.proofs.Common.{◌≡◌, ◌∙◌, ℕ, ◌+◌, ◌-◌, ◌≤◌, ◌++◌, List, [], ◌∷◌, length, refl, ap, sym, subst, arith, append_assoc, length-append}
 use Rattle.std.specs.Prelude.{All, Some, slice_get}
 use Rattle.std.proofs.lemmas.List.Elements.{All-nil, All-cons, All-append}
 use Rattle.plan_tree.specs.Plans.{PlanTree}
 use Rattle.bouquet_type.specs.Trees.{BouquetTree, ContourTree}
 use Rattle.bouquet_type.specs.Budgets.{budget_of}
 use Rattle.bouquet_type.specs.Schedule.{Member, members_on, members_from, schedule}
-use Rattle.learned_run.specs.Covering.{IsMemberOf, IsNumbered}
+use Rattle.learned_run.specs.Covering.{IsMemberOf}
 
 -- what stands behind some others is at their number
 at-behind : {X : Type 0} (before : List X) (x : X) (after : List X) → slice_get (before ++ x ∷ after) (length before) ≡ Some x
@@ -24,7 +24,7 @@ one-more all before x after are = are ∙ sym (append_assoc before (x ∷ []) af
 longer : {X : Type 0} (before : List X) (x : X) → length (before ++ x ∷ []) ≡ length before + 1
 longer before x = length-append before (x ∷ [])
 
-on-contour : (bouquet : BouquetTree) (contour : ContourTree) (number budget : ℕ) (before after : List PlanTree) → IsNumbered bouquet number contour → contour.plans ≡ before ++ after
+on-contour : (bouquet : BouquetTree) (contour : ContourTree) (number budget : ℕ) (before after : List PlanTree) → (1 ≤ number) × (slice_get bouquet.contours (number - 1) ≡ Some contour) → contour.plans ≡ before ++ after
     → All (IsMemberOf bouquet) (members_on budget number contour.cost (length before + 1) after)
 on-contour bouquet contour number budget before [] numbered are = All-nil (IsMemberOf bouquet)
 on-contour bouquet contour number budget before (p ∷ more) numbered are =
@@ -40,7 +40,7 @@ from-contour bouquet before [] are = All-nil (IsMemberOf bouquet)
 from-contour bouquet before (contour ∷ more) are =
     let number = length before + 1 in
     let budget = budget_of bouquet.threshold contour.cost in
-    let numbered : IsNumbered bouquet number contour = (omega arith, numbered-behind bouquet.contours before contour more are) in
+    let numbered : (1 ≤ number) × (slice_get bouquet.contours (number - 1) ≡ Some contour) = (omega arith, numbered-behind bouquet.contours before contour more are) in
     let rest = from-contour bouquet (before ++ contour ∷ []) more (one-more bouquet.contours before contour more are) in
     All-append (IsMemberOf bouquet) (members_on budget number contour.cost 1 contour.plans) (members_from bouquet.threshold (number + 1) more)
     (subst (λ place. All (IsMemberOf bouquet) (members_on budget number contour.cost place contour.plans)) (omega arith) (on-contour bouquet contour number budget [] contour.plans numbered refl))

@@ -41,10 +41,6 @@ pub record AreOfContour (bouquet : BouquetTree) (tried : TriedShape) (rows : Lis
   pub plans : tried.plans ≡ contour.plans
   pub points : map (λ row. row.point) rows ≡ frontier bouquet.costing contour.cost
 
--- a contour of this number, from 1
-abbrev pub IsNumbered : BouquetTree → (number : ℕ) → ContourTree → Type 0
-IsNumbered bouquet number contour = (1 ≤ number) × (slice_get bouquet.contours (number - 1) ≡ Some contour)
-
 -- plans and rows are those of the contour of this number; 0 where there are none yet
 abbrev pub AreAtHand : BouquetTree → (number : ℕ) → Option TriedShape → List FrontierRow → Type 0
 AreAtHand bouquet number None rows = number ≡ 0
@@ -54,7 +50,7 @@ AreAtHand bouquet number (Some tried) rows =
 -- a member is the plan at its place on a contour of the bouquet, of its cost
 pub record IsMemberOf (bouquet : BouquetTree) (member : Member) : Type 0 where
   pub contour : ContourTree
-  pub numbered : IsNumbered bouquet member.contour contour
+  pub numbered : (1 ≤ member.contour) × (slice_get bouquet.contours (member.contour - 1) ≡ Some contour)
   pub cost : member.cost ≡ contour.cost
   pub some : 1 ≤ member.place
   pub plan : slice_get contour.plans (member.place - 1) ≡ Some member.plan
