@@ -14,7 +14,7 @@ use Rattle.bouquet_type.specs.Shapes.{BouquetShape, cost_on}
 use Rattle.bouquet_type.specs.Trees.{ContourTree, IsOutline, bouquet_tree, contour_tree}
 
 -- what is made of the costs of contours
-by-costs : {X : Type 0} (f : ℕ → X) (contours : List Contour) → map (λ (contour : ContourTree). f contour.cost) (map contour_tree contours) ≡ map f (map (λ (contour : Contour). contour.cost) contours)
+pub by-costs : {X : Type 0} (f : ℕ → X) (contours : List Contour) → map (λ (contour : ContourTree). f contour.cost) (map contour_tree contours) ≡ map f (map (λ (contour : Contour). contour.cost) contours)
 by-costs f [] = refl
 by-costs f (contour ∷ more) = ap (λ xs. f contour.cost ∷ xs) (by-costs f more)
 

@@ -1,7 +1,7 @@
 -- Whether an execution is skipped, by the rows of its contour's frontier.
-use Rattle.std.proofs.Common.{◌≡◌, ◌∙◌, ℕ, ◌-◌, ◌≤◌, ◌<◌, List, [], ◌∷◌, length, map, get_or, refl, ap, ap₂, sym, subst, arith}
+use Rattle.std.proofs.Common.{◌≡◌, ◌∙◌, ℕ, ◌-◌, ◌≤◌, ◌<◌, List, length, map, get_or, refl, ap, ap₂, sym, subst, arith}
 use Rattle.std.specs.Prelude.{All, IfSome, Option, Some, slice_get, slice_index}
-use Rattle.std.proofs.lemmas.List.{length-map, get_or-map}
+use Rattle.std.proofs.lemmas.List.{length-map, get_or-map, map-id}
 use Rattle.std.proofs.lemmas.Option.{IfSome_then, slice_get_within, slice_get-get_or, get_or_from_slice_get}
 use Rattle.plan_tree.specs.Plans.{PlanTree, Scan, plan_tree}
 use Rattle.cost_model.specs.Costing.{CostingTree, costing_tree}
@@ -15,7 +15,7 @@ use Rattle.learned_run.specs.declared.rows.FrontierRow.{FrontierRow}
 use Rattle.learned_run.specs.Skips.{covers_above}
 use Rattle.learned_run.specs.Covering.{AreAtHand, AreOfContour, IsMemberOf, IsRowOf, TriedShape, bare_row, costing_shape, member_of}
 use Rattle.learned_run.proofs.Looked.{bare-each, bare-points, row_points}
-use Rattle.learned_run.proofs.Outlines.{frontier-points}
+use Rattle.learned_run.proofs.Outlines.{by-costs, frontier-points}
 
 -- the plans of a contour that was come to, and the rows of its frontier
 pub at-hand : (b : BouquetShape) (number : ℕ) (contours : List Contour) (held : Contour) (tried : TriedShape) (rows : List FrontierRow) → IsBouquet b → contours ≡ b.contours
@@ -57,17 +57,13 @@ step-there b step budget is =
     let trees = map contour_tree b.contours in
     omega (arith, is.numbered.0, slice_get_within trees (step.contour - 1) is.contour is.numbered.1, length-map b.contours contour_tree)
 
-tree-costs : (contours : List Contour) → map (λ (contour : ContourTree). contour.cost) (map contour_tree contours) ≡ map (λ (contour : Contour). contour.cost) contours
-tree-costs [] = refl
-tree-costs (contour ∷ more) = ap (λ costs. contour.cost ∷ costs) (tree-costs more)
-
 -- it costs what is told
 pub step-cost : (b : BouquetShape) (step : Attempt) (budget : ℕ) → IsMemberOf (bouquet_tree b) (member_of step budget) → cost_on b step.contour ≡ step.cost
 step-cost b step budget is =
     let trees = map contour_tree b.contours in
     let place = step.contour - 1 in
     let inside = slice_get_within trees place is.contour is.numbered.1 in
-    ap (λ (costs : List ℕ). slice_index costs place) (sym (tree-costs b.contours))
+    ap (λ (costs : List ℕ). slice_index costs place) (sym (by-costs (λ cost. cost) b.contours ∙ map-id (map (λ (contour : Contour). contour.cost) b.contours)))
     ∙ get_or-map (λ (contour : ContourTree). contour.cost) trees place is.contour 0 inside
     ∙ ap (λ (contour : ContourTree). contour.cost) (get_or_from_slice_get trees place is.contour is.contour is.numbered.1)
     ∙ sym is.cost
