@@ -12,7 +12,7 @@ use Rattle.plan_space.specs.SurfacePoints.{IsSurfacePoint, surface_points}
 use Rattle.plan_space.specs.declared.surface.SurfacePoint.{SurfacePoint}
 use Rattle.learned_run.specs.declared.rows.FrontierRow.{FrontierRow}
 use Rattle.learned_run.specs.Skips.{is_at_or_below}
-use Rattle.learned_run.specs.Covering.{IsRowOf, TriedShape, bare_row, covers_point}
+use Rattle.learned_run.specs.Covering.{IsTriedRow, TriedShape, bare_row, covers_point}
 
 abbrev pub row_points : List FrontierRow → List (List ℕ)
 row_points rows = map (λ (row : FrontierRow). row.point) rows
@@ -32,11 +32,11 @@ pub bare-points : (costing : CostingTree) (points : List (List ℕ)) → row_poi
 bare-points costing [] = refl
 bare-points costing (point ∷ more) = ap (λ points. point ∷ points) (bare-points costing more)
 
-pub bare-each : (tried : TriedShape) (points : List (List ℕ)) → All (IsPoint tried.costing.grid) points → All (IsRowOf tried) (map (bare_row (costing_tree tried.costing)) points)
-bare-each tried [] are = All-nil (IsRowOf tried)
+pub bare-each : (tried : TriedShape) (points : List (List ℕ)) → All (IsPoint tried.costing.grid) points → All (IsTriedRow tried) (map (bare_row (costing_tree tried.costing)) points)
+bare-each tried [] are = All-nil (IsTriedRow tried)
 bare-each tried (point ∷ more) are =
     let costing = costing_tree tried.costing in
-    All-cons (IsRowOf tried) (bare_row costing point) (map (bare_row costing) more)
+    All-cons (IsTriedRow tried) (bare_row costing point) (map (bare_row costing) more)
     (record { point = All-head (IsPoint tried.costing.grid) point more are; cost = refl; covers = tt })
     (bare-each tried more (All-tail (IsPoint tried.costing.grid) point more are))
 

@@ -13,7 +13,7 @@ use Rattle.bouquet_type.specs.Shapes.{BouquetShape, cost_on}
 use Rattle.bouquet_type.specs.Trees.{BouquetTree, ContourTree, IsBouquet, bouquet_tree, contour_tree}
 use Rattle.learned_run.specs.declared.rows.FrontierRow.{FrontierRow}
 use Rattle.learned_run.specs.Skips.{covers_above}
-use Rattle.learned_run.specs.Covering.{AreAtHand, AreOfContour, IsMemberOf, IsRowOf, TriedShape, bare_row, costing_shape, member_of}
+use Rattle.learned_run.specs.Covering.{AreAtHand, AreOfContour, IsMemberOf, IsTriedRow, TriedShape, bare_row, costing_shape, member_of}
 use Rattle.learned_run.proofs.Looked.{bare-each, bare-points, row_points}
 use Rattle.learned_run.proofs.Outlines.{by-costs, frontier-points}
 
@@ -36,14 +36,14 @@ at-hand b number contours held tried rows bouquet same at some there is bare =
     ∙ slice_get-get_or trees (number - 1) (contour_tree held) (omega (arith, inside, length-map contours contour_tree))
     ∙ ap Some (get_or-map contour_tree contours (number - 1) held (contour_tree held) inside ∙ ap contour_tree (sym at)) in
     subst (λ (one : TriedShape). AreAtHand (bouquet_tree b) number (Some one) rows) (sym is) (
-      subst (All (IsRowOf made)) (sym bare) (bare-each made points (frontier-points costing (cost_on b number) bouquet.costing.grid)),
+      subst (All (IsTriedRow made)) (sym bare) (bare-each made points (frontier-points costing (cost_on b number) bouquet.costing.grid)),
       subst (λ (contour : Option ContourTree). IfSome contour (AreOfContour (bouquet_tree b) made rows)) (sym listed)
           (record { costing = refl; threshold = refl; plans = refl; points = ap row_points bare ∙ bare-points costing points ∙ ap (frontier costing) cost }),
     )
 
 -- the same, where rows were looked at
 pub at-hand-still : (bouquet : BouquetTree) (number : ℕ) (old new : TriedShape) (rows looked : List FrontierRow) → AreAtHand bouquet number (Some old) rows → new ≡ old
-    → All (IsRowOf old) looked → row_points looked ≡ row_points rows → AreAtHand bouquet number (Some new) looked
+    → All (IsTriedRow old) looked → row_points looked ≡ row_points rows → AreAtHand bouquet number (Some new) looked
 at-hand-still bouquet number old new rows looked are same each points =
     subst (λ (one : TriedShape). AreAtHand bouquet number (Some one) looked) (sym same) (
       each,

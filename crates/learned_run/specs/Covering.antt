@@ -21,7 +21,7 @@ pub record TriedShape : Type 0 where
   pub threshold : ℕ
 
 -- a point of a contour's frontier with the optimal cost there; and which of the plans cover it, if that is worked out
-pub record IsRowOf (tried : TriedShape) (row : FrontierRow) : Type 0 where
+pub record IsTriedRow (tried : TriedShape) (row : FrontierRow) : Type 0 where
   pub point : IsPoint tried.costing.grid row.point
   pub cost : row.cost ≡ optimal_cost (costing_tree tried.costing) row.point
   pub covers : IfSome row.covers (λ covers. covers.items ≡ map (λ p. covers_at (costing_tree tried.costing) tried.threshold p row.point) tried.plans)
@@ -45,7 +45,7 @@ pub record AreOfContour (bouquet : BouquetTree) (tried : TriedShape) (rows : Lis
 abbrev pub AreAtHand : BouquetTree → (number : ℕ) → Option TriedShape → List FrontierRow → Type 0
 AreAtHand bouquet number None rows = number ≡ 0
 AreAtHand bouquet number (Some tried) rows =
-    All (IsRowOf tried) rows × IfSome (slice_get bouquet.contours (number - 1)) (AreOfContour bouquet tried rows)
+    All (IsTriedRow tried) rows × IfSome (slice_get bouquet.contours (number - 1)) (AreOfContour bouquet tried rows)
 
 -- a member is the plan at its place on a contour of the bouquet, of its cost
 pub record IsMemberOf (bouquet : BouquetTree) (member : Member) : Type 0 where

@@ -9,7 +9,7 @@ ghost use Rattle.cost_model.specs.Costs.{cost_of};
 ghost use Rattle.cost_model.specs.Greedy.{covers_at};
 ghost use Rattle.plan_space.specs.Parts.{nth_plan};
 ghost use Rattle.learned_run.specs.Skips.{covers_above, is_at_or_below};
-ghost use Rattle.learned_run.specs.Covering.{IsRowOf, covers_point};
+ghost use Rattle.learned_run.specs.Covering.{IsTriedRow, covers_point};
 
 use crate::rows::FrontierRow;
 use cost_model::{Costing, is_covered};
@@ -102,7 +102,7 @@ impl<'c> TriedPlans<'c> {
 
     // Which of them cover the point of a row. An error is want of memory.
     fn tests_at(&mut self, alloc: Global, row: &FrontierRow) -> Result<Vec<bool>, AllocError>
-        requires row { IsRowOf self.old row.now }
+        requires row { IsTriedRow self.old row.now }
         ensures same { self.new ≡ self.old }
         ensures tests { IfOk result (λ tests. tests.items ≡ map (λ p. covers_at
             (costing_tree self.old.costing) self.old.threshold p row.now.point) self.old.plans) }
@@ -119,10 +119,10 @@ impl<'c> TriedPlans<'c> {
         row: &mut FrontierRow,
         place: usize,
     ) -> Result<bool, AllocError>
-        requires row { IsRowOf self.old row.old }
+        requires row { IsTriedRow self.old row.old }
         requires place { place < length self.old.plans }
         ensures same { self.new ≡ self.old }
-        ensures row { IsRowOf self.old row.new }
+        ensures row { IsTriedRow self.old row.new }
         ensures point { row.new.point ≡ row.old.point }
         ensures covers { IfOk result (λ covers. covers ≡ covers_point self.old place row.old.point) }
     {
@@ -143,10 +143,10 @@ impl<'c> TriedPlans<'c> {
         place: usize,
         point: &Point,
     ) -> Result<bool, AllocError>
-        requires row { IsRowOf self.old row.old }
+        requires row { IsTriedRow self.old row.old }
         requires place { place < length self.old.plans }
         ensures same { self.new ≡ self.old }
-        ensures row { IsRowOf self.old row.new }
+        ensures row { IsTriedRow self.old row.new }
         ensures point { row.new.point ≡ row.old.point }
         ensures covers { IfOk result (λ covers. covers
             ≡ (is_at_or_below point.now row.old.point && covers_point self.old place row.old.point)) }
@@ -166,10 +166,10 @@ impl<'c> TriedPlans<'c> {
         place: usize,
         point: &Point,
     ) -> Result<bool, AllocError>
-        requires rows { All (IsRowOf self.old) rows.old.items }
+        requires rows { All (IsTriedRow self.old) rows.old.items }
         requires place { place < length self.old.plans }
         ensures same { self.new ≡ self.old }
-        ensures rows { All (IsRowOf self.old) rows.new.items }
+        ensures rows { All (IsTriedRow self.old) rows.new.items }
         ensures points { map (λ row. row.point) rows.new.items ≡ map (λ row. row.point) rows.old.items }
         ensures covers { IfOk result (λ covers. covers
             ≡ covers_above (costing_tree self.old.costing) self.old.threshold

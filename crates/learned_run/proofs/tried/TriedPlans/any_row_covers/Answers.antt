@@ -1,6 +1,6 @@
 use Rattle.std.proofs.Common.{◌∙◌, subst, arith}
 use Rattle.std.proofs.lemmas.List.Elements.{All-set}
-use Rattle.learned_run.specs.Covering.{IsRowOf, TriedShape}
+use Rattle.learned_run.specs.Covering.{IsTriedRow, TriedShape}
 use Rattle.learned_run.proofs.Looked.{points-stay, one-covers, none-covers}
 use Rattle.learned_run.proofs.tried.TriedPlans.any_row_covers.Goals as goal
 
@@ -25,7 +25,7 @@ loop-at-preserved c =
     let row = c.row_covers.new.row in
     record {
       same = c.in_ok-row_covers.ensures.same ∙ same;
-      rows = All-set (IsRowOf first) c.loop-at.rows.items c.loop-at.at row (subst (λ (tried : TriedShape). IsRowOf tried row) same c.in_ok-row_covers.ensures.row) c.loop-at.invariant.rows;
+      rows = All-set (IsTriedRow first) c.loop-at.rows.items c.loop-at.at row (subst (λ (tried : TriedShape). IsTriedRow tried row) same c.in_ok-row_covers.ensures.row) c.loop-at.invariant.rows;
       points = points-stay c.args.rows.now.items c.loop-at.rows.items c.loop-at.at c.index_mut.result.now c.row_covers.new.row c.index_mut.ensures.value c.in_ok-row_covers.ensures.point
           c.loop-at.invariant.points;
       none = none-covers first now same c.args.place c.args.point.now c.args.rows.now.items c.loop-at.rows.items c.loop-at.at c.index_mut.result.now
