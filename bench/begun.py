@@ -7,7 +7,7 @@ import tempfile
 
 from beside_sqlite import DATA
 
-CALLER, CALLED = "exec_pipe::within::run_within", "exec_pipe::start::start"
+CALLER, CALLED = "exec_pipe::engine::Engine::execute", "exec_pipe::start::start"
 
 
 def calls(path, caller, called):
