@@ -1,11 +1,14 @@
 -- Quotients that are rounded up.
-use Rattle.std.proofs.Common.{◌≡◌, ℕ, ◌+◌, ◌*◌, ◌^◌, ◌<◌, ◌≤◌, ap, sym, ◌∙◌, arith}
-use Rattle.std.proofs.Math.Nat.{mul_comm, mul_assoc, add-mul, lt_of_mul-lt-mul_right, mul-le-mul_left, mul-le-mul_right}
+use Rattle.std.proofs.Common.{◌≡◌, ℕ, zero, suc, ◌+◌, ◌-◌, ◌*◌, ◌/◌, ◌%◌, ◌^◌, ◌<◌, ◌≤◌, min, Bool, true, false, leb, refl, ap, sym, ◌∙◌, arith}
+use Rattle.std.proofs.Math.Nat.{div-mul-le_self, lt-mul-div-succ, mul_comm, mul_assoc, add-mul, lt_of_mul-lt-mul_right, mul-le-mul_left, mul-le-mul_right}
 use Rattle.std.proofs.lemmas.Nat.{mul-le, pow_pos}
+use Rattle.std.proofs.lemmas.Bool.{leb-true, leb-false}
 use Rattle.std.proofs.lemmas.Grind.{div_ceil_times}
 use Rattle.std.specs.Int.{div_ceil}
+use Rattle.sql_values.specs.Limits.{max_product}
 use Rattle.ess_grid.specs.Levels.{full_selectivity}
 use Rattle.cost_model.specs.AtPoint.{scaled}
+use Rattle.cost_model.proofs.Sets.{power-to}
 
 -- a number that lies where a quotient that is rounded up does
 abbrev pub IsCeiling : (n by up : ℕ) → Type 0
@@ -70,3 +73,43 @@ pub scaled-le : (rows more selectivity greater : ℕ) → rows ≤ more → sele
 scaled-le rows more selectivity greater le part =
     let most : rows * selectivity ≤ more * greater = mul-le rows selectivity more greater le part in
     div_ceil-le _ _ full_selectivity (omega arith) most
+
+-- what is added before a number is halved by a shift
+pub shifted-up : (rows by : ℕ) → 0 < by → (rows + (by - 1)) / by ≡ div_ceil rows by
+shifted-up rows by some =
+    let sum = rows + (by - 1) in
+    let up = sum / by in
+    let low : up * by ≤ sum = div-mul-le_self sum by in
+    let high : sum < by * (up + 1) = lt-mul-div-succ sum some in
+    let next : by * (up + 1) ≡ up * by + by = mul_comm by (up + 1) ∙ one-more up by in
+    ceiling-one rows by up (div_ceil rows by) (omega (arith, high, next, some), omega (arith, low, some)) (ceiling rows by some)
+
+-- a number that is at most a quotient's divisor
+few-times : (rows by : ℕ) → 0 < by → rows ≤ by → div_ceil rows by ≡ min 1 rows
+few-times rows by some few =
+    let one = min 1 rows in
+    ceiling-one rows by (div_ceil rows by) one (ceiling rows by some) (by-rows rows few)
+  where
+    by-rows : (rows : ℕ) → rows ≤ by → IsCeiling rows by (min 1 rows)
+    by-rows zero few = (omega arith, omega (arith, some))
+    by-rows (suc n) few =
+        let least : min 1 (suc n) ≡ 1 = omega arith in
+        let same : min 1 (suc n) * by ≡ 1 * by = ap (λ one. one * by) least in
+        (omega (arith, few, same), omega (arith, same))
+
+-- a number within the limit of combinations is halved no further after 100 times
+pub halved-up : (rows halvings times : ℕ) → rows ≤ max_product → times ≡ min halvings 100 → (rows + (2 ^ times - 1)) / 2 ^ times ≡ div_ceil rows (2 ^ halvings)
+halved-up rows halvings times few is = shifted-up rows (2 ^ times) (pow_pos times) ∙ by-order (leb halvings 100) refl
+  where
+    by-order : (b : Bool) → leb halvings 100 ≡ b → div_ceil rows (2 ^ times) ≡ div_ceil rows (2 ^ halvings)
+    by-order true le = ap (λ k. div_ceil rows (2 ^ k)) (omega (arith, is, leb-true halvings 100 le))
+    by-order false le =
+        let more : 100 ≤ halvings = omega (arith, leb-false halvings 100 le) in
+        let all : times ≡ 100 = omega (arith, is, more) in
+        let least : 2 ^ 100 ≤ 2 ^ halvings = power-to 100 halvings more in
+        ap (λ k. div_ceil rows (2 ^ k)) all ∙ few-times rows (2 ^ 100) (pow_pos 100) few ∙ sym (few-times rows (2 ^ halvings) (pow_pos halvings) (omega (arith, few, least)))
+
+-- nor does the divisor pass 128 bits
+pub divisor-fits : (halvings times : ℕ) → times ≡ min halvings 100 → (1 * 2 ^ times % 340282366920938463463374607431768211456 ≡ 2 ^ times) × (2 ^ times ≤ 2 ^ 100)
+divisor-fits halvings times is =
+    let le : 2 ^ times ≤ 2 ^ 100 = power-to times 100 (omega (arith, is)) in (omega (arith, le), le)

@@ -1,26 +1,30 @@
--- The cards of all sets, by the products of smaller sets and by one edge after another.
+-- The cards of all sets, by the products of smaller sets, and by how often these are halved for one edge after another.
 use Rattle.std.proofs.Common.{◌≡◌, ◌≢◌, ℕ, zero, suc, ◌+◌, ◌*◌, ◌^◌, ◌<◌, ◌≤◌, max, cond, not, Bool, true, false, List, [], ◌∷◌, length, drop, get_or, get_or-set_other, get_or-set_same, below_more, nat_eq, refl, sym, ap, ◌∙◌, arith}
-use Rattle.std.specs.Prelude.{slice_set}
-use Rattle.std.specs.Int.{bit_at}
+use Rattle.std.specs.Prelude.{slice_index, slice_set}
+use Rattle.std.specs.Int.{bit_at, div_ceil}
 use Rattle.std.proofs.Math.Nat.{mul_comm, mul_assoc}
 use Rattle.std.proofs.Math.ListN.{length-map, length-set}
 use Rattle.std.proofs.lemmas.Nat.{pow_pos, or_disjoint}
 use Rattle.std.proofs.lemmas.Nat.Bits.{and_pow, bit_at_or, bit_at_above, bit_at-pow_same, bit_at-pow_other}
 use Rattle.std.proofs.lemmas.List.{at_drop_more, drop_all}
 use Rattle.sql_values.specs.Limits.{max_product}
+use Rattle.ess_grid.specs.Levels.{halvings_of, selectivity_bits}
+use Rattle.query_block.specs.declared.edge.Edge.{Edge}
 use Rattle.query_block.specs.Blocks.{relation_tree}
 use Rattle.query_block.specs.Meaning.{RelationSet, is_inside}
 use Rattle.plan_tree.specs.Enumerated.{edge_at}
 use Rattle.plan_tree.specs.Sets.{set_of}
 use Rattle.cost_model.specs.declared.stats.RelationStats.{RelationStats}
 use Rattle.cost_model.specs.Costing.{CostingShape, CostingTree, costing_tree, IsCosting}
-use Rattle.cost_model.specs.AtPoint.{scaled, stats_at}
-use Rattle.cost_model.specs.Cards.{selectivity_at, kept_product, scaled_by_edges, card_of}
+use Rattle.cost_model.specs.AtPoint.{stats_at}
+use Rattle.cost_model.specs.Cards.{kept_product}
+use Rattle.cost_model.specs.Rounding.{halvings_inside}
+use Rattle.cost_model.proofs.Cards.{card-once}
 use Rattle.cost_model.specs.Costs.{relation_stats}
 use Rattle.cost_model.proofs.Bounds.{one-times, product-few, stats-at-long}
 use Rattle.cost_model.specs.Pricing.{Pricing}
-use Rattle.cost_model.specs.Prices.{IsSetOf, block_at, AreCards}
-use Rattle.cost_model.specs.SetCards.{AreProducts, IsScaled, AreScaled}
+use Rattle.cost_model.specs.Prices.{IsSetOf, block_at, set_card}
+use Rattle.cost_model.specs.SetCards.{AreProducts, IsHalved, AreHalvings}
 use Rattle.cost_model.proofs.Sets.{low-apart, power-to, sets-below}
 
 -- ---- numbers of sets
@@ -137,39 +141,57 @@ add-product at products end next product long small is before last =
 
 -- ---- edges
 
-pub not-scaled : (at : Pricing) (cards : List ℕ) → IsCosting (costing_tree at.costing) → AreProducts at cards (2 ^ length (block_at at).relations) → AreScaled at cards 0
-unfolding card_of
-not-scaled at cards is products set below = record {
-  card = ap (scaled_by_edges at.costing.grid at.point (set_of set) 0 at.costing.block.edges) (products set below);
-  few = omega (arith, products set below, product-few (costing_tree at.costing) (set_of set) at.point is);
-}
+-- for no edge yet a set isn't halved
+pub not-halved : (at : Pricing) (halvings : List ℕ) → ((set : ℕ) → set < 64 → get_or halvings set 0 ≡ 0) → IsCosting (costing_tree at.costing) → AreHalvings at halvings 0
+not-halved at halvings none is set below =
+    let here : get_or halvings set 0 ≡ 0 = none set (set-small (costing_tree at.costing) set is below) in
+    record { all = omega (arith, here); few = omega (arith, here) }
 
 -- one edge more
-pub scaled-next : (at : Pricing) (set edge card next : ℕ) → edge < length (block_at at).edges → IsScaled at set edge card
-    → next ≡ cond (is_inside (set_of set) (edge_at (block_at at).edges edge)) (scaled card (selectivity_at at.costing.grid at.point edge)) card → next ≤ card
-    → IsScaled at set (edge + 1) next
-scaled-next at set edge card next below before is few = record {
-  card =
-      ap (scaled_by_edges at.costing.grid at.point (set_of set) (edge + 1) (drop (edge + 1) (block_at at).edges)) is
-      ∙ sym (at_drop_more (λ edges. scaled_by_edges at.costing.grid at.point (set_of set) edge edges card) (block_at at).edges edge _ below)
-      ∙ before.card;
-  few = omega (arith, few, before.few);
-}
+pub halved-next : (at : Pricing) (set edge halvings more : ℕ) → edge < length (block_at at).edges → IsHalved at set edge halvings → more ≤ selectivity_bits
+    → more ≡ cond (is_inside (set_of set) (edge_at (block_at at).edges edge)) (halvings_of at.costing.grid.levels (slice_index at.point edge)) 0
+    → IsHalved at set (edge + 1) (halvings + more)
+halved-next at set edge halvings more below before few is =
+    let rest = λ (number : ℕ) (edges : List Edge). halvings_inside at.costing.grid at.point (set_of set) number edges in
+    let split : rest edge (drop edge (block_at at).edges) ≡ more + rest (edge + 1) (drop (edge + 1) (block_at at).edges) =
+    at_drop_more (rest edge) (block_at at).edges edge _ below ∙ ap (λ n. n + rest (edge + 1) (drop (edge + 1) (block_at at).edges)) (sym is) in
+    record { all = omega (arith, before.all, split); few = omega (arith, before.few, few) }
 
 -- one set more
-pub add-scaled : (at : Pricing) (cards : List ℕ) (end edge card : ℕ) → length cards ≡ 64 → end < 64 → ((set : ℕ) → set < end → IsScaled at set (edge + 1) (get_or cards set 0))
-    → ((set : ℕ) → end ≤ set → IsSetOf (block_at at) set → IsScaled at set edge (get_or cards set 0)) → IsScaled at end (edge + 1) card
-    → ((set : ℕ) → set < end + 1 → IsScaled at set (edge + 1) (get_or (slice_set cards end card) set 0))
-    × ((set : ℕ) → end + 1 ≤ set → IsSetOf (block_at at) set → IsScaled at set edge (get_or (slice_set cards end card) set 0)) × (length (slice_set cards end card) ≡ 64)
-add-scaled at cards end edge card long small before after here =
-    let lt : end < length cards = omega (arith, long, small) in (
-      below_more (λ set. IsScaled at set (edge + 1) (get_or (slice_set cards end card) set 0)) end
-          (λ k h. let ne : k ≢ end = omega arith in rw get_or-set_other (before k h)) (rw get_or-set_same here),
+pub add-halved : (at : Pricing) (halvings : List ℕ) (end edge number : ℕ) → length halvings ≡ 64 → end < 64
+    → ((set : ℕ) → set < end → IsSetOf (block_at at) set → IsHalved at set (edge + 1) (get_or halvings set 0))
+    → ((set : ℕ) → end ≤ set → IsSetOf (block_at at) set → IsHalved at set edge (get_or halvings set 0)) → IsHalved at end (edge + 1) number
+    → ((set : ℕ) → set < end + 1 → IsSetOf (block_at at) set → IsHalved at set (edge + 1) (get_or (slice_set halvings end number) set 0))
+    × ((set : ℕ) → end + 1 ≤ set → IsSetOf (block_at at) set → IsHalved at set edge (get_or (slice_set halvings end number) set 0)) × (length (slice_set halvings end number) ≡ 64)
+add-halved at halvings end edge number long small before after here =
+    let lt : end < length halvings = omega (arith, long, small) in (
+      below_more (λ set. IsSetOf (block_at at) set → IsHalved at set (edge + 1) (get_or (slice_set halvings end number) set 0)) end
+          (λ k h. let ne : k ≢ end = omega arith in rw get_or-set_other (before k h)) (rw get_or-set_same (λ of_block. here)),
       λ set above below. let ne : set ≢ end = omega (arith, above) in rw get_or-set_other (after set (omega (arith, above)) below),
       omega (arith, length-set {A = ℕ}, long),
     )
 
-pub all-scaled : (at : Pricing) (cards : List ℕ) (end : ℕ) → length (block_at at).edges ≤ end → AreScaled at cards end → AreCards at cards
-all-scaled at cards end all scaled-all set below =
-    let here = scaled-all set below in
-    sym (ap (λ rest. scaled_by_edges at.costing.grid at.point (set_of set) end rest (get_or cards set 0)) (drop_all end (block_at at).edges all)) ∙ here.card
+-- all edges are counted: a product, halved so often, is the card of the set
+pub halved-card : (at : Pricing) (set halvings product : ℕ) → IsHalved at set (length (block_at at).edges) halvings
+    → product ≡ kept_product (set_of set) 0 (kept_at at) → div_ceil product (2 ^ halvings) ≡ set_card (costing_tree at.costing) at.point set
+halved-card at set halvings product all is =
+    let edges = (block_at at).edges in
+    let none : drop (length edges) edges ≡ [] = drop_all (length edges) edges (omega arith) in
+    let whole : halvings ≡ halvings_inside at.costing.grid at.point (set_of set) 0 edges =
+    omega (arith, all.all, ap (halvings_inside at.costing.grid at.point (set_of set) (length edges)) none) in
+    (λ i. div_ceil (is i) (2 ^ whole i)) ∙ sym (card-once (costing_tree at.costing) (set_of set) at.point)
+
+-- the card of one set more
+pub add-card : (at : Pricing) (cards : List ℕ) (end card : ℕ) → length cards ≡ 64 → end < 64
+    → ((set : ℕ) → set < end → get_or cards set 0 ≡ set_card (costing_tree at.costing) at.point set)
+    → ((set : ℕ) → end ≤ set → IsSetOf (block_at at) set → get_or cards set 0 ≡ kept_product (set_of set) 0 (kept_at at)) → card ≡ set_card (costing_tree at.costing) at.point end
+    → ((set : ℕ) → set < end + 1 → get_or (slice_set cards end card) set 0 ≡ set_card (costing_tree at.costing) at.point set)
+    × ((set : ℕ) → end + 1 ≤ set → IsSetOf (block_at at) set → get_or (slice_set cards end card) set 0 ≡ kept_product (set_of set) 0 (kept_at at))
+    × (length (slice_set cards end card) ≡ 64)
+add-card at cards end card long small before after here =
+    let lt : end < length cards = omega (arith, long, small) in (
+      below_more (λ set. get_or (slice_set cards end card) set 0 ≡ set_card (costing_tree at.costing) at.point set) end
+          (λ k h. let ne : k ≢ end = omega arith in rw get_or-set_other (before k h)) (rw get_or-set_same here),
+      λ set above below. let ne : set ≢ end = omega (arith, above) in rw get_or-set_other (after set (omega (arith, above)) below),
+      omega (arith, length-set {A = ℕ}, long),
+    )

@@ -1,5 +1,6 @@
-// Numbers of rows, scaled by a selectivity and sorted.
-ghost use Rattle.std.specs.Prelude.{◌≡◌, ◌≤◌, if◌then◌else◌};
+// Numbers of rows, scaled by a selectivity.
+ghost use Rattle.std.specs.Prelude.{◌≡◌, ◌^◌, ◌≤◌};
+ghost use Rattle.std.specs.Int.{div_ceil};
 ghost use Rattle.sql_values.specs.Limits.{max_product};
 ghost use Rattle.ess_grid.specs.Levels.{full_selectivity};
 ghost use Rattle.cost_model.specs.AtPoint.{scaled};
@@ -17,16 +18,11 @@ pub(crate) fn scaled(rows: u128, selectivity: u32) -> u128
     (rows * u128::from(selectivity)).div_ceil(FULL_SELECTIVITY)
 }
 
-/// A card, scaled by an edge where it is inside the set.
-pub(crate) fn scaled_inside(inside: bool, card: u128, selectivity: u32) -> u128
-    requires card { card ≤ max_product }
-    requires part { selectivity ≤ full_selectivity }
-    ensures scaled { result ≡ (if inside then scaled card selectivity else card) }
-    ensures few { result ≤ card }
+/// A number of rows, halved so often, rounded up. A number within the limit of combinations is at most 1 after 100 times.
+pub(crate) fn halved(rows: u128, halvings: u8) -> u128
+    requires { rows ≤ max_product }
+    ensures halved { result ≡ div_ceil rows (2 ^ halvings) }
 {
-    if inside {
-        scaled(card, selectivity)
-    } else {
-        card
-    }
+    let times = halvings.min(100);
+    (rows + ((1 << times) - 1)) >> times
 }

@@ -1,6 +1,6 @@
 // What the cards and costs of plans depend on.
-ghost use Rattle.std.specs.Prelude.{◌≡◌, ◌<◌, ◌≤◌, IfSome, length};
-ghost use Rattle.ess_grid.specs.Levels.{full_selectivity};
+ghost use Rattle.std.specs.Prelude.{◌≡◌, ◌<◌, ◌≤◌, IfSome, length, slice_index};
+ghost use Rattle.ess_grid.specs.Levels.{full_selectivity, halvings_of, selectivity_bits};
 ghost use Rattle.ess_grid.specs.Points.{IsPoint};
 ghost use Rattle.query_block.specs.Blocks.{axes_of, axis_of, block_tree};
 ghost use Rattle.cost_model.specs.Fits.{FitsBlock};
@@ -135,5 +135,15 @@ impl<'c> Costing<'c> {
         ensures part { result ≤ full_selectivity }
     {
         self.grid.selectivity(q.levels()[axis_of_edge(edge)])
+    }
+    /// How often the whole is halved to come to it.
+    pub(crate) fn halvings(&self, edge: u8, q: &Point) -> u8
+        requires edge { edge < length self.now.block.edges }
+        requires point { IsPoint self.now.grid q.now }
+        ensures halvings { result
+            ≡ halvings_of self.now.grid.levels (slice_index q.now edge) }
+        ensures few { result ≤ selectivity_bits }
+    {
+        self.grid.halvings(q.levels()[axis_of_edge(edge)]) as u8
     }
 }

@@ -23,6 +23,8 @@ use std::marker::Model;
 /// Room for the prices of nodes at a point. It is made once, and lent for one point after another.
 #[derive(Drop)]
 pub struct PriceRoom {
+    // How often the product of a set is halved, by the set's number.
+    halvings: [u8; 64],
     // The cards of sets, by their numbers.
     cards: [u128; 64],
 }
@@ -30,7 +32,10 @@ pub struct PriceRoom {
 impl PriceRoom {
     /// Room for the prices at one point at a time.
     pub fn new() -> PriceRoom {
-        PriceRoom { cards: [0; 64] }
+        PriceRoom {
+            halvings: [0; 64],
+            cards: [0; 64],
+        }
     }
 }
 
@@ -82,7 +87,7 @@ impl<'a> Prices<'a> {
         ensures costing { result.costing ≡ costing.now }
         ensures point { result.point ≡ q.now }
     {
-        fill_cards(costing, q, &mut room.cards);
+        fill_cards(costing, q, &mut room.halvings, &mut room.cards);
         Prices { costing, q, room }
     }
 

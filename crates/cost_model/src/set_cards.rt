@@ -1,16 +1,14 @@
 // The cards of all sets of a block's relations at a point: the products of filtered counts, each from that of a smaller set, and
-// these scaled by one edge after another.
+// these halved once for all edges inside the set, since every selectivity is the whole, halved.
 ghost use Rattle.std.specs.Prelude.{◌≡◌, ◌+◌, ◌^◌, ◌<◌, ◌≤◌, if◌then◌else◌, length};
 ghost use Rattle.sql_values.specs.Limits.{max_product};
-ghost use Rattle.ess_grid.specs.Levels.{full_selectivity};
 ghost use Rattle.ess_grid.specs.Points.{IsPoint};
 ghost use Rattle.query_block.specs.Blocks.{block_tree};
 ghost use Rattle.cost_model.specs.Costing.{costing_tree, IsCosting};
-ghost use Rattle.cost_model.specs.AtPoint.{scaled};
 ghost use Rattle.cost_model.specs.Prices.{AreCards};
-ghost use Rattle.cost_model.specs.SetCards.{AreProducts, AreScaled};
+ghost use Rattle.cost_model.specs.SetCards.{AreHalvings, AreProducts};
 
-use crate::arithmetic::scaled_inside;
+use crate::arithmetic::halved;
 use crate::costing::Costing;
 use crate::set::set_count;
 use ess_grid::Point;
@@ -45,30 +43,60 @@ fn fill_products(costing: &Costing<'_>, q: &Point, products: &mut [u128; 64])
     }
 }
 
-// Scales the cards of the sets that this edge is inside.
-fn scale_by_edge(costing: &Costing<'_>, q: &Point, cards: &mut [u128; 64], edge: usize)
+// Counts how often the sets that this edge is inside are halved for it.
+fn halve_by_edge(costing: &Costing<'_>, q: &Point, halvings: &mut [u8; 64], edge: usize)
     requires edge { edge < length costing.now.block.edges }
     requires point { IsPoint costing.now.grid q.now }
-    requires before { AreScaled (record { costing = costing.now; point = q.now }) cards.old edge }
-    ensures { AreScaled (record { costing = costing.now; point = q.now }) cards.new (edge + 1) }
+    requires before { AreHalvings (record { costing = costing.now; point = q.now }) halvings.old edge }
+    ensures { AreHalvings (record { costing = costing.now; point = q.now }) halvings.new (edge + 1) }
 {
     let block = costing.block();
     let ends = &block.edges()[edge];
-    let selectivity = costing.selectivity(edge as u8, q);
+    let more = costing.halvings(edge as u8, q);
     for set in 0..set_count(block) {
         let inside = Subset::new(set).has_both(ends);
-        cards[set as usize] = scaled_inside(inside, cards[set as usize], selectivity);
+        halvings[set as usize] += if inside { more } else { 0 };
+    }
+}
+
+// How often each set is halved for all edges inside it together.
+fn fill_halvings(costing: &Costing<'_>, q: &Point, halvings: &mut [u8; 64])
+    requires { IsPoint costing.now.grid q.now }
+    ensures costing { IsCosting (costing_tree costing.now) }
+    ensures halvings { AreHalvings (record { costing = costing.now; point = q.now }) halvings.new
+        (length costing.now.block.edges) }
+{
+    *halvings = [0; 64];
+    for edge in 0..costing.block().edges().len() {
+        halve_by_edge(costing, q, halvings, edge);
+    }
+}
+
+// Halves the product of each set so often.
+fn halve_products(costing: &Costing<'_>, q: &Point, halvings: &[u8; 64], cards: &mut [u128; 64])
+    requires products { AreProducts (record { costing = costing.now; point = q.now }) cards.old
+        (2 ^ length (block_tree costing.now.block).relations) }
+    requires halvings { AreHalvings (record { costing = costing.now; point = q.now }) halvings.now
+        (length costing.now.block.edges) }
+    ensures { AreCards (record { costing = costing.now; point = q.now }) cards.new }
+{
+    for set in 0..set_count(costing.block()) {
+        cards[set as usize] = halved(cards[set as usize], halvings[set as usize]);
     }
 }
 
 /// Works out the cards of all sets of the block's relations.
-pub(crate) fn fill_cards(costing: &Costing<'_>, q: &Point, cards: &mut [u128; 64])
+pub(crate) fn fill_cards(
+    costing: &Costing<'_>,
+    q: &Point,
+    halvings: &mut [u8; 64],
+    cards: &mut [u128; 64],
+)
     requires { IsPoint costing.now.grid q.now }
     ensures costing { IsCosting (costing_tree costing.now) }
     ensures cards { AreCards (record { costing = costing.now; point = q.now }) cards.new }
 {
     fill_products(costing, q, cards);
-    for edge in 0..costing.block().edges().len() {
-        scale_by_edge(costing, q, cards, edge);
-    }
+    fill_halvings(costing, q, halvings);
+    halve_products(costing, q, halvings, cards);
 }
