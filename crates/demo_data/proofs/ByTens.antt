@@ -1,5 +1,5 @@
 -- Entries ten at a time, in columns that begin again after a number of tens.
-use Rattle.std.proofs.Common.{◌≡◌, ℕ, zero, suc, ◌+◌, ◌*◌, ◌/◌, ◌%◌, ◌<◌, ◌≤◌, List, [], ◌∷◌, ◌++◌, sym, refl, ap, ◌∙◌, append-nil, append_assoc, map-id, arith}
+use Rattle.std.proofs.Common.{◌≡◌, ℕ, zero, suc, ◌+◌, ◌*◌, ◌/◌, ◌%◌, ◌<◌, ◌≤◌, List, [], ◌∷◌, ◌++◌, sym, refl, ap, ◌∙◌, append-nil, append_assoc, map-id, arith, rules}
 use Rattle.std.specs.List.{flat_map, range_with_len}
 use Rattle.std.proofs.Math.Nat.{mod-eq_of_lt, mul_left_comm}
 use Rattle.std.proofs.lemmas.Grind.{flat_map-append}
@@ -14,18 +14,13 @@ numbers-more count =
 -- behind the first entries comes the next one
 pub entries_more : (line : ℕ → List ℕ) (count : ℕ)
     → flat_map line (range_with_len 0 (count + 1)) ≡ flat_map line (range_with_len 0 count) ++ line count
-entries_more line count =
-    ap (flat_map line) (numbers-more count)
-    ∙ flat_map-append line (range_with_len 0 count) (count ∷ [])
-    ∙ ap (λ last. flat_map line (range_with_len 0 count) ++ last) (append-nil (line count))
+entries_more line count = search (rules, numbers-more, flat_map-append, append-nil)
 
 -- and so many others
 entries_behind : (line : ℕ → List ℕ) (before count : ℕ)
     → flat_map line (range_with_len 0 (before + count))
     ≡ flat_map line (range_with_len 0 before) ++ flat_map (λ d. line (before + d)) (range_with_len 0 count)
-entries_behind line before zero =
-    let end : before + 0 ≡ before = omega arith in
-    ap (λ n. flat_map line (range_with_len 0 n)) end ∙ sym (append-nil _)
+entries_behind line before zero = search (rules, append-nil)
 entries_behind line before (suc count) =
     let end : before + suc count ≡ before + count + 1 = omega arith in
     let next : suc count ≡ count + 1 = omega arith in
@@ -91,6 +86,4 @@ ten_more header first second ten some_first tens_first some_second tens_second =
 pub counted_through : (header : List ℕ) (count second : ℕ)
     → file_of_entries header count (λ i. entry_line (i % count) (i % second))
     ≡ file_of_entries header count (λ i. entry_line i (i % second))
-counted_through header count second =
-    ap (λ xs. header ++ xs)
-    (same_entries _ _ count (λ i below. ap (λ n. entry_line n (i % second)) (mod-eq_of_lt below)))
+counted_through header count second = search (rules, same_entries, mod-eq_of_lt)

@@ -1,5 +1,5 @@
 -- A number that ends in 0, and one that differs from it in the last digit.
-use Rattle.std.proofs.Common.{◌≡◌, ℕ, suc, ◌+◌, ◌-◌, ◌/◌, ◌%◌, ◌^◌, ◌<◌, ◌≤◌, List, [], ◌∷◌, ◌++◌, length, set, take, refl, sym, ap, ◌∙◌, ⊎_elim, arith, length-append, append_assoc}
+use Rattle.std.proofs.Common.{◌≡◌, ℕ, suc, ◌+◌, ◌-◌, ◌%◌, ◌^◌, ◌<◌, List, [], ◌∷◌, ◌++◌, length, set, take, refl, sym, ap, ◌∙◌, ⊎_elim, arith, length-append, append_assoc, rules}
 use Rattle.std.specs.Fmt.{decimal}
 use Rattle.std.proofs.Math.Seq.{take-append-add}
 use Rattle.std.proofs.lemmas.Bool.{cases_lt}
@@ -17,10 +17,7 @@ set_behind front xs i y =
 pub digits_behind : (text line : List ℕ) (first second end digit : ℕ)
     → set (set (take (length text + end) (text ++ line)) (length text + first) digit) (length text + second) digit
     ≡ text ++ set (set (take end line) first digit) second digit
-digits_behind text line first second end digit =
-    ap (λ xs. set (set xs (length text + first) digit) (length text + second) digit) (take-append-add text line end)
-    ∙ ap (λ xs. set xs (length text + second) digit) (set_behind text (take end line) first digit)
-    ∙ set_behind text (set (take end line) first digit) second digit
+digits_behind text line first second end digit = search (rules, take-append-add, set_behind)
 
 set-last : (front : List ℕ) (old new : ℕ)
     → set (front ++ old ∷ []) (length (front ++ old ∷ []) - 1) new ≡ front ++ new ∷ []
@@ -31,34 +28,14 @@ set-last front old new =
 
 pub last_digit : (n d : ℕ) → n % 10 ≡ 0 → d < 10 → n + d < 2 ^ 64
     → set (decimal n) (length (decimal n) - 1) (48 + d) ≡ decimal (n + d)
-last_digit n d ends small fits =
-    ⊎_elim
-    (λ (low : n < 10).
-    let sum : 48 + (n + d) ≡ 48 + d = omega (arith, ends, low) in
-    ap (λ ds. set ds (length ds - 1) (48 + d)) (decimal_digit n low)
-    ∙ sym (ap (λ digit. digit ∷ []) sum)
-    ∙ sym (decimal_digit (n + d) (omega (arith, ends, low, small))))
-    (λ (high : 10 ≤ n).
-    let tens : (n + d) / 10 ≡ n / 10 = omega (arith, ends, small) in
-    let digit : 48 + (n + d) % 10 ≡ 48 + d = omega (arith, ends, small) in
-    ap (λ ds. set ds (length ds - 1) (48 + d)) (decimal_step n high (omega (arith, fits)))
-    ∙ set-last (decimal (n / 10)) (48 + n % 10) (48 + d)
-    ∙ sym (decimal_step (n + d) (omega (arith, high)) fits
-    ∙ ap (λ front. decimal front ++ (48 + (n + d) % 10) ∷ []) tens
-    ∙ ap (λ last. decimal (n / 10) ++ last ∷ []) digit))
-    (cases_lt n 10)
+last_digit n d ends small fits = search (rules, ⊎_elim, decimal_digit, decimal_step, set-last, cases_lt)
 
 set-front : (n d : ℕ) (rest : List ℕ) → n % 10 ≡ 0 → d < 10 → n + d < 2 ^ 64
     → set (decimal n ++ rest) (length (decimal n) - 1) (48 + d) ≡ decimal (n + d) ++ rest
-set-front n d rest ends small fits =
-    let some : 0 < length (decimal n) = decimal_nonempty n (omega (arith, fits)) in
-    set-append_left (decimal n) rest (length (decimal n) - 1) (48 + d) (omega (arith, some))
-    ∙ ap (λ front. front ++ rest) (last_digit n d ends small fits)
+set-front n d rest ends small fits = search (rules, decimal_nonempty, set-append_left, last_digit)
 
 parts-entry : (a b : ℕ) → entry_line a b ≡ decimal a ++ 44 ∷ (decimal b ++ 10 ∷ [])
-parts-entry a b =
-    append_assoc (decimal a ++ 44 ∷ []) (decimal b) (10 ∷ [])
-    ∙ append_assoc (decimal a) (44 ∷ []) (decimal b ++ 10 ∷ [])
+parts-entry a b = search (rules, append_assoc)
 
 -- so an entry is another's line with two digits set
 pub line_of_digits : (a b d : ℕ) → a % 10 ≡ 0 → b % 10 ≡ 0 → d < 10 → a + d < 2 ^ 64 → b + d < 2 ^ 64

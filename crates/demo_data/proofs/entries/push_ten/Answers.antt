@@ -17,12 +17,7 @@ few-digits n small = length-decimal-le 6 n (omega arith) (omega (arith, small)) 
 
 take-front : (front rest : List ℕ) (n room : ℕ) → length front ≡ n → n ≤ room
     → take n (take room (front ++ rest)) ≡ front
-take-front front rest n room whole fits =
-    let more : room ≡ length front + (room - n) = omega (arith, whole, fits) in
-    ap (λ r. take n (take r (front ++ rest))) more
-    ∙ ap (take n) (take-append-add front rest (room - n))
-    ∙ ap (λ i. take i (front ++ take (room - n) rest)) (sym whole)
-    ∙ take-append_seam front (take (room - n) rest)
+take-front front rest n room whole fits = grind (arith, common_steps, take-append-add, take-append_seam)
 
 -- what is copied begins with the whole entry
 line-copied : (copied rest : List ℕ) (a b end : ℕ)
@@ -56,25 +51,13 @@ entry_more text old line a b d comma end is_line is_comma is_end ends_a ends_b s
     ∙ ap (λ xs. old ++ xs) (sym (entries_more (λ k. entry_line (a + k) (b + k)) d))
 
 pub overflow_sub-comma : goal.overflow_sub-comma
-overflow_sub-comma c =
-    let some : 0 < length (decimal c.args.first) = some-digit c.args.first c.requires.first_short in
-    grind (arith, some)
+overflow_sub-comma c = search (rules, some-digit)
 
 pub push_line-requires-clause-first : goal.push_line-requires-clause-first
-push_line-requires-clause-first c =
-    let comma : c.len-comma.result ≡ length (decimal c.args.first) = grind (arith, common_steps) in
-    let end : c.len-end.result ≡ length (decimal c.args.first) + 1 + length (decimal c.args.second) =
-    grind (arith, common_steps) in
-    omega (arith, comma, end, some-digit _ c.requires.first_short, some-digit _ c.requires.second_short)
+push_line-requires-clause-first c = search (rules, common_steps, some-digit)
 
 pub push_line-requires-clause-second : goal.push_line-requires-clause-second
-push_line-requires-clause-second c =
-    let end : c.len-end.result ≡ length (decimal c.args.first) + 1 + length (decimal c.args.second) =
-    grind (arith, common_steps) in
-    let behind : 16 ≤ length c.deref.result.now =
-    omega (arith, ap length (c.deref.ensures.value ∙ c.in_ok-extend_from_slice-3.ensures.items), length-append c.push-2.new.self.items (replicate 16 0)) in
-    let room : length (take 16 c.deref.result.now) ≡ 16 = length-take-le 16 c.deref.result.now behind in
-    omega (arith, end, room, few-digits _ c.requires.first_short, few-digits _ c.requires.second_short)
+push_line-requires-clause-second c = search (rules, common_steps, length-append, length-take-le, few-digits)
 
 pub loop-d-preserved : goal.loop-d-preserved
 loop-d-preserved c =
