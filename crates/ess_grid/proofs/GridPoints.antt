@@ -1,5 +1,6 @@
 -- The points of a grid: each is at one place, the first is the bottom and the last the top.
 use Rattle.std.proofs.Common.{◌≡◌, ℕ, zero, suc, ◌+◌, ◌-◌, ◌*◌, ◌^◌, ◌<◌, ◌≤◌, List, [], ◌∷◌, length, get_or, drop, Some, refl, ap, sym, subst, ◌∙◌, arith, sum, length-set}
+use Rattle.std.proofs.lemmas.Grind.{common_steps}
 use Rattle.std.proofs.lemmas.List.{length-replicate}
 use Rattle.std.specs.Prelude.{All, slice_get, slice_index, replicate}
 use Rattle.std.proofs.lemmas.List.Elements.{All-set, All-replicate, All-from_get_or}
@@ -77,8 +78,7 @@ levels_at-first levels (suc others) =
 
 pub slice_get-bottom : (grid : GridShape) → IsGrid grid → slice_get (points_of grid) 0 ≡ Some (bottom_of grid)
 slice_get-bottom grid is_grid =
-    slice_get-points_of grid 0 is_grid (one-le-pow grid.axes grid.levels (some_levels grid is_grid))
-    ∙ ap Some (levels_at-first grid.levels grid.axes)
+    grind (arith, common_steps, slice_get-points_of, one-le-pow, some_levels, levels_at-first)
 
 place_at-last : (levels axes : ℕ) → 0 < levels → place_at levels (replicate axes (levels - 1)) + 1 ≡ levels ^ axes
 place_at-last levels zero some = sym (pow-zero levels)
@@ -89,10 +89,7 @@ place_at-last levels (suc others) some =
     more ∙ ap (λ n. n * levels) before ∙ sym (pow-suc levels others)
 
 pub IsPoint-top : (grid : GridShape) → IsGrid grid → IsPoint grid (top_of grid)
-IsPoint-top grid is_grid = record {
-  axes = length-replicate grid.axes (grid.levels - 1);
-  levels = All-replicate (λ level. level < grid.levels) grid.axes (grid.levels - 1) (omega (arith, is_grid.some_levels));
-}
+IsPoint-top grid is_grid = grind (arith, common_steps, length-replicate, All-replicate)
 
 pub slice_get-top : (grid : GridShape) → IsGrid grid → slice_get (points_of grid) (grid.levels ^ grid.axes - 1) ≡ Some (top_of grid)
 slice_get-top grid is_grid =
@@ -119,10 +116,7 @@ PointBelow-top grid point is_point =
 -- ---- the next point on an axis
 
 pub IsPoint-next_point : (grid : GridShape) (point : List ℕ) (axis : ℕ) → IsPoint grid point → slice_index point axis + 1 < grid.levels → IsPoint grid (next_point point axis)
-IsPoint-next_point grid point axis is_point lower = record {
-  axes = length-set point axis (slice_index point axis + 1) ∙ is_point.axes;
-  levels = All-set (λ level. level < grid.levels) point axis (slice_index point axis + 1) lower is_point.levels;
-}
+IsPoint-next_point grid point axis is_point lower = grind (arith, common_steps, length-set, All-set)
 
 -- its levels sum up to one more
 pub sum-next_point : (point : List ℕ) (axis : ℕ) → axis < length point → sum (next_point point axis) ≡ sum point + 1

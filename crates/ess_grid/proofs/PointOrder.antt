@@ -1,5 +1,6 @@
 -- The order of points: it is a partial order, and nothing lies between a point and the next one on an axis.
 use Rattle.std.proofs.Common.{◌≡◌, ◌⊎◌, inl, inr, ℕ, zero, suc, ◌+◌, ◌<◌, ◌≤◌, List, [], ◌∷◌, length, refl, ap, ⊎_elim, le_refl, arith}
+use Rattle.std.proofs.lemmas.Grind.{common_steps}
 use Rattle.std.specs.Prelude.{slice_index}
 use Rattle.std.proofs.lemmas.Bool.{cases_lt}
 use Rattle.ess_grid.specs.Order.{PointBelow, next_point}
@@ -66,10 +67,6 @@ next_point-adjacent (x ∷ xs) zero (y ∷ ys) above below =
     (λ lower. let same : y ≡ x = omega (arith, lower, above.0) in inl (λ i. same i ∷ rest i))
     (cases_lt x y)
 next_point-adjacent (x ∷ xs) (suc axis) (y ∷ ys) above below =
-    let same : y ≡ x = omega (arith, above.0, below.0) in
-    ⊎_elim
-    (λ rest. inl (λ i. same i ∷ rest i))
-    (λ rest. inr (λ i. same i ∷ rest i))
-    (next_point-adjacent xs axis ys above.1 below.1)
+    grind (arith, common_steps, ⊎_elim, next_point-adjacent xs axis ys above.1 below.1)
 
 pub ruleset of_order = (length-below, level-below, PointBelow-from_levels)

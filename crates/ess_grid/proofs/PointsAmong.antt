@@ -1,5 +1,6 @@
 -- The points of a grid by their places.
 use Rattle.std.proofs.Common.{◌≡◌, ℕ, zero, suc, ◌+◌, ◌-◌, ◌*◌, ◌/◌, ◌%◌, ◌^◌, ◌<◌, ◌≤◌, List, [], ◌∷◌, ◌++◌, length, get_or, set, take, drop, Some, refl, ap, sym, ◌∙◌, arith, add-one, length-append}
+use Rattle.std.proofs.lemmas.Grind.{common_steps}
 use Rattle.std.specs.Prelude.{All, slice_get, map}
 use Rattle.std.specs.List.{flat_map, range_with_len}
 use Rattle.std.proofs.lemmas.List.{append_assoc, append-nil, take_more_set, get_or_append_left, get_or-append-add}
@@ -27,28 +28,19 @@ spread levels rest = map (λ level. level ∷ rest) (range_with_len 0 levels)
 length-spread : (levels : ℕ) (rests : List (List ℕ)) → length (flat_map (spread levels) rests) ≡ length rests * levels
 length-spread levels [] = omega arith
 length-spread levels (rest ∷ rests) =
-    length-append (spread levels rest) (flat_map (spread levels) rests)
-    ∙ ap (λ n. n + length (flat_map (spread levels) rests)) (length-map-range_with_len (λ level. level ∷ rest) 0 levels)
-    ∙ ap (λ n. levels + n) (length-spread levels rests)
-    ∙ grind arith
+    grind (arith, common_steps, length-append, length-map-range_with_len, length-spread levels rests)
 
 -- there are as many points as levels to the power of axes
 pub length-points_among : (levels axes : ℕ) → length (points_among levels axes) ≡ levels ^ axes
 unfolding points_among
 length-points_among levels zero = sym (pow-zero levels)
 length-points_among levels (suc others) =
-    length-spread levels (points_among levels others)
-    ∙ ap (λ n. n * levels) (length-points_among levels others)
-    ∙ sym (pow-suc levels others)
+    grind (arith, common_steps, length-spread, pow-suc, length-points_among levels others)
 
 get_or-spread : (levels : ℕ) (rests : List (List ℕ)) (i level : ℕ) → i < length rests → level < levels → get_or (flat_map (spread levels) rests) (i * levels + level) [] ≡ level ∷ get_or rests i []
 get_or-spread levels [] i level there below = absurd (omega (arith, there))
 get_or-spread levels (rest ∷ rests) zero level there below =
-    let long = length-map-range_with_len (λ level. level ∷ rest) 0 levels in
-    let at : 0 * levels + level ≡ level = omega arith in
-    ap (λ k. get_or (flat_map (spread levels) (rest ∷ rests)) k []) at
-    ∙ get_or_append_left (spread levels rest) (flat_map (spread levels) rests) [] level (omega (arith, long, below))
-    ∙ get_or-map-range_with_len (λ level. level ∷ rest) 0 levels level level [] below (omega arith)
+    grind (arith, common_steps, length-map-range_with_len, get_or, get_or_append_left, get_or-map-range_with_len)
 get_or-spread levels (rest ∷ rests) (suc i) level there below =
     let long = length-map-range_with_len (λ level. level ∷ rest) 0 levels in
     let at : suc i * levels + level ≡ length (spread levels rest) + (i * levels + level) = grind (arith, long) in
@@ -112,9 +104,7 @@ place_at-below levels (level ∷ rest) all =
 
 -- the levels of a place go on with those of the place among the other axes
 pub levels_at-more : (levels axes axis i : ℕ) → axis < axes → levels_at levels (axes - axis) i ≡ i % levels ∷ levels_at levels (axes - (axis + 1)) (i / levels)
-levels_at-more levels axes axis i more =
-    let others : axes - axis ≡ suc (axes - (axis + 1)) = omega arith in
-    ap (λ n. levels_at levels n i) others
+levels_at-more levels axes axis i more = grind (arith, common_steps)
 
 drop-place_at : (levels : ℕ) (point : List ℕ) (axis : ℕ) → axis < length point → place_at levels (drop axis point) ≡ place_at levels (drop (suc axis) point) * levels + get_or point axis 0
 drop-place_at levels [] axis there = absurd (omega (arith, there))
@@ -136,13 +126,8 @@ place_at-drop-le levels (level ∷ rest) (suc axis) some =
 -- one level more
 pub levels_at-set : (levels axes axis i rest : ℕ) (array : List ℕ) → axis < axes → axes ≤ length array → take axis array ++ levels_at levels (axes - axis) rest ≡ levels_at levels axes i → take (axis + 1) (set array axis (rest % levels)) ++ levels_at levels (axes - (axis + 1)) (rest / levels) ≡ levels_at levels axes i
 levels_at-set levels axes axis i rest array more long so_far =
-    ap (λ front. front ++ levels_at levels (axes - (axis + 1)) (rest / levels)) (take_more_set array axis (rest % levels) (omega (arith, more, long)))
-    ∙ append_assoc (take axis array) (rest % levels ∷ []) (levels_at levels (axes - (axis + 1)) (rest / levels))
-    ∙ ap (λ back. take axis array ++ back) (sym (levels_at-more levels axes axis rest more))
-    ∙ so_far
+    grind (arith, common_steps, take_more_set, append_assoc, levels_at-more)
 
 -- all levels
 pub levels_at-all : (levels axes axis i rest : ℕ) (array : List ℕ) → axes ≤ axis → take axis array ++ levels_at levels (axes - axis) rest ≡ levels_at levels axes i → take axis array ≡ levels_at levels axes i
-levels_at-all levels axes axis i rest array all so_far =
-    let none : axes - axis ≡ 0 = omega arith in
-    sym (append-nil (take axis array)) ∙ ap (λ n. take axis array ++ levels_at levels n rest) (sym none) ∙ so_far
+levels_at-all levels axes axis i rest array all so_far = grind (arith, common_steps, append-nil)

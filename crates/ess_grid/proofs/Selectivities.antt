@@ -1,5 +1,6 @@
 -- Selectivities double from halving to halving, and grow from level to level.
 use Rattle.std.proofs.Common.{◌≡◌, ℕ, ◌+◌, ◌-◌, ◌*◌, ◌^◌, ◌<◌, ◌≤◌, ap, sym, ◌∙◌, arith}
+use Rattle.std.proofs.lemmas.Grind.{common_steps}
 use Rattle.std.proofs.lemmas.Nat.{pow_below, pow_pos, pow-add, le-div}
 use Rattle.std.proofs.Math.Nat.{div-mul-le_self, mul-le-mul_left, pow-le-pow_right}
 use Rattle.sql_values.specs.Limits.{min_levels, max_levels}
@@ -7,9 +8,7 @@ use Rattle.ess_grid.specs.Levels.{selectivity_bits, full_selectivity, step_of, h
 
 -- the whole isn't halved more often than it has bits
 pub halvings_of-le : (levels level : ℕ) → halvings_of levels level ≤ selectivity_bits
-halvings_of-le levels level =
-    let fewer : levels - 1 - level ≤ levels - 1 = omega arith in
-    omega (arith, mul-le-mul_left (step_of levels) fewer, div-mul-le_self selectivity_bits (levels - 1))
+halvings_of-le levels level = grind (arith, common_steps, mul-le-mul_left, div-mul-le_self)
 
 -- a selectivity doubled as often as the whole was halved is the whole
 pub selectivity_of-halvings : (levels level : ℕ) → selectivity_of levels level * 2 ^ halvings_of levels level ≡ full_selectivity
@@ -32,15 +31,8 @@ step_of-some levels some few = le-div 1 selectivity_bits (levels - 1) (omega ari
 -- selectivities grow with the level
 pub selectivity_of-lt : (levels lower higher : ℕ) → min_levels ≤ levels → levels ≤ max_levels → lower < higher → higher < levels → selectivity_of levels lower < selectivity_of levels higher
 selectivity_of-lt levels lower higher some few less there =
-    let fewer : levels - 1 - higher + 1 ≤ levels - 1 - lower = omega arith in
-    let product = mul-le-mul_left (step_of levels) fewer in
-    let split : step_of levels * (levels - 1 - higher + 1) ≡ halvings_of levels higher + step_of levels = grind arith in
-    pow_below (selectivity_bits - halvings_of levels lower) (selectivity_bits - halvings_of levels higher)
-    (omega (arith, product, split, step_of-some levels some few, halvings_of-le levels lower, halvings_of-le levels higher))
+    grind (arith, common_steps, mul-le-mul_left, pow_below, step_of-some, halvings_of-le)
 
 -- the highest level stands for the whole
 pub selectivity_of-top : (levels : ℕ) → selectivity_of levels (levels - 1) ≡ full_selectivity
-selectivity_of-top levels =
-    let none : levels - 1 - (levels - 1) ≡ 0 = omega arith in
-    let never : step_of levels * (levels - 1 - (levels - 1)) ≡ 0 = rw none (omega arith) in
-    ap (λ n. 2 ^ (selectivity_bits - n)) never
+selectivity_of-top levels = grind (arith, common_steps)

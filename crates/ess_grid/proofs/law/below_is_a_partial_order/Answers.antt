@@ -1,3 +1,5 @@
+use Rattle.std.proofs.Common.{arith}
+use Rattle.std.proofs.lemmas.Grind.{common_steps}
 use Rattle.ess_grid.proofs.PointOrder.{length-below, level-below, PointBelow-from_levels, PointBelow-refl, PointBelow-trans, PointBelow-antisym}
 use Rattle.ess_grid.proofs.law.below_is_a_partial_order.Goals as goal
 
@@ -5,7 +7,4 @@ pub returns-clause-order : goal.returns-clause-order
 returns-clause-order c = record { reflexive = PointBelow-refl; transitive = PointBelow-trans; antisymmetric = PointBelow-antisym }
 
 pub returns-clause-every_axis : goal.returns-clause-every_axis
-returns-clause-every_axis c = λ point other. (
-  (λ is_below. (length-below point other is_below, λ axis there. level-below point other is_below axis)),
-  (λ facts. PointBelow-from_levels point other facts.0 facts.1),
-)
+returns-clause-every_axis c = grind (arith, common_steps, length-below, level-below, PointBelow-from_levels)
