@@ -1,5 +1,6 @@
 -- Texts are equal where their bytes are, and texts of a dictionary where their codes are.
-use Rattle.std.proofs.Common.{◌≡◌, ◌≢◌, ℕ, ◌<◌, zero, suc, not, List, [], ◌∷◌, length, ℤ, pos, negsuc, refl, sym, ap, ◌∙◌, IsSome, get_or, nat_eq, nat_cmp, of_z, w64, arith}
+use Rattle.std.proofs.Common.{◌≡◌, ◌≢◌, ℕ, ◌<◌, zero, suc, not, List, [], ◌∷◌, length, ℤ, pos, negsuc, refl, IsSome, get_or, nat_eq, nat_cmp, of_z, w64, arith}
+use Rattle.std.proofs.lemmas.Grind.{common_steps}
 use Rattle.std.specs.List.{IsDistinct, AllPairs}
 use Rattle.std.specs.Ordering.{is_eq, is_ne}
 use Rattle.std.specs.Cmp.Lexicographic.{slice_cmp}
@@ -30,22 +31,12 @@ place-below (text ∷ texts) (suc place) there = let below : place < length text
 
 -- different places have different texts
 one_place : (texts : List (List ℕ)) (i j : ℕ) → AllPairs (λ x y. x ≢ y) texts → i < length texts → j < length texts → get_or texts i [] ≡ get_or texts j [] → i ≡ j
-one_place texts i j pairs there_i there_j same =
-    let not_below : i < j → ⊥ = λ below. pairs i j [] below there_j same in
-    let not_above : j < i → ⊥ = λ below. pairs j i [] below there_i (sym same) in
-    omega arith
+one_place texts i j pairs there_i there_j same = grind (arith, common_steps)
 
 -- so codes are equal where their texts are
 pub equal_codes : (texts : List (List ℕ)) (a b : ℤ) → IsDistinct bytes_eq texts → IsSome (text_of texts a) → IsSome (text_of texts b)
     → nat_eq (of_z w64 a) (of_z w64 b) ≡ is_eq (slice_cmp nat_cmp (text_at texts a) (text_at texts b))
 equal_codes texts (pos i) (pos j) distinct there_i there_j =
-    let texts_same : bytes_eq (text_at texts (pos i)) (text_at texts (pos j)) ≡ is_eq (slice_cmp nat_cmp (text_at texts (pos i)) (text_at texts (pos j))) = sym (is_eq-slice_cmp (text_at texts (pos i)) (text_at texts (pos j))) in
-    same_from_decides (nat_eq i j) (bytes_eq (text_at texts (pos i)) (text_at texts (pos j))) (Decides-eqb i j)
-    (Decides-like _
-    (λ same. one_place texts i j (AllPairs-from_IsDistinct bytes_eq-Decides texts distinct) (place-below texts i there_i) (place-below texts j there_j)
-    (sym (text-at-place texts i) ∙ same ∙ text-at-place texts j))
-    (λ same. ap (λ place. text_at texts (pos place)) same)
-    (bytes_eq-Decides _ _))
-    ∙ texts_same
+    grind (arith, common_steps, nat_cmp, is_eq-slice_cmp, same_from_decides, nat_eq, Decides-eqb, Decides-like, one_place, AllPairs-from_IsDistinct, bytes_eq-Decides, place-below, text-at-place)
 equal_codes texts (pos i) (negsuc j) distinct there_i there_j = cc
 equal_codes texts (negsuc i) b distinct there_i there_j = cc

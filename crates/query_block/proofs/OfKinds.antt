@@ -1,13 +1,12 @@
 -- The values of words are of the kinds of their columns.
-use Rattle.std.proofs.Common.{◌≡◌, ℕ, zero, suc, ℤ, pos, negsuc, ◌<◌, Bool, true, false, List, [], ◌∷◌, length, slice_get, unwrap_or, if◌then◌else◌, refl, sym, subst, arith}
-use Rattle.std.specs.Ordering.{int_eq}
+use Rattle.std.proofs.Common.{◌≡◌, ℕ, zero, suc, ℤ, pos, negsuc, ◌<◌, true, List, [], ◌∷◌, length, slice_get, unwrap_or, refl, sym, subst, arith}
+use Rattle.std.proofs.lemmas.Grind.{common_steps}
 use Rattle.std.proofs.lemmas.Bool.{or_left, or_right}
 use Rattle.std.proofs.lemmas.Slice.Eq.{bytes_eq-Decides}
-use Rattle.sql_values.specs.declared.value.Value.TheVariants as value
 use Rattle.sql_values.specs.declared.column.ColumnType.{ColumnType}
 use Rattle.sql_values.specs.declared.column.ColumnType.TheVariants.{Integer, Varchar}
 use Rattle.sql_values.specs.Dictionary.{has_text}
-use Rattle.sql_values.specs.Words.{null_word, value_of, IsWord}
+use Rattle.sql_values.specs.Words.{value_of, IsWord}
 use Rattle.sql_values.specs.Stored.{AreWordsOf, values_of}
 use Rattle.sql_values.proofs.Stored.{NULL_is_null}
 use Rattle.query_block.specs.Truth.{value_at}
@@ -22,11 +21,7 @@ has-own (x ∷ xs) (suc place) there = or_right _ _ (has-own xs place (omega (ar
 
 -- the value of a word
 of-word : (texts : List (List ℕ)) (kind : ColumnType) (word : ℤ) → IsWord texts kind word → IsOfKind texts kind (value_of texts kind word)
-of-word texts Integer word is = by (int_eq word null_word)
-  where
-    by : (b : Bool) → IsOfKind texts Integer (if b then value.Null else value.Int word)
-    by true = tt
-    by false = refl
+of-word texts Integer word is = grind (arith, common_steps)
 of-word texts (Varchar most) (pos place) is = (refl, has-own texts place is)
 of-word texts (Varchar most) (negsuc n) is =
     subst (λ w. IsOfKind texts (Varchar most) (value_of texts (Varchar most) w)) (sym is) (subst (IsOfKind texts (Varchar most)) (sym (NULL_is_null texts (Varchar most))) tt)

@@ -1,6 +1,7 @@
 -- Conditions, relations and blocks with values in place of their parameters: they fit, no parameter is left, and where
 -- there was none nothing changes.
 use Rattle.std.proofs.Common.{◌≡◌, ◌≢◌, ◌∙◌, ℕ, ◌<◌, ◌||◌, Bool, true, false, cond, List, [], ◌∷◌, All, length, map, get_or, refl, sym, ap, subst, arith, lit<}
+use Rattle.std.proofs.lemmas.Grind.{common_steps}
 use Rattle.std.specs.List.{count_by}
 use Rattle.std.proofs.Math.ListN.{get_or-map}
 use Rattle.std.proofs.lemmas.List.{length-map}
@@ -221,12 +222,7 @@ same-relations values (relation ∷ relations) all =
     ∙ ap (λ rest. relation ∷ rest) (same-relations values relations (All-tail (IsRelation []) relation relations all))
 
 pub put-none : (block : BlockTree) → IsBlock block → block.parameters ≡ [] → put_of [] block ≡ block
-put-none block is none =
-    let all : All (IsRelation []) block.relations = subst (λ kinds. All (IsRelation kinds) block.relations) none is.relations in
-    let of_relations : List RelationTree → BlockTree = λ relations. record { relations = relations; edges = block.edges; projection = block.projection; parameters = [] } in
-    let of_parameters : List Kind → BlockTree = λ kinds. record { relations = block.relations; edges = block.edges; projection = block.projection; parameters = kinds } in
-    let first : put_of [] block ≡ of_parameters [] = ap of_relations (same-relations [] block.relations all) in
-    first ∙ ap of_parameters (sym none)
+put-none block is none = grind (arith, common_steps, same-relations)
 
 -- so a block without parameters is what it is with no values put in
 pub own-put : (block : BlockTree) → IsBlock block → block.parameters ≡ [] → IsPutOf block block

@@ -1,5 +1,6 @@
 -- Relations of a block, as they are kept and as they are seen: they have few columns.
-use Rattle.std.proofs.Common.{◌≡◌, ℕ, ◌<◌, ◌≤◌, All, List, [], ◌∷◌, length, get_or, map, sum_by, sym, subst, take, ◌∙◌, ◌+◌, ap, refl}
+use Rattle.std.proofs.Common.{◌≡◌, ℕ, ◌<◌, ◌≤◌, All, List, [], ◌∷◌, length, get_or, map, sum_by, sym, subst, take, ◌∙◌, ap, refl, arith}
+use Rattle.std.proofs.lemmas.Grind.{common_steps}
 use Rattle.std.proofs.lemmas.List.Sums.{sum_by-cons}
 use Rattle.std.proofs.lemmas.List.{get_or-map, length-map, take-map}
 use Rattle.std.proofs.lemmas.List.Elements.{All-nil, All-cons, All-head, All-tail}
@@ -21,10 +22,7 @@ words_in relation = length relation.columns
 
 pub words-map : (relations : List Relation) → sum_by (λ relation. length relation.columns) relations ≡ sum_by words_in (map relation_tree relations)
 words-map [] = refl
-words-map (relation ∷ relations) =
-    sum_by-cons (λ one. length one.columns) relation relations
-    ∙ ap (λ n. length relation.columns + n) (words-map relations)
-    ∙ sym (sum_by-cons words_in (relation_tree relation) (map relation_tree relations))
+words-map (relation ∷ relations) = grind (arith, common_steps, sum_by-cons, words-map relations)
 
 pub words-first : (number : ℕ) (relations : List Relation)
     → sum_by (λ relation. length relation.columns) (take number relations) ≡ sum_by words_in (take number (map relation_tree relations))

@@ -1,6 +1,6 @@
 -- What the words of a row stand for, a column at a time, and which operands may be compared.
-use Rattle.std.proofs.Common.{◌≡◌, ℕ, ◌<◌, zero, suc, Bool, true, false, List, [], ◌∷◌, length, ℤ, refl, sym, ap, subst, slice_index_or, if◌then◌else◌, arith}
-use Rattle.std.specs.Ordering.{int_eq}
+use Rattle.std.proofs.Common.{◌≡◌, ℕ, ◌<◌, zero, suc, Bool, true, false, List, [], ◌∷◌, length, ℤ, refl, sym, ap, subst, slice_index_or, arith}
+use Rattle.std.proofs.lemmas.Grind.{common_steps}
 use Rattle.sql_values.specs.declared.column.ColumnType.{ColumnType}
 use Rattle.sql_values.specs.declared.column.ColumnType.TheVariants.{Integer, Varchar}
 use Rattle.sql_values.specs.declared.value.Value.{Value}
@@ -56,11 +56,7 @@ meaning-kind texts Integer word = refl
 meaning-kind texts (Varchar _) word = refl
 
 value-kind : (texts : List (List ℕ)) (kind : ColumnType) (word : ℤ) → IsOfKind (holds_texts kind) (value_of texts kind word)
-value-kind texts kind word = by (int_eq word null_word)
-  where
-    by : (b : Bool) → IsOfKind (holds_texts kind) (if b then value.Null else word_meaning texts kind word)
-    by true = tt
-    by false = meaning-kind texts kind word
+value-kind texts kind word = grind (arith, common_steps, meaning-kind)
 
 literal-kind : (literal : Value) → IsOfKind (is_text literal) literal
 literal-kind value.Null = tt
@@ -78,7 +74,4 @@ operand-kind texts columns words (Parameter number) all is = absurd (omega (arit
 pub operands-comparable : (texts : List (List ℕ)) (columns : List ColumnType) (words : List ℤ) (a b : Operand) (x y : Value) → AreWordsOf texts columns words → AreOperands [] columns a b
     → x ≡ operand_value (values_of texts columns words) a → y ≡ operand_value (values_of texts columns words) b → AreComparable x y
 operands-comparable texts columns words a b x y all are is_x is_y =
-    let kind = is_text_operand [] columns b in
-    comparable kind x y
-    (subst (λ k. IsOfKind k x) are.2 (subst (IsOfKind (is_text_operand [] columns a)) (sym is_x) (operand-kind texts columns words a all are.0)))
-    (subst (IsOfKind kind) (sym is_y) (operand-kind texts columns words b all are.1))
+    grind (arith, common_steps, comparable, operand-kind)

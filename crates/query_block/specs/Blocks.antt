@@ -65,9 +65,8 @@ holds_texts (Varchar _) = true
 
 -- whether a literal is a text
 abbrev pub is_text : Value → Bool
-is_text value.Null = false
-is_text (value.Int _) = false
 is_text (value.Text _) = true
+is_text other = false
 
 -- whether a parameter is a text
 abbrev pub is_text_kind : Kind → Bool

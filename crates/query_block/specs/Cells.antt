@@ -23,10 +23,8 @@ cell_value texts (cell.Text text) = value.Text text.now
 
 -- its code leads to a text
 abbrev pub IsCell : List (List ℕ) → Cell → Type 0
-IsCell texts cell.Null = Unit {0}
-IsCell texts (cell.Int number) = Unit {0}
 IsCell texts (cell.Code code) = IsSome (text_of texts code)
-IsCell texts (cell.Text text) = Unit {0}
+IsCell texts other = Unit {0}
 
 -- the values for which the words of a row stand
 abbrev pub row_values : Row → ValueRow

@@ -4,13 +4,12 @@ use Rattle.std.specs.List.{list_any}
 use Rattle.sql_values.specs.declared.value.Value.{Value}
 use Rattle.sql_values.specs.declared.value.Value.TheVariants as value
 use Rattle.query_block.specs.declared.condition.Operand.{Operand}
-use Rattle.query_block.specs.declared.condition.Operand.TheVariants.{Column, Literal, Parameter}
+use Rattle.query_block.specs.declared.condition.Operand.TheVariants.{Literal, Parameter}
 use Rattle.query_block.specs.Conditions.{FilterTree, FilterTrees, Compare, Between, OneOf, IsNull, Not, And, Or, NoMore, More}
 
 abbrev pub is_parameter : Operand → Bool
-is_parameter (Column _) = false
-is_parameter (Literal _) = false
 is_parameter (Parameter _) = true
+is_parameter other = false
 
 abbrev mutual
   -- whether a condition is open: it has a parameter anywhere in it; else it is fixed
@@ -33,9 +32,8 @@ fixed_of conjuncts = filter (λ conjunct. not (is_open conjunct)) conjuncts
 
 -- an operand with the values in place of the parameters; of a parameter for which there is none, NULL
 abbrev pub put_operand : List Value → Operand → Operand
-put_operand values (Column column) = Column column
-put_operand values (Literal literal) = Literal literal
 put_operand values (Parameter number) = Literal (slice_index_or values number value.Null)
+put_operand values other = other
 
 abbrev mutual
   -- a condition with the values in place of its parameters

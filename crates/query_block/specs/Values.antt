@@ -13,24 +13,20 @@ use Rattle.query_block.specs.declared.values.ValueFault.TheVariants as fault
 abbrev pub is_of_kind : Kind → Value → Bool
 is_of_kind of value.Null = false
 is_of_kind kind.Integer (value.Int _) = true
-is_of_kind kind.Integer (value.Text _) = false
-is_of_kind kind.Text (value.Int _) = false
 is_of_kind kind.Text (value.Text _) = true
+is_of_kind of other = false
 
--- the place of the first value that isn't of its parameter's kind; the first of these has this place
-abbrev pub misfit_from : (place : ℕ) → List Kind → List Value → Option ℕ
+-- the first value that isn't of its parameter's kind, by its place; the first of these has this place
+abbrev pub misfit_from : (place : ℕ) → List Kind → List Value → Option ValueFault
 misfit_from place [] values = None
 misfit_from place (of ∷ kinds) [] = None
-misfit_from place (of ∷ kinds) (v ∷ values) = if is_of_kind of v then misfit_from (place + 1) kinds values else Some place
-
-abbrev pub fault_at : Option ℕ → Option ValueFault
-fault_at None = None
-fault_at (Some place) = Some (fault.Kind place)
+misfit_from place (of ∷ kinds) (v ∷ values) =
+    if is_of_kind of v then misfit_from (place + 1) kinds values else Some (fault.Kind place)
 
 -- what is wrong with values for parameters of these kinds: there are more or fewer, or one is of another kind
 abbrev pub value_fault : List Kind → List Value → Option ValueFault
 value_fault kinds values =
-    if nat_eq (length values) (length kinds) then fault_at (misfit_from 1 kinds values)
+    if nat_eq (length values) (length kinds) then misfit_from 1 kinds values
     else Some (fault.Count (length values) (length kinds))
 
 -- they fit: a value for each parameter, of its kind

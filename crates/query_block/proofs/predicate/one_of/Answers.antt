@@ -1,9 +1,9 @@
-use Rattle.std.proofs.Common.{rules, [], ◌≡◌, refl, sym, ap, subst, ◌∙◌}
+use Rattle.std.proofs.Common.{rules, ◌≡◌, ap, ◌∙◌, arith}
+use Rattle.std.proofs.lemmas.Grind.{common_steps}
 use Rattle.std.proofs.lemmas.List.Elements.{All-get_or}
 use Rattle.sql_values.specs.declared.op.Op.TheVariants.{Eq}
 use Rattle.sql_values.specs.declared.truth.Truth.TheVariants as truth
 use Rattle.sql_values.specs.Truth.{truth_or, comparison}
-use Rattle.query_block.specs.Blocks.{AreOperands}
 use Rattle.query_block.specs.Cells.{row_values}
 use Rattle.query_block.specs.Truth.{operand_value}
 use Rattle.query_block.proofs.Chains.{equals, left-next, left-stop}
@@ -11,12 +11,7 @@ use Rattle.query_block.proofs.Words.{operands-comparable}
 use Rattle.query_block.proofs.predicate.one_of.Goals as goal
 
 pub compare_with-requires-clause-kinds : goal.compare_with-requires-clause-kinds
-compare_with-requires-clause-kinds c =
-    let row = c.args.row.now in
-    let item = c.operand-item.result in
-    let fits = AreOperands [] row.columns.now c.args.of.now in
-    let are : fits item = subst fits (sym c.operand-item.is) (All-get_or fits c.args.operands.now c.loop-operand.operand-index item c.loop-operand-test.true c.requires.fits.1) in
-    operands-comparable row.texts.now row.columns.now row.words.now c.args.of.now item _ _ c.requires.row are c.operand_cell-cell.ensures.value refl
+compare_with-requires-clause-kinds c = grind (arith, common_steps, All-get_or, operands-comparable)
 
 pub returns-then-eq : goal.returns-then-eq
 returns-then-eq c =

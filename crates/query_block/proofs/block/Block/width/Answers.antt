@@ -1,7 +1,5 @@
-use Rattle.std.proofs.Common.{ℕ, All, List, length, subst, sum_by, sym, ap, ◌∙◌}
-use Rattle.query_block.specs.declared.block.Relation.{Relation}
-use Rattle.query_block.specs.Shape.{BlockShape}
-use Rattle.query_block.specs.Blocks.{block_tree, width_of}
+use Rattle.std.proofs.Common.{All, subst, sum_by, sym, arith}
+use Rattle.std.proofs.lemmas.Grind.{common_steps}
 use Rattle.query_block.proofs.Relations.{IsNarrow, narrow, words-map}
 use Rattle.query_block.proofs.block.Block.width.Goals as goal
 
@@ -10,6 +8,4 @@ words_of-requires-clause-narrow c =
     subst (All IsNarrow) (sym c.deref.ensures.value) (narrow _ _ c.self.invariant.relations)
 
 pub returns-clause-width : goal.returns-clause-width
-returns-clause-width c =
-    let words : List Relation → ℕ = λ relations. sum_by (λ relation. length relation.columns) relations in
-    c.words_of.ensures.words ∙ ap words c.deref.ensures.value ∙ words-map c.self.inside.relations.items ∙ ap (λ (shape : BlockShape). width_of (block_tree shape)) c.self.view_is
+returns-clause-width c = grind (arith, common_steps, sum_by, words-map)
