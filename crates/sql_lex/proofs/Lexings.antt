@@ -80,8 +80,7 @@ after-append : (kind : TokenKind) (xs l : List ℕ) → HasForm kind xs → goes
 after-append Word xs l form longest = ap Some (run-append is_word_byte xs l form.1 longest)
 after-append Number xs l form longest = ap Some (run-append is_ascii_digit xs l form.1 longest)
 after-append Text xs l (v, same) longest =
-    ap (λ ys. after_text false (drop 1 (ys ++ l))) same ∙ ap (after_text false) (append_assoc (doubled v) (39 ∷ []) l)
-    ∙ after_text-append v (39 ∷ l) ∙ after_text-closed l longest
+    grind (arith, common_steps, after_text, append_assoc, after_text-append, after_text-closed)
 after-append Sign xs l (b, sign, same) longest = ap (λ ys. Some (drop 1 (ys ++ l))) same
 after-append Comparison xs l form longest = ap Some (comparison-append xs l form longest)
 
@@ -120,10 +119,7 @@ whole_once s k l place d e one other =
 -- a form doesn't both keep and break its kind's limit
 not_kept_and_broken : (s : List ℕ) (k l : TokenKind) (place d e : ℕ) → IsToken s (record { kind = k; start = place; end = d }) → IsWhole s l place e
     → ¬ (KeepsTokenLimit l (slice_range s place e)) → ⊥
-not_kept_and_broken s k l place d e one other breaks =
-    let once = whole_once s k l place d e one.whole other in
-    breaks (subst (λ (m : TokenKind). KeepsTokenLimit m (slice_range s place e)) once.0
-    (subst (λ (n : ℕ). KeepsTokenLimit k (slice_range s place n)) once.1 one.limit))
+not_kept_and_broken s k l place d e one other breaks = grind (arith, common_steps, whole_once)
 
 abbrev what_begins : (s : List ℕ) (place : ℕ) (next : Next) → StandsAt s place next → Begun
 what_begins s place next (token_here kind end _) = form_of kind (Some (drop end s))
@@ -136,9 +132,7 @@ begun-place : (s : List ℕ) (place : ℕ) (next : Next) (stands : StandsAt s pl
     → begun (drop place s) ≡ what_begins s place next stands
 begun-place s place next (token_here kind end one) = whole_begun s kind place end one.whole
 begun-place s place next (end_here end) = ap begun (drop_all place s (omega (arith, end)))
-begun-place s place next (strange_byte inside none) =
-    let first : first_kind (get_or s place 0) ≡ None = grind (arith, nat_tests) in
-    ap begun (drop_more s place 0 inside) ∙ ap (λ kind. begun_by kind (get_or s place 0 ∷ drop (place + 1) s)) first
+begun-place s place next (strange_byte inside none) = grind (arith, common_steps, get_or, nat_tests, drop_more)
 begun-place s place next (open_text v same) =
     ap begun same ∙ ap (form_of Text) (ap (after_text false) (sym (append-nil (doubled v))) ∙ after_text-append v [])
 begun-place s place next (past_limit kind end _ one _ _) = whole_begun s kind place end one
@@ -148,8 +142,7 @@ stands_once s place one other (token_here k d a) (token_here l e b) = let once =
 stands_once s place one other (token_here k d a) (past_limit l e _ b breaks _) = absurd (not_kept_and_broken s k l place d e a b breaks)
 stands_once s place one other (past_limit k d _ a breaks _) (token_here l e b) = absurd (not_kept_and_broken s l k place e d b a breaks)
 stands_once s place one other (past_limit k d f a _ fault) (past_limit l e g b _ same) =
-    let kinds = sym fault ∙ ap limit_fault (whole_once s k l place d e a b).0 ∙ same in
-    cc kinds
+    grind (arith, common_steps, whole_once)
 stands_once s place one other (end_here _) (end_here _) = refl
 stands_once s place one other (strange_byte _ _) (strange_byte _ _) = refl
 stands_once s place one other (open_text _ _) (open_text _ _) = refl
@@ -174,9 +167,7 @@ stands_no_gap : (s : List ℕ) (place : ℕ) (next : Next) → StandsAt s place 
 stands_no_gap s place next (token_here kind end one) = whole_no_gap s kind place end (whole_first s kind place end one.whole) one.whole
 stands_no_gap s place next (end_here last) = let none : get_or s place 0 ≡ 0 = get_or_past s place 0 (omega (arith, last)) in grind (arith, nat_tests)
 stands_no_gap s place next (strange_byte _ none) = grind (arith, nat_tests)
-stands_no_gap s place next (open_text v same) =
-    let quote : get_or s place 0 ≡ 39 = sym (first-drop s place) ∙ ap (λ l. get_or l 0 0) same in
-    grind (arith, nat_tests)
+stands_no_gap s place next (open_text v same) = grind (arith, common_steps, get_or, first-drop, nat_tests)
 stands_no_gap s place next (past_limit kind end _ one _ _) = whole_no_gap s kind place end (whole_first s kind place end one) one
 
 -- a run has one end
@@ -190,20 +181,19 @@ white_no_comment b c space minus = grind (arith, nat_tests)
 gap_once : (s : List ℕ) (from p q : ℕ) → IsGap s from p → IsGap s from q → gap_begins s p ≡ false → gap_begins s q ≡ false → p ≡ q
 gap_once s from p q (nothing _) (nothing _) a b = refl
 gap_once s from p q (nothing _) (white _ _ space _) a b = absurd (both_ways _ a (or_left _ _ space))
-gap_once s from p q (nothing _) (comment _ _ _ line _) a b = absurd (both_ways _ a (or_right _ _ line.begins))
+gap_once s from p q (nothing _) (comment _ _ _ begins line _) a b = absurd (both_ways _ a (or_right _ _ begins))
 gap_once s from p q (white _ _ space _) (nothing _) a b = absurd (both_ways _ b (or_left _ _ space))
-gap_once s from p q (comment _ _ _ line _) (nothing _) a b = absurd (both_ways _ b (or_right _ _ line.begins))
+gap_once s from p q (comment _ _ _ begins line _) (nothing _) a b = absurd (both_ways _ b (or_right _ _ begins))
 gap_once s from p q (white _ _ _ one) (white _ _ _ other) a b = gap_once s (from + 1) p q one other a b
-gap_once s from p q (white _ _ space _) (comment _ _ _ line _) a b = absurd (white_no_comment (get_or s from 0) (get_or s (from + 1) 0) space line.begins)
-gap_once s from p q (comment _ _ _ line _) (white _ _ space _) a b = absurd (white_no_comment (get_or s from 0) (get_or s (from + 1) 0) space line.begins)
-gap_once s from p q (comment _ d _ line one) (comment _ e _ row other) a b =
-    let ends = run_once is_comment_byte s from d e line.line row.line in
+gap_once s from p q (white _ _ space _) (comment _ _ _ begins line _) a b = absurd (white_no_comment (get_or s from 0) (get_or s (from + 1) 0) space begins)
+gap_once s from p q (comment _ _ _ begins line _) (white _ _ space _) a b = absurd (white_no_comment (get_or s from 0) (get_or s (from + 1) 0) space begins)
+gap_once s from p q (comment _ d _ _ line one) (comment _ e _ _ row other) a b =
+    let ends = run_once is_comment_byte s from d e line row in
     gap_once s e p q (subst (λ (k : ℕ). IsGap s k p) ends one) other a b
 
 comes_once : (s : List ℕ) (from : ℕ) (one other : Next) → ComesNext s from one → ComesNext s from other → one ≡ other
 comes_once s from one other (p, gap_p, a) (q, gap_q, b) =
-    let places = gap_once s from p q gap_p gap_q (stands_no_gap s p one a) (stands_no_gap s q other b) in
-    stands_once s q one other (subst (λ (k : ℕ). StandsAt s k one) places a) b
+    grind (arith, common_steps, gap_once, stands_no_gap, stands_once)
 
 -- what ends a list of tokens: no token
 abbrev IsLast : Next → Type 0
@@ -231,9 +221,9 @@ lexing_once s (Err f) (Err g) a b = let same = (reads_once s (Err f) (Err g) tt 
 IsGap-in_order : (script : List ℕ) (from end : ℕ) → IsGap script from end → from ≤ end
 IsGap-in_order script from end (nothing _) = omega arith
 IsGap-in_order script from end (white _ _ _ rest) = let later = IsGap-in_order script (from + 1) end rest in omega arith
-IsGap-in_order script from end (comment _ stop _ line rest) =
+IsGap-in_order script from end (comment _ stop _ _ line rest) =
     let later = IsGap-in_order script stop end rest in
-    omega (arith, line.line.in_order)
+    omega (arith, line.in_order)
 
 -- what comes next is a token, and lies further on
 pub ComesNext-token : (script : List ℕ) (from : ℕ) (next : Token) → ComesNext script from (Ok (Some next))
@@ -325,7 +315,7 @@ some_gap (suc n) s from enough in_script =
             let run = some_run is_comment_byte s from in_script in
             let moves = IsRun-moves is_comment_byte s from run.0 run.1 (grind (arith, nat_tests)) (grind (arith, nat_tests)) in
             let rest = some_gap n s run.0 (omega arith) run.1.in_script in
-            (rest.0, comment from run.0 rest.0 (record { begins = begins; line = run.1 }) rest.1, rest.2, rest.3)
+            (rest.0, comment from run.0 rest.0 begins run.1 rest.1, rest.2, rest.3)
         | inr no_comment ↦ (from, nothing from, in_script, λ _. grind (arith, nat_tests))
       ]
     ]

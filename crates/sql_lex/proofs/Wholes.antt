@@ -1,5 +1,5 @@
 -- Bytes that have a kind's form and go no further.
-use Rattle.std.proofs.Common.{◌≡◌, ℕ, ◌+◌, ◌-◌, ◌<◌, ◌≤◌, Bool, true, false, List, [], ◌∷◌, ◌++◌, length, get_or, take, drop, arith, sym, ◌∙◌, ap, subst, refl, length-append, length-drop, add-zero}
+use Rattle.std.proofs.Common.{◌≡◌, ℕ, ◌+◌, ◌<◌, ◌≤◌, Bool, true, false, List, [], ◌∷◌, ◌++◌, length, get_or, drop, arith, sym, ◌∙◌, ap, refl, length-append, length-drop, add-zero}
 use Rattle.std.specs.Prelude.{Some, None, Err}
 use Rattle.std.specs.List.{slice_range, AllPass}
 use Rattle.std.specs.Char.{is_ascii_digit}
@@ -48,19 +48,12 @@ drop_past s front rest from same = sym (drop-drop (length front) from s) ∙ ap 
 pub between_is_front : (s bytes : List ℕ) (start end : ℕ) → start < end → end ≤ length s → drop start s ≡ bytes ++ drop end s
     → slice_range s start end ≡ bytes
 between_is_front s bytes start end in_order in_script same =
-    ap (take (end - start)) same
-    ∙ take_at bytes (drop end s) (end - start) (grind (arith, length-drop start s, length-drop end s, ap length same, length-append bytes (drop end s)))
+    grind (arith, common_steps, take_at, length-drop, length-append)
 
 pub IsWhole-front : (s : List ℕ) (kind : TokenKind) (bytes : List ℕ) (start end : ℕ) → start < end → end ≤ length s
     → drop start s ≡ bytes ++ drop end s → HasForm kind bytes → goes_on kind bytes (get_or s end 0) ≡ false → IsWhole s kind start end
 IsWhole-front s kind bytes start end in_order in_script same form longest =
-    let part = between_is_front s bytes start end in_order in_script same in
-    record {
-      in_order = in_order;
-      in_script = in_script;
-      form = subst (HasForm kind) (sym part) form;
-      longest = ap (λ l. goes_on kind l (get_or s end 0)) part ∙ longest;
-    }
+    grind (arith, common_steps, between_is_front, get_or)
 
 pub IsWhole-word : (s : List ℕ) (start end : ℕ) → IsRun is_word_byte s start end
     → start < length s → starts_word (get_or s start 0) ≡ true → IsWhole s Word start end

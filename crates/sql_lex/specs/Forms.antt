@@ -30,16 +30,14 @@ abbrev pub KeepsTokenLimit : TokenKind → List ℕ → Type 0
 KeepsTokenLimit Word bytes = length bytes ≤ max_word_bytes
 KeepsTokenLimit Number bytes = number_value_of bytes ≤ max_number
 KeepsTokenLimit Text bytes = IsUtf8 (text_value_of bytes)
-KeepsTokenLimit Sign bytes = Unit {0}
-KeepsTokenLimit Comparison bytes = Unit {0}
+KeepsTokenLimit other bytes = Unit {0}
 
 -- the fault of bytes that break the limit of their kind
 abbrev pub limit_fault : TokenKind → Option LexKind
 limit_fault Word = Some faults.Name
 limit_fault Number = Some faults.Number
 limit_fault Text = Some faults.Utf8
-limit_fault Sign = None
-limit_fault Comparison = None
+limit_fault other = None
 
 -- whether a token goes on with the byte after it, where 0 stands for the script's end
 abbrev pub goes_on : TokenKind → List ℕ → ℕ → Bool

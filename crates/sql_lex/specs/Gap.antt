@@ -12,15 +12,11 @@ comment_begins script place =
 abbrev pub gap_begins : List ℕ → ℕ → Bool
 gap_begins script place = is_white (slice_index script place) || comment_begins script place
 
--- two minus signs, and all bytes before the next line feed or the script's end
-pub record IsComment (script : List ℕ) (start end : ℕ) : Type 0 where
-  pub begins : IsTrue (comment_begins script start)
-  pub line : IsRun is_comment_byte script start end
-
--- white space and comments alone, one after another, from one place up to another
+-- white space and comments alone, one after another, from one place up to another. A comment is two minus signs, and all
+-- bytes before the next line feed or the script's end
 pub data IsGap (script : List ℕ) : (from end : ℕ) → Type 0 where
   nothing : (place : ℕ) → IsGap script place place
   white : (from end : ℕ) → IsTrue (is_white (slice_index script from))
       → IsGap script (from + 1) end → IsGap script from end
-  comment : (from stop end : ℕ) → IsComment script from stop
+  comment : (from stop end : ℕ) → IsTrue (comment_begins script from) → IsRun is_comment_byte script from stop
       → IsGap script stop end → IsGap script from end

@@ -1,5 +1,5 @@
 -- The tokens of a script, or its first fault.
-use Rattle.std.specs.Prelude.{ℕ, ◌≡◌, ◌<◌, ◌≤◌, ◌⊎◌, List, [], ◌∷◌, length, drop, slice_index, slice_range, Option, Some, None, Result, Ok, Err}
+use Rattle.std.specs.Prelude.{ℕ, ◌≡◌, ◌<◌, ◌≤◌, List, [], ◌∷◌, length, drop, slice_index, slice_range, Option, Some, None, Result, Ok, Err}
 use Rattle.std.specs.Bool.{IsFalse}
 use Rattle.sql_lex.specs.Values.{doubled}
 use Rattle.sql_lex.specs.Gap.{IsGap}
@@ -8,7 +8,7 @@ use Rattle.sql_lex.specs.declared.token.Token.{Token}
 use Rattle.sql_lex.specs.declared.token.TokenKind.{TokenKind}
 use Rattle.sql_lex.specs.declared.fault.LexFault.{LexFault}
 use Rattle.sql_lex.specs.declared.fault.LexKind.{LexKind}
-use Rattle.sql_lex.specs.declared.fault.LexKind.TheVariants.{Byte, OpenText, NoMemory}
+use Rattle.sql_lex.specs.declared.fault.LexKind.TheVariants.{Byte, OpenText}
 
 -- these bytes have a kind's form, and would not have it any more with the byte after them
 pub record IsWhole (script : List ℕ) (kind : TokenKind) (start end : ℕ) : Type 0 where
@@ -59,10 +59,6 @@ abbrev pub IsFirstFault : List ℕ → ℕ → LexKind → Type 0
 IsFirstFault script place kind =
     (tokens : List Token)
     × IsReading script 0 tokens (Err (record { place = place; kind = kind }))
-
--- what a refusal says of the script: its first fault; out of memory says nothing
-abbrev pub IsLexCause : List ℕ → LexFault → Type 0
-IsLexCause script fault = (fault.kind ≡ NoMemory) ⊎ IsFirstFault script fault.place fault.kind
 
 -- what a script is read as: its tokens, or its first fault
 abbrev pub IsLexing : List ℕ → Result (List Token) LexFault → Type 0

@@ -1,7 +1,7 @@
 // All tokens of a script, and the two laws of tokens. It relies on `gap` and `form` for one token, and never goes back
 // past the end of a token.
-ghost use Rattle.std.specs.Prelude.{◌≡◌, ℕ, ◌≤◌, List, Result, length, IfOk, IfErr};
-ghost use Rattle.sql_lex.specs.Tokens.{ComesNext, Tokens, IsLexCause, IsLexing};
+ghost use Rattle.std.specs.Prelude.{◌≡◌, ◌⊎◌, ℕ, ◌≤◌, List, Result, length, IfOk, IfErr};
+ghost use Rattle.sql_lex.specs.Tokens.{ComesNext, Tokens, IsFirstFault, IsLexing};
 ghost use Rattle.sql_lex.specs.Once.{AtLeastOne, AtMostOne};
 ghost use Rattle.sql_lex.specs.Written.{Written, MayBeWritten, written_text, written_tokens};
 ghost use Rattle.sql_lex.specs.declared.token.Token.{Token};
@@ -22,7 +22,8 @@ use std::alloc::Global;
 /// no other place or kind, fit the script.
 pub fn lex(alloc: Global, text: &[u8]) -> Result<Vec<Token>, LexFault>
     ensures found { IfOk result (λ tokens. Tokens text.now tokens.items) }
-    ensures offends { IfErr result (IsLexCause text.now) }
+    ensures offends { IfErr result (λ fault.
+        (fault.kind ≡ LexKind.NoMemory) ⊎ IsFirstFault text.now fault.place fault.kind) }
 {
     let mut tokens = Vec::new(alloc);
     let mut end = 0;

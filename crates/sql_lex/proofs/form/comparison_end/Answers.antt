@@ -1,13 +1,8 @@
 use Rattle.std.proofs.Common.{sym, ◌∙◌, ap, get_or}
 use Rattle.sql_lex.specs.Bytes.{is_second}
 use Rattle.sql_lex.specs.declared.token.TokenKind.TheVariants.{Comparison}
-use Rattle.sql_lex.proofs.Wholes.{IsWhole-byte, IsWhole-pair}
+use Rattle.sql_lex.proofs.Wholes.{IsWhole-byte}
 use Rattle.sql_lex.proofs.form.comparison_end.Goals as goal
-
-pub returns-then-is_second : goal.returns-then-is_second
-returns-then-is_second c =
-    IsWhole-pair c.args.text.now c.args.start c.requires.in_text
-    (ap (is_second (get_or c.args.text.now c.args.start 0)) (sym c.byte_at.ensures) ∙ sym c.is_second.ensures ∙ c.if-is_second.true)
 
 pub returns-else-is_second : goal.returns-else-is_second
 returns-else-is_second c =

@@ -12,7 +12,7 @@ pub loop-end-preserved : goal.loop-end-preserved
 loop-end-preserved c = record {
   in_text = c.end-end.ensures.in_script;
   gap = λ stop rest. c.loop-end.invariant.gap stop
-      (comment _ c.end-end.result _ (record { begins = sym c.comment_begins.ensures ∙ c.if-comment_begins.true; line = c.end-end.ensures }) rest);
+      (comment _ c.end-end.result _ (sym c.comment_begins.ensures ∙ c.if-comment_begins.true) c.end-end.ensures rest);
 }
 
 pub returns-after-loop-end-clause-gap : goal.returns-after-loop-end-clause-gap

@@ -1,7 +1,6 @@
-use Rattle.std.proofs.Common.{◌≡◌, arith}
+use Rattle.std.proofs.Common.{arith}
 use Rattle.std.proofs.lemmas.Grind.{common_steps}
 use Rattle.std.proofs.lemmas.List.{drop_more}
-use Rattle.sql_lex.specs.Values.{text_value_of}
 use Rattle.sql_lex.proofs.Texts.{quoted-value}
 use Rattle.sql_lex.proofs.value.text_value.Goals as goal
 use Rattle.sql_lex.proofs.value.text_value.Goals.{then-is_second, else-is_second+in_ok-push}
@@ -16,6 +15,4 @@ loop-byte-preserved c =
     ]
 
 pub returns-clause-spelling : goal.returns-clause-spelling
-returns-clause-spelling c =
-    let value : c.from.result ≡ text_value_of c.args.text.now = grind (arith, common_steps) in
-    quoted-value c.args.text.now c.from.result value c.requires
+returns-clause-spelling c = grind (arith, common_steps, common_steps, quoted-value)
