@@ -1,15 +1,15 @@
 -- Files under their names, as a tree of entries and as a map.
-use Rattle.std.proofs.Common.{◌≡◌, ℕ, List, [], ◌∷◌, true, false, Option, Some, Vec, map, cond}
+use Rattle.std.proofs.Common.{◌≡◌, ℕ, List, [], ◌∷◌, true, false, Option, Some, Vec, map, cond, arith}
+use Rattle.std.proofs.lemmas.Grind.{common_steps}
 use Rattle.std.proofs.Common.{refl, sym, ap, ◌∙◌}
 use Rattle.std.specs.Option.{option_map}
 use Rattle.std.specs.declared.alloc.Global.{Global}
 use Rattle.std.specs.declared.cmp.Ordering.{Ordering}
-use Rattle.std.specs.declared.cmp.Ordering.TheVariants.{Less, Equal, Greater}
 use Rattle.std.specs.Ordering.{nat_cmp, is_eq, eq_by_cmp}
 use Rattle.std.specs.Cmp.Lexicographic.{slice_cmp, nat_list_cmp_total}
 use Rattle.std.specs.FinMap.{get-from_entries, get-insert, same_map}
 use Rattle.std.specs.FinMap.{slice_cmp-IsAntisymmetric, nat_cmp-IsAntisymmetric}
-use Rattle.std.specs.FinMap.Entries.{find, put, by_order, find-put}
+use Rattle.std.specs.FinMap.Entries.{find, put, find-put}
 use Rattle.std.specs.Map.{lookup}
 use Rattle.std.specs.BTreeMap.{insert_entry}
 use Rattle.outside_io.specs.Files.{held_file, with_file}
@@ -56,16 +56,7 @@ found-held_file entries name key found same is =
 map-tree_put : (entries : List Entry) (k v : Vec ℕ Global)
     → map shown (tree_put entries k v) ≡ put by_name k.items v.items (map shown entries)
 map-tree_put [] k v = refl
-map-tree_put (e ∷ entries) k v =
-    elim (by_name k.items e.0.items) as (λ o.
-    map shown (by_order o ((k, v) ∷ e ∷ entries) ((e.0, v) ∷ entries) (e ∷ tree_put entries k v))
-    ≡ by_order o (shown (k, v) ∷ shown e ∷ map shown entries)
-    ((e.0.items, v.items) ∷ map shown entries)
-    (shown e ∷ put by_name k.items v.items (map shown entries))) [
-      | Less ↦ refl
-      | Equal ↦ refl
-      | Greater ↦ ap (λ es. shown e ∷ es) (map-tree_put entries k v)
-    ]
+map-tree_put (e ∷ entries) k v = grind (arith, common_steps, map-tree_put entries k v)
 
 named_files-tree_put : (entries : List Entry) (k v : Vec ℕ Global)
     → named_files (tree_put entries k v) ≡ with_file (named_files entries) k.items v.items
@@ -83,8 +74,4 @@ named_files-tree_put entries k v =
 pub named_files-put : (before after : List Entry) (k v : Vec ℕ Global) (name bytes : List ℕ)
     → after ≡ tree_put before k v → k.items ≡ name → v.items ≡ bytes
     → named_files after ≡ with_file (named_files before) name bytes
-named_files-put before after k v name bytes is named held =
-    ap named_files is
-    ∙ named_files-tree_put before k v
-    ∙ ap (λ n. with_file (named_files before) n v.items) named
-    ∙ ap (λ b. with_file (named_files before) name b) held
+named_files-put before after k v name bytes is named held = grind (arith, common_steps, named_files-tree_put)

@@ -1,6 +1,7 @@
 -- Bytes that are written one part after another.
-use Rattle.std.proofs.Common.{◌≡◌, ◌+◌, ◌≤◌, ℕ, List, ◌++◌, Option, length, take, drop}
-use Rattle.std.proofs.Common.{ap, sym, ◌∙◌, subst, arith, length-drop}
+use Rattle.std.proofs.Common.{◌≡◌, ◌+◌, ◌≤◌, ℕ, List, Option, length, take, drop}
+use Rattle.std.proofs.lemmas.Grind.{common_steps}
+use Rattle.std.proofs.Common.{arith, length-drop}
 use Rattle.std.proofs.Math.Seq.{take-add}
 use Rattle.std.specs.Io.KnownBytes.{Appends}
 use Rattle.std.proofs.KnownBytes.{Appends-trans}
@@ -16,8 +17,4 @@ pub HasWritten-more : (old mid new : Option (List ℕ)) (bytes rest : List ℕ) 
     → n ≤ length rest → Appends mid new (take n rest)
     → HasWritten old new bytes (written + n)
 HasWritten-more old mid new bytes rest written n before is fits more =
-    let within = before.within in
-    let left = ap length is ∙ length-drop written bytes in
-    let parts = take-add written n bytes ∙ ap (λ l. take written bytes ++ take n l) (sym is) in
-    let appended = Appends-trans old mid new _ _ before.appended more in
-    record { within = omega (arith, left); appended = subst (Appends old new) (sym parts) appended }
+    grind (arith, common_steps, length-drop, take-add, Appends-trans)

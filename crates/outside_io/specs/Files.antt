@@ -30,16 +30,13 @@ IsReadAnswer files name (Ok bytes) = held_file files name ≡ Some bytes.items
 IsReadAnswer files name (Err fault.Absent) = held_file files name ≡ None
 IsReadAnswer files name (Err (fault.TooLong len)) =
     IsSomeAnd (held_file files name) (λ bytes. length bytes ≡ len)
-IsReadAnswer files name (Err fault.Failed) = ⊤
-IsReadAnswer files name (Err fault.NoMemory) = ⊤
+IsReadAnswer files name (Err other) = ⊤
 
 -- a read returns no more bytes than the limit, and only a longer file is too long
 abbrev pub KeepsFileLimit : Result (Vec ℕ Global) FileFault → Type 0
 KeepsFileLimit (Ok bytes) = length bytes.items ≤ max_file_bytes
-KeepsFileLimit (Err fault.Absent) = ⊤
 KeepsFileLimit (Err (fault.TooLong len)) = max_file_bytes < len
-KeepsFileLimit (Err fault.Failed) = ⊤
-KeepsFileLimit (Err fault.NoMemory) = ⊤
+KeepsFileLimit (Err other) = ⊤
 
 -- what a read returns where the system has an error of this kind
 abbrev pub fault_of_kind : ErrorKind → FileFault
@@ -51,8 +48,7 @@ fault_of_kind _ = fault.Failed
 abbrev pub IsMiss : FileFault → Type 0
 IsMiss fault.Absent = Unit {0}
 IsMiss (fault.TooLong len) = Unit {0}
-IsMiss fault.Failed = ⊥
-IsMiss fault.NoMemory = ⊥
+IsMiss other = ⊥
 
 -- every name but this one has what it had
 abbrev pub KeepsOthers : List ℕ → Option Files → Option Files → Type 0

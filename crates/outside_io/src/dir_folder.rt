@@ -39,11 +39,12 @@ pub struct DirFolder<'a, R: Files + Alloc> {
 impl<'a, R: Files + Alloc> Model for DirFolder<'a, R> {
     ghost use Rattle.std.specs.Prelude.{None};
     ghost use Rattle.outside_io.specs.Files.{FolderState};
-    ghost use Rattle.outside_io.specs.Codes.{folder_code};
+    ghost use Rattle.outside_io.specs.Codes.{files_code};
+    ghost use Rattle.std.specs.Coded.{codes};
 
     ghost Value = { FolderState };
 
-    ghost coded = { folder_code };
+    ghost coded = { Prim.hlevel (codes, files_code) };
 
     ghost view = { λ f. record {
       files = None;

@@ -27,11 +27,12 @@ pub struct MemoryFolder {
 
 impl Model for MemoryFolder {
     ghost use Rattle.outside_io.specs.Memory.{MemoryFolderState, named_files};
-    ghost use Rattle.outside_io.specs.Codes.{memory_folder_code};
+    ghost use Rattle.outside_io.specs.Codes.{files_code};
+    ghost use Rattle.std.specs.Coded.{codes};
 
     ghost Value = { MemoryFolderState };
 
-    ghost coded = { memory_folder_code };
+    ghost coded = { Prim.hlevel (codes, files_code) };
 
     ghost view = { λ f. record {
       files = named_files f.files.entries;

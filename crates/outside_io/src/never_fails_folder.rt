@@ -22,11 +22,12 @@ pub struct NeverFailsFolder {
 
 impl Model for NeverFailsFolder {
     ghost use Rattle.outside_io.specs.Memory.{NeverFailsFolderState, named_files};
-    ghost use Rattle.outside_io.specs.Codes.{never_fails_folder_code};
+    ghost use Rattle.outside_io.specs.Codes.{files_code};
+    ghost use Rattle.std.specs.Coded.{codes};
 
     ghost Value = { NeverFailsFolderState };
 
-    ghost coded = { never_fails_folder_code };
+    ghost coded = { Prim.hlevel (codes, files_code) };
 
     ghost view = { λ f. record { files = named_files f.files.entries; misses = f.counts.misses } };
 }
