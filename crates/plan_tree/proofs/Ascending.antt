@@ -1,6 +1,7 @@
 -- Lists in ascending order by a relation: each item is before all later ones.
-use Rattle.std.proofs.Common.{◌≡◌, ℕ, zero, suc, ◌+◌, ◌<◌, inl, inr, Bool, true, false, List, [], ◌∷◌, ◌++◌, length, map, filter, refl, subst, arith}
-use Rattle.std.specs.Prelude.{slice_index_or, if◌then◌else◌}
+use Rattle.std.proofs.Common.{◌≡◌, ℕ, zero, suc, ◌+◌, ◌<◌, inl, inr, Bool, List, [], ◌∷◌, ◌++◌, length, map, filter, refl, subst, arith}
+use Rattle.std.proofs.lemmas.Grind.{common_steps}
+use Rattle.std.specs.Prelude.{slice_index_or}
 use Rattle.std.specs.List.{flat_map, range_with_len, AllPairs}
 use Rattle.plan_tree.proofs.Members.{IsIn, of-either, of-filter, of-flat, of-map, of-range}
 
@@ -66,8 +67,5 @@ ascending-range a (suc n) = (
 -- some items of an ascending list
 pub ascending-filter : {X : Type 0} (Before : X → X → Type 0) (test : X → Bool) (xs : List X) → Ascends Before xs → Ascends Before (filter test xs)
 ascending-filter Before test [] ascends = tt
-ascending-filter Before test (x ∷ xs) (first, more) = by (test x) (ascending-filter Before test xs more)
-  where
-    by : (kept : Bool) → Ascends Before (filter test xs) → Ascends Before (if kept then x ∷ filter test xs else filter test xs)
-    by true rest = (λ y is. first y (of-filter test y xs is).0, rest)
-    by false rest = rest
+ascending-filter Before test (x ∷ xs) (first, more) =
+    grind (arith, common_steps, of-filter, ascending-filter Before test xs more)

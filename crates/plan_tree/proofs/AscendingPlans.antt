@@ -1,5 +1,6 @@
 -- All plans of a block are listed in plan order: by their outermost nodes, then by the left plan, then by the right one.
 use Rattle.std.proofs.Common.{◌≡◌, ℕ, zero, suc, ◌-◌, ◌^◌, ◌<◌, List, length, map, refl, sym, ap, ap₂, subst, ◌∙◌, arith}
+use Rattle.std.proofs.lemmas.Grind.{common_steps}
 use Rattle.std.specs.List.{flat_map, AllPairs}
 use Rattle.std.specs.Ordering.{nat_cmp, ordering_then}
 use Rattle.std.specs.Cmp.{tied_itself}
@@ -13,7 +14,7 @@ use Rattle.plan_tree.specs.declared.roots.Root.TheVariants as root
 use Rattle.plan_tree.specs.Plans.{PlanTree, Nest, Hash, Merge, IndexLoop, covers_of}
 use Rattle.plan_tree.specs.Order.{plan_order_of}
 use Rattle.plan_tree.specs.Sides.{side_order}
-use Rattle.plan_tree.specs.Roots.{root_of, root_numbers, IsSplit, Stands}
+use Rattle.plan_tree.specs.Roots.{root_of, IsSplit, Stands}
 use Rattle.plan_tree.specs.AllPlans.{roots_of, pairs_by, trees_of, plans_at, plans_below, plans_of}
 use Rattle.plan_tree.proofs.Members.{IsIn, of-map}
 use Rattle.plan_tree.proofs.PlanOrder.{total, by-nodes}
@@ -33,12 +34,7 @@ by-outermost a b earlier =
     by-nodes a b ∙ ap (λ o. ordering_then o (side_order a b)) (ap₂ (slice_cmp nat_cmp) (numbers-of a) (numbers-of b) ∙ earlier)
 
 by-sides : (a b : PlanTree) → root_of a ≡ root_of b → side_order a b ≡ Less → IsBefore a b
-by-sides a b same less =
-    let tied = tied_itself nat_list_cmp_total (root_numbers (root_of b)) in
-    by-nodes a b
-    ∙ ap (λ o. ordering_then o (side_order a b))
-    (ap₂ (slice_cmp nat_cmp) (numbers-of a) (numbers-of b)
-    ∙ ap (λ one. slice_cmp nat_cmp (root_numbers one) (root_numbers (root_of b))) same ∙ tied) ∙ less
+by-sides a b same less = grind (arith, common_steps, nat_list_cmp_total, by-nodes, numbers-of)
 
 left-less : (l l' : PlanTree) (right : Ordering) → IsBefore l l' → ordering_then (plan_order_of l l') right ≡ Less
 left-less l l' right less = ap (λ o. ordering_then o right) less

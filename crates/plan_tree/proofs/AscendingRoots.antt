@@ -1,5 +1,6 @@
 -- The outermost nodes of a set's plans ascend by what plan order compares of them.
 use Rattle.std.proofs.Common.{◌≡◌, inl, inr, ℕ, suc, ◌<◌, List, [], ◌∷◌, ◌++◌, length, refl, sym, ap, ap₂, ◌∙◌, arith}
+use Rattle.std.proofs.lemmas.Grind.{common_steps}
 use Rattle.std.specs.Prelude.{slice_index_or}
 use Rattle.std.specs.List.{range_with_len}
 use Rattle.std.specs.Ordering.{nat_cmp, ordering_then}
@@ -35,9 +36,7 @@ ascending-each nodes end each apart =
     (λ i is. each i) (λ i j is is' less. apart i j less)
 
 ascending-one_each : (make : ℕ → Root) (end : ℕ) → ((i j : ℕ) → i < j → IsEarlier (make i) (make j)) → Ascends IsEarlier (one_each make end)
-ascending-one_each make end apart =
-    ascending-each (λ i. make i ∷ []) end (λ i. (λ other none. absurd none, tt))
-    (λ i j less x y here there. between IsEarlier (make i) (make j) (of-one x (make i) here) (of-one y (make j) there) (apart i j less))
+ascending-one_each make end apart = grind (arith, common_steps, ascending-each, of-one)
 
 -- ---- one kind after another
 

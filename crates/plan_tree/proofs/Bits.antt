@@ -1,5 +1,6 @@
 -- Sets of relations as numbers, and the relations of plans.
 use Rattle.std.proofs.Common.{w8, ◌≡◌, ℕ, ◌-◌, ◌*◌, ◌%◌, ◌^◌, ◌<◌, ◌≤◌, ◌&&◌, ◌||◌, Bool, true, false, IsTrue, IsFalse, List, [], ◌∷◌, nat_eq, nat_lt, bit_and, bit_or, cond, refl, sym, ap, ap₂, ◌∙◌, arith}
+use Rattle.std.proofs.lemmas.Grind.{common_steps}
 use Rattle.std.specs.Prelude.{min}
 use Rattle.std.specs.Int.{bit_at, trailing_zeros}
 use Rattle.std.specs.List.{list_any}
@@ -40,14 +41,7 @@ covers-some (IndexLoop e l r) = either-some (covers_of l) (2 ^ r) (covers-some l
 
 none-there : (f : ℕ → Bool) (xs : List ℕ) (i : ℕ) → list_any f xs ≡ false → list_any (nat_eq i) xs ≡ true → f i ≡ false
 none-there f [] i none some = cc
-none-there f (x ∷ xs) i none some = by (nat_eq i x) (f x) refl refl none some (none-there f xs i)
-  where
-    by : (same here : Bool) → nat_eq i x ≡ same → f x ≡ here → (here || list_any f xs) ≡ false → (same || list_any (nat_eq i) xs) ≡ true
-        → (list_any f xs ≡ false → list_any (nat_eq i) xs ≡ true → f i ≡ false) → f i ≡ false
-    by true false is there none some rest = let one : i ≡ x = grind arith in ap f one ∙ there
-    by true true is there none some rest = cc
-    by false true is there none some rest = cc
-    by false false is there none some rest = rest none some
+none-there f (x ∷ xs) i none some = grind (arith, common_steps, nat_eq, none-there f xs i)
 
 none-of : (f : ℕ → Bool) (xs : List ℕ) → ((i : ℕ) → list_any (nat_eq i) xs ≡ true → f i ≡ false) → list_any f xs ≡ false
 none-of f [] none = refl
@@ -87,13 +81,7 @@ apart-relation left relation apart =
     and_pow (covers_of left) relation ∙ ap (λ n. n * 2 ^ relation) (bit-of left relation ∙ ap (λ b. cond b 1 0) apart) ∙ omega arith
 
 pub relation-apart : (left : PlanTree) (relation : ℕ) → bit_and (covers_of left) (2 ^ relation) ≡ 0 → IsFalse (has_leaf left relation)
-relation-apart left relation none = by (has_leaf left relation) (bit-of left relation)
-  where
-    by : (b : Bool) → bit_at (covers_of left) relation ≡ cond b 1 0 → b ≡ false
-    by true bit =
-        let product : bit_and (covers_of left) (2 ^ relation) ≡ 1 * 2 ^ relation = and_pow (covers_of left) relation ∙ ap (λ n. n * 2 ^ relation) bit in
-        absurd (omega (arith, product, none, pow_pos relation))
-    by false bit = refl
+relation-apart left relation none = grind (arith, common_steps, bit-of, bit_and, and_pow, pow_pos)
 
 -- ---- the two sides of a set
 
@@ -101,11 +89,7 @@ pub sum-of-sides : (a b : ℕ) → bit_and a b ≡ 0 → bit_or a b - a ≡ b
 sum-of-sides a b apart = omega (arith, or_disjoint a b apart)
 
 pub split-of : (a b : ℕ) → 1 ≤ a → 1 ≤ b → bit_and a b ≡ 0 → IsSplit a (bit_or a b)
-split-of a b some some' apart = record {
-  some = some;
-  less = omega (arith, or_disjoint a b apart);
-  apart = ap (bit_and a) (sum-of-sides a b apart) ∙ apart;
-}
+split-of a b some some' apart = grind (arith, common_steps, or_disjoint, bit_and, sum-of-sides)
 
 pub whole-of : (left set right : ℕ) → IsSplit left set → right ≡ set - left → bit_or left right ≡ set
 whole-of left set right split is =
@@ -122,11 +106,7 @@ same-relation a b same = by (nat_eq a b) refl
 
 -- the set of one relation has no other
 pub relation-alone : (relation other : ℕ) → set_of (2 ^ relation) other ≡ true → other ≡ relation
-relation-alone relation other is = by (nat_eq other relation) refl (leaf-is-bit (Scan relation) other ∙ is)
-  where
-    by : (t : Bool) → nat_eq other relation ≡ t → (t || false) ≡ true → other ≡ relation
-    by true e some = grind arith
-    by false e some = cc
+relation-alone relation other is = grind (arith, common_steps, nat_eq, leaf-is-bit)
 
 one-place : (right relation : ℕ) → right ≡ 2 ^ relation → right < 256 → trailing_zeros w8 right ≡ relation
 one-place right relation is small = by (nat_eq (trailing_zeros w8 right) relation) refl
@@ -140,9 +120,7 @@ one-place right relation is small = by (nat_eq (trailing_zeros w8 right) relatio
 
 -- a set of one relation is that of its lowest bit
 pub lowest-alone : (right relation : ℕ) → right ≡ 2 ^ relation → right < 256 → right ≡ 1 * 2 ^ trailing_zeros w8 right % 256
-lowest-alone right relation is small =
-    let same = ap (λ k. 1 * 2 ^ k % 256) (one-place right relation is small) in
-    omega (arith, same, is, small)
+lowest-alone right relation is small = grind (arith, common_steps, one-place)
 
 pub power-below : (relation end : ℕ) → relation < end → 2 ^ relation < 2 ^ end
 power-below relation end below = pow-lt below
@@ -151,12 +129,8 @@ power-below relation end below = pow-lt below
 
 all-bits : (p : PlanTree) (count : ℕ) → covers_of p < 2 ^ count → ((relation : ℕ) → relation < count → IsTrue (has_leaf p relation)) → (i : ℕ) (b : Bool) → nat_lt i count ≡ b
     → bit_at (covers_of p) i ≡ bit_at (2 ^ count - 1) i
-all-bits p count below all i true is =
-    let lt : i < count = grind arith in
-    bit-of p i ∙ ap (λ b. cond b 1 0) (all i lt) ∙ sym (bit_at_ones count i lt)
-all-bits p count below all i false is =
-    let ge : count ≤ i = grind arith in
-    bit_at_above (covers_of p) count i below ge ∙ sym (bit_at_ones_above count i ge)
+all-bits p count below all i true is = grind (arith, common_steps, bit-of, bit_at_ones)
+all-bits p count below all i false is = grind (arith, common_steps, bit_at_above, bit_at_ones_above)
 
 -- a plan of all relations has all bits
 pub covers-all : (p : PlanTree) (count : ℕ) → covers_of p < 2 ^ count → ((relation : ℕ) → relation < count → IsTrue (has_leaf p relation)) → covers_of p ≡ 2 ^ count - 1

@@ -1,6 +1,7 @@
 -- Numbers of 128 bits, the greatest of which stands for every greater one: a product of such numbers stands for the product of those
 -- for which they stand.
-use Rattle.std.proofs.Common.{◌≡◌, ℕ, zero, suc, ◌*◌, ◌-◌, ◌^◌, ◌≤◌, inl, inr, ap, ◌∙◌, arith}
+use Rattle.std.proofs.Common.{◌≡◌, ℕ, zero, suc, ◌*◌, ap, ◌∙◌, arith}
+use Rattle.std.proofs.lemmas.Grind.{common_steps}
 use Rattle.std.proofs.lemmas.Bool.{cases_lt}
 use Rattle.std.proofs.lemmas.Nat.{mul-le}
 use Rattle.std.proofs.Math.Nat.{mul_comm}
@@ -9,13 +10,7 @@ use Rattle.plan_tree.specs.Work.{capped}
 -- a product with a factor that is capped
 pub one-capped : (a b : ℕ) → capped (a * capped b) ≡ capped (a * b)
 one-capped zero b = omega arith
-one-capped (suc a) b =
-    let more : 1 * capped b ≤ suc a * capped b = mul-le 1 (capped b) (suc a) (capped b) (omega arith) (omega arith) in
-    let most : 1 * b ≤ suc a * b = mul-le 1 b (suc a) b (omega arith) (omega arith) in
-    elim (cases_lt (2 ^ 128 - 1) b) [
-      | inl past ↦ omega (arith, more, most, past)
-      | inr within ↦ ap (λ n. capped (suc a * n)) (omega (arith, within))
-    ]
+one-capped (suc a) b = grind (arith, common_steps, mul-le, cases_lt)
 
 pub product-capped : (a b : ℕ) → capped (capped a * capped b) ≡ capped (a * b)
 product-capped a b =

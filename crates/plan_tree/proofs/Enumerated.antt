@@ -1,9 +1,10 @@
 -- The list of all plans of a block has each plan, and nothing else.
 use Rattle.std.proofs.Common.{◌≡◌, ◌↔◌, inl, inr, ℕ, zero, suc, ◌-◌, ◌^◌, ◌<◌, List, [], ◌∷◌, ◌++◌, length, map, bit_and, bit_or, refl, sym, ap, ap₂, subst, ◌∙◌, arith}
+use Rattle.std.proofs.lemmas.Grind.{common_steps}
 use Rattle.std.specs.Prelude.{Contains, slice_index_or}
 use Rattle.std.proofs.Math.Seq.{get_or-append_seam}
 use Rattle.std.proofs.lemmas.Bool.{cases_lt}
-use Rattle.std.proofs.lemmas.List.{get_or_append_left, length-append}
+use Rattle.std.proofs.lemmas.List.{get_or_append_left}
 use Rattle.std.proofs.lemmas.Nat.{pow_pos}
 use Rattle.query_block.specs.Blocks.{BlockTree}
 use Rattle.plan_tree.specs.declared.roots.Root.{Root}
@@ -16,17 +17,13 @@ use Rattle.plan_tree.specs.AllPlans.{roots_of, pairs_by, trees_of, plans_at, pla
 use Rattle.plan_tree.proofs.Members.{IsIn, in-contained, contained-in, in-map, of-map, in-flat, of-flat}
 use Rattle.plan_tree.proofs.Bits.{crosses-sets, covers-some, apart-sets, sets-apart, apart-relation, relation-apart, sum-of-sides, split-of, whole-of, covers-all, all-covered}
 use Rattle.plan_tree.proofs.Outermost.{split, stands, covers-below}
+use Rattle.plan_tree.proofs.Listed.{length-below}
 use Rattle.plan_tree.proofs.RootLists.{of-roots, in-roots}
 
 -- ---- the plans of one set are found in the lists of all smaller ones
 
 abbrev pub plans_for : BlockTree → (set : ℕ) → List PlanTree
 plans_for block set = plans_over block (plans_below block set) set
-
-length-below : (block : BlockTree) (end : ℕ) → length (plans_below block end) ≡ end
-unfolding plans_below
-length-below block zero = refl
-length-below block (suc last) = omega (arith, length-append (plans_below block last) (plans_for block last ∷ []), length-below block last)
 
 pub looked-up : (block : BlockTree) (end set : ℕ) → set < end → plans_at (plans_below block end) set ≡ plans_for block set
 unfolding plans_below
@@ -48,10 +45,7 @@ looked-up block (suc last) set below =
 
 pub of-pairs : (join : PlanTree → PlanTree → PlanTree) (lefts rights : List PlanTree) (p : PlanTree) → IsIn p (pairs_by join lefts rights)
     → (l : PlanTree) × (r : PlanTree) × IsIn l lefts × IsIn r rights × (join l r ≡ p)
-of-pairs join lefts rights p is =
-    let outer = of-flat (λ l. map (join l) rights) p lefts is in
-    let inner = of-map (join outer.0) p rights outer.2 in
-    (outer.0, inner.0, outer.1, inner.1, inner.2)
+of-pairs join lefts rights p is = grind (arith, common_steps, of-flat, of-map)
 
 in-pairs : (join : PlanTree → PlanTree → PlanTree) (l r : PlanTree) (lefts rights : List PlanTree) → IsIn l lefts → IsIn r rights
     → IsIn (join l r) (pairs_by join lefts rights)
@@ -216,14 +210,10 @@ in-set block (IndexLoop edge l relation) (left, look) =
 -- ---- all plans of a block
 
 pub last-list : (block : BlockTree) → plans_of block ≡ plans_for block (2 ^ length block.relations - 1)
-last-list block =
-    let count = length block.relations in
-    looked-up block (2 ^ count) (2 ^ count - 1) (omega (arith, pow_pos count))
+last-list block = grind (arith, common_steps, looked-up, pow_pos)
 
 pub in-plans : (block : BlockTree) (p : PlanTree) → IsPlan block p → IsIn p (plans_of block)
-in-plans block p plan =
-    let all = covers-all p (length block.relations) (covers-below block p plan.nodes) plan.whole in
-    subst (IsIn p) (ap (plans_for block) all ∙ sym (last-list block)) (in-set block p plan.nodes)
+in-plans block p plan = grind (arith, common_steps, covers-all, covers-below, last-list, in-set)
 
 pub of-plans : (block : BlockTree) (p : PlanTree) → IsIn p (plans_of block) → IsPlan block p
 of-plans block p is =

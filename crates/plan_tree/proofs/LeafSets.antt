@@ -1,5 +1,6 @@
 -- Sets of relations: as numbers, and as the leaves of plans; and how many relations are in a set.
 use Rattle.std.proofs.Common.{◌≡◌, ◌↔◌, ℕ, zero, suc, cond, ◌+◌, ◌≤◌, ◌^◌, ◌<◌, Bool, true, false, ◌&&◌, ◌||◌, not, List, [], ◌∷◌, ◌++◌, IsTrue, bit_and, nat_eq, refl, ap, ◌∙◌, inl, inr, arith}
+use Rattle.std.proofs.lemmas.Grind.{common_steps}
 use Rattle.std.proofs.Math.Path.{fun_ext}
 use Rattle.std.proofs.lemmas.Bool.{cases_eq}
 use Rattle.std.proofs.lemmas.Bool.Decides.{nat_tests}
@@ -67,9 +68,7 @@ one-here false is = absurd (grind (arith, is))
 
 pub size-some : (set : RelationSet) (number place more : ℕ) → set (number + place) ≡ true → place < more → 1 ≤ size_of set number more
 size-some set number place zero there below = absurd (omega (arith, below))
-size-some set number zero (suc more) there below =
-    let here : set number ≡ true = ap set (omega arith) ∙ there in
-    omega (arith, one-here (set number) here)
+size-some set number zero (suc more) there below = grind (arith, common_steps, one-here)
 size-some set number (suc place) (suc more) there below =
     omega (arith, size-some set (number + 1) place more (ap set (omega arith) ∙ there) (omega (arith, below)))
 
@@ -80,9 +79,7 @@ leaf-size many relation below = size-some (has_leaf (Scan relation)) 0 relation 
 pub both-sizes : (many : ℕ) (left right : List ℕ) → ((relation : ℕ) → (list_any (nat_eq relation) left && list_any (nat_eq relation) right) ≡ false)
     → size_of (λ relation. list_any (nat_eq relation) (left ++ right)) 0 many
     ≡ size_of (λ relation. list_any (nat_eq relation) left) 0 many + size_of (λ relation. list_any (nat_eq relation) right) 0 many
-both-sizes many left right apart =
-    size-of-both (λ relation. list_any (nat_eq relation) left) (λ relation. list_any (nat_eq relation) right) (λ relation. list_any (nat_eq relation) (left ++ right))
-    0 many apart (leaf-of-both left right)
+both-sizes many left right apart = grind (arith, common_steps, size-of-both, nat_eq, leaf-of-both)
 
 pub alone : (left : PlanTree) (relation : ℕ) → has_leaf left relation ≡ false → (other : ℕ) → (has_leaf left other && has_leaf (Scan relation) other) ≡ false
 alone left relation out other =

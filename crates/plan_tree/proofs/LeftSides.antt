@@ -1,6 +1,6 @@
 -- The left side of each outermost node of a set is a smaller set, and so is what it leaves.
-use Rattle.std.proofs.Common.{◌≡◌, ℕ, Bool, true, false, All, List, [], ◌∷◌, filter, refl}
-use Rattle.std.specs.Prelude.{if◌then◌else◌}
+use Rattle.std.proofs.Common.{◌≡◌, ℕ, Bool, true, All, List, [], ◌∷◌, filter, arith}
+use Rattle.std.proofs.lemmas.Grind.{common_steps}
 use Rattle.std.proofs.lemmas.List.Elements.{All-nil, All-cons}
 use Rattle.query_block.specs.Blocks.{BlockTree}
 use Rattle.plan_tree.specs.declared.roots.Root.{Root}
@@ -12,11 +12,7 @@ use Rattle.plan_tree.proofs.RootLists.{tried_nodes, of-stands}
 
 all-filter : {X : Type 0} (P : X → Type 0) (test : X → Bool) (xs : List X) → ((x : X) → test x ≡ true → P x) → All P (filter test xs)
 all-filter P test [] has = All-nil P
-all-filter P test (x ∷ xs) has = by (test x) (has x) (all-filter P test xs has)
-  where
-    by : (kept : Bool) → (kept ≡ true → P x) → All P (filter test xs) → All P (if kept then x ∷ filter test xs else filter test xs)
-    by true here rest = All-cons P x (filter test xs) (here refl) rest
-    by false here rest = rest
+all-filter P test (x ∷ xs) has = grind (arith, common_steps, All-cons, all-filter P test xs has)
 
 left-of : (block : BlockTree) (set : ℕ) (node : Root) → Stands block node set → HasLeftOf node set
 left-of block set (root.Scan relation) is = tt

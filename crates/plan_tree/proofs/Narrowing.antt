@@ -1,5 +1,6 @@
 -- What a range has of the words of a column, once a conjunct is looked at.
-use Rattle.std.proofs.Common.{◌≡◌, ℕ, ℤ, pos, negsuc, Bool, true, false, not, ◌&&◌, ◌||◌, List, ◌∷◌, filter, nat_cmp, Some, None, option_map, ◌-◌, ◌^◌, SFits, w64, sym, ap, subst, ◌∙◌, arith, zero, suc, ◌+ℤ◌, of_z}
+use Rattle.std.proofs.Common.{◌≡◌, ℕ, ℤ, pos, negsuc, Bool, true, false, not, ◌&&◌, ◌||◌, List, ◌∷◌, filter, nat_cmp, Some, None, option_map, ◌-◌, ◌^◌, SFits, w64, sym, ap, ◌∙◌, arith, zero, suc, ◌+ℤ◌, of_z}
+use Rattle.std.proofs.lemmas.Grind.{common_steps}
 use Rattle.std.specs.Prelude.{int_le, int_lt, FitsSigned}
 use Rattle.std.specs.List.{position_or_len}
 use Rattle.std.specs.Ordering.{int_cmp, int_eq, is_eq, is_lt, is_gt, ordering_reverse}
@@ -51,9 +52,7 @@ gt_is w word = grind (arith, ints)
 pub next_fits : (word : ℤ) → SFits w64 word → (of_z w64 word ≡ 2 ^ 63 - 1 → ⊥) → SFits w64 (word +ℤ pos 1)
 next_fits (pos n) fits less = record { sfits = omega (arith, fits.sfits, less) }
 next_fits (negsuc zero) fits less = record { sfits = omega arith }
-next_fits (negsuc (suc n)) fits less =
-    let next : negsuc n ≡ negsuc (suc n) +ℤ pos 1 = omega (arith, ints) in
-    subst (SFits w64) next (record { sfits = omega (arith, fits.sfits) })
+next_fits (negsuc (suc n)) fits less = grind (arith, common_steps)
 
 -- the operator that holds of two values the other way round
 abbrev turned : Op → Op
@@ -113,10 +112,7 @@ pub by-no-code : (texts : List (List ℕ)) (kind : ColumnType) (l : List ℕ) (o
 by-no-code texts kind l old missing text value.Null stored = cc stored.some
 by-no-code texts kind l old missing text (value.Int n) stored = cc (stored.kind_is, text)
 by-no-code texts kind l old missing text (value.Text t) stored =
-    let own : ℤ = pos (position_or_len (bytes_eq t) texts) in
-    let other : bytes_eq t l ≡ false = false_from_ne_true (bytes_eq t l)
-    (λ same. let both : Some own ≡ None = sym (code-there texts t stored.kind_is.1) ∙ ap (code_of texts) ((bytes_eq-Decides t l).0 same) ∙ missing in cc) in
-    grind (arith, none-in own, other, is_eq-slice_cmp t l)
+    grind (arith, common_steps, false_from_ne_true, code-there, bytes_eq-Decides, none-in, is_eq-slice_cmp)
 
 -- whether a row meets a conjunct, if it has no parameter and an index on the column can use it
 abbrev passes : List ColumnType → (column : ℕ) → FilterTree → ValueRow → Bool

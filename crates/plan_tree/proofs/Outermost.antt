@@ -1,5 +1,6 @@
 -- The outermost node of a plan stands over the plan's set.
-use Rattle.std.proofs.Common.{◌≡◌, ℕ, ◌-◌, ◌^◌, ◌<◌, length, bit_or, refl, sym, subst, ◌∙◌}
+use Rattle.std.proofs.Common.{◌≡◌, ℕ, ◌-◌, ◌^◌, ◌<◌, length, bit_or, refl, sym, subst, ◌∙◌, arith}
+use Rattle.std.proofs.lemmas.Grind.{common_steps}
 use Rattle.std.proofs.lemmas.Nat.{or_lt}
 use Rattle.query_block.specs.Blocks.{BlockTree}
 use Rattle.plan_tree.specs.Plans.{PlanTree, Scan, IndexScan, Nest, Hash, Merge, IndexLoop, covers_of}
@@ -21,9 +22,7 @@ split l r apart = split-of (covers_of l) (covers_of r) (covers-some l) (covers-s
 
 crossed : (block : BlockTree) (edge : ℕ) (l r : PlanTree) → AreApart l r → Crosses block.edges edge l r
     → IsCrossed block.edges edge (covers_of l) (bit_or (covers_of l) (covers_of r) - covers_of l)
-crossed block edge l r apart (exists, crosses) =
-    subst (IsCrossed block.edges edge (covers_of l)) (sym (sum-of-sides (covers_of l) (covers_of r) (apart-sets l r apart)))
-    (record { exists = exists; crosses = sym (crosses-sets (edge_at block.edges edge) l r) ∙ crosses })
+crossed block edge l r apart (exists, crosses) = grind (arith, common_steps, sum-of-sides, apart-sets, crosses-sets)
 
 pub stands : (block : BlockTree) (p : PlanTree) → IsSubPlan block p → Stands block (root_of p) (covers_of p)
 stands block (Scan r) is = (is, refl)

@@ -1,5 +1,6 @@
 -- The numbers of plans, as far as 128 bits reach.
-use Rattle.std.proofs.Common.{◌≡◌, ℕ, zero, suc, ◌+◌, ◌-◌, ◌*◌, ◌^◌, List, [], ◌∷◌, ◌++◌, length, map, refl, sym, ap, ap₂, ◌∙◌, arith}
+use Rattle.std.proofs.Common.{◌≡◌, ℕ, zero, suc, ◌+◌, ◌-◌, ◌*◌, ◌^◌, List, [], ◌∷◌, ◌++◌, length, map, refl, ap, ◌∙◌, arith}
+use Rattle.std.proofs.lemmas.Grind.{common_steps}
 use Rattle.std.specs.Prelude.{min, slice_index}
 use Rattle.std.proofs.lemmas.List.{length-append, length-map, map_push}
 use Rattle.query_block.specs.Blocks.{BlockTree}
@@ -30,29 +31,18 @@ pub count-pairs : (join : PlanTree → PlanTree → PlanTree) (counts : List ℕ
     → counts ≡ map plan_count lists → count ≡ min (slice_index counts left * slice_index counts right) (2 ^ 128 - 1)
     → count ≡ plan_count (pairs_by join (plans_at lists left) (plans_at lists right))
 count-pairs join counts lists left right count same is =
-    let at : (set : ℕ) → slice_index counts set ≡ plan_count (plans_at lists set) =
-    λ set. ap (λ (xs : List ℕ). slice_index xs set) same ∙ count-at lists set in
-    let lefts = plans_at lists left in
-    let rights = plans_at lists right in
-    is ∙ ap₂ (λ (x y : ℕ). min (x * y) (2 ^ 128 - 1)) (at left) (at right)
-    ∙ product-capped (length lefts) (length rights)
-    ∙ ap (λ (n : ℕ). min n (2 ^ 128 - 1)) (sym (length-pairs join lefts rights))
+    grind (arith, common_steps, count-at, product-capped, length-pairs)
 
 -- the count of the last set is that of all plans
 pub count-whole : (block : BlockTree) (counts : List ℕ) (set end count : ℕ) → counts ≡ map plan_count (plans_below block set)
     → set ≡ end → end ≡ 2 ^ length block.relations → count ≡ slice_index counts (end - 1) → count ≡ plan_count (plans_of block)
-count-whole block counts set end count so at all is =
-    is ∙ ap (λ (xs : List ℕ). slice_index xs (end - 1)) so ∙ count-at (plans_below block set) (end - 1)
-    ∙ ap₂ (λ (s e : ℕ). plan_count (plans_at (plans_below block s) (e - 1))) (at ∙ all) all
+count-whole block counts set end count so at all is = grind (arith, common_steps, count-at)
 
 -- one more set
 pub counts-more : (block : BlockTree) (counts next : List ℕ) (set count : ℕ) → counts ≡ map plan_count (plans_below block set)
     → next ≡ counts ++ count ∷ [] → count ≡ plan_count (plans_over block (plans_below block set) set)
     → next ≡ map plan_count (plans_below block (set + 1))
-counts-more block counts next set count so is of =
-    is ∙ ap₂ (λ (xs : List ℕ) (n : ℕ). xs ++ n ∷ []) so of
-    ∙ sym (map_push plan_count (plans_below block set) (plans_over block (plans_below block set) set))
-    ∙ ap (map plan_count) (sym (below-more block set))
+counts-more block counts next set count so is of = grind (arith, common_steps, map_push, below-more)
 
 pub length-counts : (block : BlockTree) (counts : List ℕ) (set : ℕ) → counts ≡ map plan_count (plans_below block set)
     → length counts ≡ set

@@ -1,5 +1,6 @@
 -- Plan order by its parts: it is total, and the numbers of one plan never begin those of another one.
-use Rattle.std.proofs.Common.{◌≡◌, ◌↔◌, ℕ, List, [], ◌∷◌, ◌++◌, refl, sym, ap, ap₂, ◌∙◌, append_assoc}
+use Rattle.std.proofs.Common.{◌≡◌, ◌↔◌, ℕ, List, [], ◌∷◌, ◌++◌, refl, sym, ap, ap₂, ◌∙◌, append_assoc, arith}
+use Rattle.std.proofs.lemmas.Grind.{common_steps}
 use Rattle.std.specs.Ordering.{nat_cmp, ordering_then}
 use Rattle.std.specs.Cmp.{IsTotalOrder, tied_itself}
 use Rattle.std.specs.Cmp.Lexicographic.{slice_cmp, on_texts}
@@ -32,15 +33,7 @@ sides : (n : Ordering) (left left' right right' xs ys : List ℕ)
     → ((xs ys : List ℕ) → slice_cmp nat_cmp (right ++ xs) (right' ++ ys) ≡ ordering_then (slice_cmp nat_cmp right right') (slice_cmp nat_cmp xs ys))
     → ordering_then n (slice_cmp nat_cmp ((left ++ right) ++ xs) ((left' ++ right') ++ ys))
     ≡ ordering_then (ordering_then n (slice_cmp nat_cmp (left ++ right) (left' ++ right'))) (slice_cmp nat_cmp xs ys)
-sides n left left' right right' xs ys by-left by-right =
-    ap (ordering_then n) (
-    ap₂ (slice_cmp nat_cmp) (append_assoc left right xs) (append_assoc left' right' ys)
-    ∙ by-left (right ++ xs) (right' ++ ys)
-    ∙ ap (ordering_then (slice_cmp nat_cmp left left')) (by-right xs ys)
-    ∙ sym (then-assoc (slice_cmp nat_cmp left left') (slice_cmp nat_cmp right right') (slice_cmp nat_cmp xs ys))
-    ∙ ap (λ o. ordering_then o (slice_cmp nat_cmp xs ys)) (sym (by-left right right'))
-    )
-    ∙ sym (then-assoc n (slice_cmp nat_cmp (left ++ right) (left' ++ right')) (slice_cmp nat_cmp xs ys))
+sides n left left' right right' xs ys by-left by-right = grind (arith, common_steps, append_assoc, then-assoc)
 
 one : (a b : ℕ) (xs ys : List ℕ) → slice_cmp nat_cmp ((a ∷ []) ++ xs) ((b ∷ []) ++ ys) ≡ ordering_then (slice_cmp nat_cmp (a ∷ []) (b ∷ [])) (slice_cmp nat_cmp xs ys)
 one a b xs ys = ap (λ o. ordering_then o (slice_cmp nat_cmp xs ys)) (sym (then-none (nat_cmp a b)))
@@ -49,20 +42,12 @@ one a b xs ys = ap (λ o. ordering_then o (slice_cmp nat_cmp xs ys)) (sym (then-
 pub behind : (a b : PlanTree) (xs ys : List ℕ)
     → slice_cmp nat_cmp (plan_numbers a ++ xs) (plan_numbers b ++ ys) ≡ ordering_then (plan_order_of a b) (slice_cmp nat_cmp xs ys)
 behind (Scan r) (Scan r') xs ys = ap (λ o. ordering_then o (slice_cmp nat_cmp xs ys)) (sym (then-none (nat_cmp r r')))
-behind (IndexScan r c) (IndexScan r' c') xs ys =
-    ap (λ o. ordering_then (nat_cmp r r') (ordering_then o (slice_cmp nat_cmp xs ys))) (sym (then-none (nat_cmp c c')))
-    ∙ sym (then-assoc (nat_cmp r r') (ordering_then (nat_cmp c c') Equal) (slice_cmp nat_cmp xs ys))
+behind (IndexScan r c) (IndexScan r' c') xs ys = grind (arith, common_steps, then-none, then-assoc)
 behind (Nest l r) (Nest l' r') xs ys =
     sides (nat_cmp (covers_of l) (covers_of l')) (plan_numbers l) (plan_numbers l') (plan_numbers r) (plan_numbers r') xs ys (behind l l') (behind r r')
-behind (Hash e l r) (Hash e' l' r') xs ys =
-    ap (ordering_then (nat_cmp e e')) (sides (nat_cmp (covers_of l) (covers_of l')) (plan_numbers l) (plan_numbers l') (plan_numbers r) (plan_numbers r') xs ys (behind l l') (behind r r'))
-    ∙ sym (then-assoc (nat_cmp e e') _ (slice_cmp nat_cmp xs ys))
-behind (Merge e l r) (Merge e' l' r') xs ys =
-    ap (ordering_then (nat_cmp e e')) (sides (nat_cmp (covers_of l) (covers_of l')) (plan_numbers l) (plan_numbers l') (plan_numbers r) (plan_numbers r') xs ys (behind l l') (behind r r'))
-    ∙ sym (then-assoc (nat_cmp e e') _ (slice_cmp nat_cmp xs ys))
-behind (IndexLoop e l r) (IndexLoop e' l' r') xs ys =
-    ap (ordering_then (nat_cmp e e')) (sides (nat_cmp (covers_of l) (covers_of l')) (plan_numbers l) (plan_numbers l') (r ∷ []) (r' ∷ []) xs ys (behind l l') (one r r'))
-    ∙ sym (then-assoc (nat_cmp e e') _ (slice_cmp nat_cmp xs ys))
+behind (Hash e l r) (Hash e' l' r') xs ys = grind (arith, common_steps, sides, then-assoc, behind l l', behind r r')
+behind (Merge e l r) (Merge e' l' r') xs ys = grind (arith, common_steps, sides, then-assoc, behind l l', behind r r')
+behind (IndexLoop e l r) (IndexLoop e' l' r') xs ys = grind (arith, common_steps, sides, one, then-assoc, behind l l')
 behind a b xs ys = refl
 
 -- the outermost nodes decide, and then the sides
@@ -70,15 +55,9 @@ pub by-nodes : (a b : PlanTree) → plan_order_of a b ≡ ordering_then (slice_c
 by-nodes (Scan r) (Scan r') = sym (then-none _)
 by-nodes (IndexScan r c) (IndexScan r' c') = sym (then-none _)
 by-nodes (Nest l r) (Nest l' r') = ap₂ ordering_then (sym (then-none (nat_cmp (covers_of l) (covers_of l')))) (behind l l' (plan_numbers r) (plan_numbers r'))
-by-nodes (Hash e l r) (Hash e' l' r') =
-    ap (ordering_then (nat_cmp e e')) (ap (ordering_then (nat_cmp (covers_of l) (covers_of l'))) (behind l l' (plan_numbers r) (plan_numbers r')))
-    ∙ behind-two (nat_cmp e e') (nat_cmp (covers_of l) (covers_of l')) _
-by-nodes (Merge e l r) (Merge e' l' r') =
-    ap (ordering_then (nat_cmp e e')) (ap (ordering_then (nat_cmp (covers_of l) (covers_of l'))) (behind l l' (plan_numbers r) (plan_numbers r')))
-    ∙ behind-two (nat_cmp e e') (nat_cmp (covers_of l) (covers_of l')) _
-by-nodes (IndexLoop e l r) (IndexLoop e' l' r') =
-    ap (ordering_then (nat_cmp e e')) (ap (ordering_then (nat_cmp (covers_of l) (covers_of l'))) (behind l l' (r ∷ []) (r' ∷ []) ∙ ap (ordering_then (plan_order_of l l')) (then-none (nat_cmp r r'))))
-    ∙ behind-two (nat_cmp e e') (nat_cmp (covers_of l) (covers_of l')) _
+by-nodes (Hash e l r) (Hash e' l' r') = grind (arith, common_steps, behind, behind-two)
+by-nodes (Merge e l r) (Merge e' l' r') = grind (arith, common_steps, behind, behind-two)
+by-nodes (IndexLoop e l r) (IndexLoop e' l' r') = grind (arith, common_steps, behind, then-none, behind-two)
 by-nodes a b = refl
 
 then-equal : (n rest : Ordering) → n ≡ Equal → rest ≡ ordering_then n rest

@@ -1,5 +1,6 @@
 -- The reader of texts of plans: what it reads is the text of a plan, and the text of each plan is read.
 use Rattle.std.proofs.Common.{◌≡◌, ℕ, zero, suc, ◌+◌, ◌-◌, ◌*◌, ◌/◌, ◌%◌, ◌≤◌, ◌<◌, Bool, true, false, cond, ◌&&◌, List, [], ◌∷◌, ◌++◌, length, Option, Some, None, refl, sym, ap, subst, ◌∙◌, inl, inr, append_assoc, append-nil, length-append, arith}
+use Rattle.std.proofs.lemmas.Grind.{common_steps}
 use Rattle.std.specs.Prelude.{decimal, nat_le, nat_eq}
 use Rattle.std.proofs.lemmas.Bool.{eqb-true, cases_lt}
 use Rattle.std.proofs.lemmas.Bool.Decides.{nat_tests}
@@ -30,12 +31,7 @@ record IsPair (n tens ones : ℕ) : Type 0 where
   text : decimal n ≡ (48 + tens) ∷ (48 + ones) ∷ []
 
 is-pair : (n : ℕ) → 10 ≤ n → n ≤ 31 → IsPair n (n / 10) (n % 10)
-is-pair n low high = record {
-  first = omega (arith, low, high);
-  second = omega (arith, low, high);
-  is = omega (arith, low, high);
-  text = decimal_two n low (omega (arith, high));
-}
+is-pair n low high = grind (arith, common_steps, decimal_two)
 
 pair-again : (n tens ones : ℕ) (rest : List ℕ) → 10 ≤ n → n ≤ 31 → IsPair n tens ones → column_number_at (decimal n ++ rest) ≡ Some (n, rest)
 unfolding column_number_at with_second
@@ -102,8 +98,7 @@ unfolding plan_tree_at plan_node_of scan_at index_scan_at nest_at after
 plan-again zero p few numbers rest follows = absurd (omega (arith, few, leaves-some p))
 plan-again (suc levels) (Scan relation) few numbers rest follows = rw (relation-again relation numbers rest follows) refl
 plan-again (suc levels) (IndexScan relation column) few numbers rest follows =
-    ap index_scan_at (numbers-before (decimal relation) (decimal column) rest)
-    ∙ rw (digit-again 5 relation (46 ∷ (decimal column ++ rest)) numbers.0 (omega arith), column-again column rest numbers.1 follows) refl
+    grind (arith, common_steps, numbers-before, digit-again, column-again)
 plan-again (suc levels) (Nest left right) few numbers rest follows =
     rw (sides-again (plan_tree_at levels) (plan_tree_at levels) (plan_text_of left) (plan_text_of right) left right rest (plan-again levels left (fewer-left left right levels few) numbers.0) (plan-again levels right (fewer-right left right levels few) numbers.1)) refl
 plan-again (suc levels) (Hash edge left right) few numbers rest follows =
@@ -148,52 +143,31 @@ then_after : {B : Type 0} (sign : ℕ) (bytes : List ℕ) (P : B → Type 0) (f 
 then_after sign bytes P f next = then_found (λ rest. bytes ≡ sign ∷ rest) P (after sign bytes) f (after-reads sign bytes) next
 
 digit-text : (first most : ℕ) (rest : List ℕ) → most ≤ 9 → 48 ≤ first → first - 48 ≤ most → first ∷ rest ≡ decimal (first - 48) ++ rest
-digit-text first most rest digits low high =
-    let same : 48 + (first - 48) ≡ first = omega (arith, low) in
-    rw (decimal_digit (first - 48) (omega (arith, digits, high)), same) refl
+digit-text first most rest digits low high = grind (arith, common_steps, decimal_digit)
 
 digit-reads : (most : ℕ) → most ≤ 9 → Reads decimal (λ n. n ≤ most) (digit_at most)
 unfolding digit_at
 digit-reads most digits [] = tt
-digit-reads most digits (first ∷ rest) =
-    if_found (IsRead decimal (λ n. n ≤ most) (first ∷ rest)) (nat_le 48 first && nat_le (first - 48) most) (Some (first - 48, rest)) None
-    (λ yes. let low : 48 ≤ first = grind (arith, nat_tests, yes) in
-    let high : first - 48 ≤ most = grind (arith, nat_tests, yes) in
-    (digit-text first most rest digits low high, high)) tt
+digit-reads most digits (first ∷ rest) = grind (arith, common_steps, if_found, nat_tests, digit-text)
 
 -- two digits of a number that has two
 pair-text : (tens ones : ℕ) → tens ≤ 9 → ones ≤ 9 → 10 ≤ 10 * tens + ones → decimal (10 * tens + ones) ≡ decimal tens ++ decimal ones
-pair-text tens ones first second low =
-    let n = 10 * tens + ones in
-    let e : n / 10 ≡ tens = omega (arith, first, second) in
-    let f : n % 10 ≡ ones = omega (arith, first, second) in
-    rw (decimal_two n low (omega (arith, first, second)), e, f, decimal_digit tens (omega (arith, first)), decimal_digit ones (omega (arith, second))) refl
+pair-text tens ones first second low = grind (arith, common_steps, decimal_two, decimal_digit)
 
 second-reads : (bytes : List ℕ) (first : ℕ) (rest : List ℕ) (second : Option (ℕ × List ℕ)) → bytes ≡ decimal first ++ rest → first ≤ 9
     → IfFound (IsRead decimal (λ n. n ≤ 9) rest) second → IfFound (IsRead decimal (λ n. n ≤ 31) bytes) (with_second first rest second)
 unfolding with_second
 second-reads bytes first rest None is few known = (is, omega (arith, few))
 second-reads bytes first rest (Some second) is few known =
-    let column = 10 * first + second.0 in
-    if_found (IsRead decimal (λ n. n ≤ 31) bytes) (nat_le 10 column && nat_le column 31) (Some (column, second.1)) None
-    (λ yes. let low : 10 ≤ column = grind (arith, nat_tests, yes) in
-    let high : column ≤ 31 = grind (arith, nat_tests, yes) in (
-      is ∙ (ap (λ all. decimal first ++ all) known.0 ∙ (sym (append_assoc (decimal first) (decimal second.0) second.1)
-          ∙ ap (λ text. text ++ second.1) (sym (pair-text first second.0 few known.1 low)))),
-      high,
-    )) tt
+    grind (arith, common_steps, if_found, nat_tests, append_assoc, pair-text)
 
 column-reads : Reads decimal (λ n. n ≤ 31) column_number_at
 unfolding column_number_at
-column-reads bytes =
-    then_found (IsRead decimal (λ n. n ≤ 9) bytes) (IsRead decimal (λ n. n ≤ 31) bytes) (digit_at 9 bytes) (λ first. with_second first.0 first.1 (digit_at 9 first.1))
-    (digit-reads 9 (omega arith) bytes) (λ first read. second-reads bytes first.0 first.1 (digit_at 9 first.1) read.0 read.1 (digit-reads 9 (omega arith) first.1))
+column-reads bytes = grind (arith, common_steps, then_found, digit-reads, second-reads)
 
 scan-reads : (bytes : List ℕ) → IfFound (IsRead plan_text_of HasQueryNumbers (83 ∷ bytes)) (scan_at bytes)
 unfolding scan_at
-scan-reads bytes =
-    then_found (IsRead decimal (λ n. n ≤ 5) bytes) (IsRead plan_text_of HasQueryNumbers (83 ∷ bytes)) (digit_at 5 bytes) (λ relation. Some (Scan relation.0, relation.1))
-    (digit-reads 5 (omega arith) bytes) (λ relation read. (ap (λ all. 83 ∷ all) read.0, read.1))
+scan-reads bytes = grind (arith, common_steps, then_found, digit-reads)
 
 index_scan-reads : (bytes : List ℕ) → IfFound (IsRead plan_text_of HasQueryNumbers (73 ∷ bytes)) (index_scan_at bytes)
 unfolding index_scan_at
@@ -281,9 +255,7 @@ found_is P o x found is = subst (IfFound P) is found
 
 -- what is read, with nothing after it, has the text
 pub has_text : (p : PlanTree) (bytes rest : List ℕ) → plan_tree_at 6 bytes ≡ Some (p, rest) → (nat_eq (length rest) 0 && nat_le (length (leaves_of p)) 6) ≡ true → HasText p bytes
-has_text p bytes [] read whole =
-    let found = found_is (IsRead plan_text_of HasQueryNumbers bytes) (plan_tree_at 6 bytes) (p, []) (plan-reads 6 bytes) read in
-    record { numbers = found.1; few = grind (arith, nat_tests, whole); text = found.0 ∙ append-nil (plan_text_of p) }
+has_text p bytes [] read whole = grind (arith, common_steps, found_is, plan-reads, nat_tests, append-nil)
 has_text p bytes (first ∷ rest) read whole = absurd (grind (arith, nat_tests, whole))
 
 -- what has the text is read, with nothing after it

@@ -1,7 +1,8 @@
 -- The list of a set's outermost nodes has each node that may stand over the set, and no other.
-use Rattle.std.proofs.Common.{◌≡◌, ◌↔◌, inl, inr, ℕ, ◌+◌, ◌-◌, ◌^◌, ◌<◌, max, Bool, true, false, ◌&&◌, ◌||◌, not, List, [], ◌∷◌, ◌++◌, IsTrue, filter, length, bit_and, nat_eq, nat_le, nat_lt, refl, sym, ap, subst, ◌∙◌, if◌then◌else◌, arith}
+use Rattle.std.proofs.Common.{◌≡◌, ◌↔◌, inl, inr, ℕ, ◌+◌, ◌-◌, ◌^◌, ◌<◌, Bool, true, false, ◌&&◌, List, [], ◌∷◌, ◌++◌, IsTrue, filter, length, bit_and, nat_eq, nat_le, nat_lt, refl, sym, ap, subst, ◌∙◌, if◌then◌else◌, arith}
+use Rattle.std.proofs.lemmas.Grind.{common_steps}
 use Rattle.std.specs.List.{list_any, range_with_len}
-use Rattle.std.proofs.lemmas.Bool.{and_parts, and_from, false≢true, eqb-true, eq-eqb, leb-true, le-leb, ltb-true, lt-ltb}
+use Rattle.std.proofs.lemmas.Bool.{and_parts, and_from, eqb-true, eq-eqb, leb-true, le-leb, ltb-true, lt-ltb}
 use Rattle.std.proofs.lemmas.List.{append_assoc}
 use Rattle.std.proofs.lemmas.List.Elements.{filter-append}
 use Rattle.query_block.specs.declared.edge.Edge.{Edge}
@@ -19,15 +20,10 @@ use Rattle.plan_tree.proofs.Members.{IsIn, in-left, in-right, of-flat, in-flat, 
 -- ---- the tests say whether a node may stand over a set
 
 pub of-split : (left set : ℕ) → is_split left set ≡ true → IsSplit left set
-of-split left set is =
-    let parts = and_parts (nat_le 1 left && nat_lt left set) _ is in
-    let first = and_parts (nat_le 1 left) _ parts.0 in
-    record { some = leb-true 1 left first.0; less = ltb-true left set first.1; apart = eqb-true (bit_and left (set - left)) 0 parts.1 }
+of-split left set is = grind (arith, common_steps, and_parts, nat_le, nat_lt, leb-true, ltb-true, eqb-true, bit_and)
 
 pub to-split : (left set : ℕ) → IsSplit left set → is_split left set ≡ true
-to-split left set split =
-    and_from (nat_le 1 left && nat_lt left set) _
-    (and_from (nat_le 1 left) _ (le-leb 1 left split.some) (lt-ltb left set split.less)) (eq-eqb (bit_and left (set - left)) 0 split.apart)
+to-split left set split = grind (arith, common_steps, and_from, nat_le, nat_lt, le-leb, lt-ltb, eq-eqb, bit_and)
 
 -- the tests of what stands, by their parts
 abbrev is_crossed : List Edge → (edge left right : ℕ) → Bool
@@ -44,9 +40,7 @@ is_looked_up block edge right relation =
     && is_indexed (relation_at block.relations relation) (column_on (edge_at block.edges edge) relation)
 
 of-crossed : (edges : List Edge) (edge left right : ℕ) → is_crossed edges edge left right ≡ true → IsCrossed edges edge left right
-of-crossed edges edge left right is =
-    let parts = and_parts (nat_lt edge (length edges)) _ is in
-    record { exists = ltb-true edge (length edges) parts.0; crosses = parts.1 }
+of-crossed edges edge left right is = grind (arith, common_steps, and_parts, nat_lt, ltb-true)
 
 to-crossed : (edges : List Edge) (edge left right : ℕ) → IsCrossed edges edge left right → is_crossed edges edge left right ≡ true
 to-crossed edges edge left right crossed =
@@ -126,10 +120,7 @@ module _ (block : BlockTree) where
 -- ---- by each number below an end
 
 pub of-each : (nodes : ℕ → List Root) (end : ℕ) (node : Root) → IsIn node (by_each nodes end) → (i : ℕ) × (i < end) × IsIn node (nodes i)
-of-each nodes end node is =
-    let found = of-flat nodes node (range_with_len 0 end) is in
-    let range = of-range found.0 0 end found.1 in
-    (found.0, omega (arith, range.1), found.2)
+of-each nodes end node is = grind (arith, common_steps, of-flat, of-range)
 
 in-each : (nodes : ℕ → List Root) (end i : ℕ) (node : Root) → i < end → IsIn node (nodes i) → IsIn node (by_each nodes end)
 in-each nodes end i node below is = in-flat nodes i node (range_with_len 0 end) (in-range i 0 end (omega arith) (omega (arith, below))) is
@@ -142,44 +133,21 @@ of-one node other (inl same) = same
 of-one node other (inr none) = absurd none
 
 pub of-one_each : (make : ℕ → Root) (end : ℕ) (node : Root) → IsIn node (one_each make end) → (i : ℕ) × (make i ≡ node)
-of-one_each make end node is =
-    let found = of-each (λ i. make i ∷ []) end node is in
-    (found.0, of-one node (make found.0) found.2)
+of-one_each make end node is = grind (arith, common_steps, of-each, of-one)
 
 indexed-below : (indexes : List ℕ) (column : ℕ) → list_any (λ other. nat_eq other column) indexes ≡ true → column < end_of_columns indexes
 indexed-below [] column indexed = grind arith
-indexed-below (index ∷ indexes) column indexed = by (nat_eq index column) refl indexed (indexed-below indexes column)
-  where
-    by : (b : Bool) → nat_eq index column ≡ b → list_any (λ other. nat_eq other column) (index ∷ indexes) ≡ true
-        → (list_any (λ other. nat_eq other column) indexes ≡ true → column < end_of_columns indexes)
-        → column < max (index + 1) (end_of_columns indexes)
-    by true same is more = let one : index ≡ column = eqb-true index column same in omega (arith, one)
-    by false other is more = let rest : column < end_of_columns indexes = more (grind (arith, is, other)) in omega (arith, rest)
+indexed-below (index ∷ indexes) column indexed =
+    grind (arith, common_steps, nat_eq, eqb-true, indexed-below indexes column)
 
 -- no relation is in both sides
 not-both : (left right relation other : ℕ) → bit_and left right ≡ 0 → right ≡ 2 ^ relation → other ≡ relation → set_of left other ≡ true → ⊥
-not-both left right relation other apart one same is =
-    let none : bit_and left (2 ^ other) ≡ 0 = ap (λ n. bit_and left (2 ^ n)) same ∙ sym (ap (bit_and left) one) ∙ apart in
-    false≢true (sym (ap (λ n. not (nat_eq n 0)) none) ∙ is)
+not-both left right relation other apart one same is = grind (arith, common_steps, bit_and, nat_eq)
 
 -- where the right side is one relation, it is the far end of an edge that crosses the sides
 far-end : (edge : Edge) (left right relation : ℕ) → bit_and left right ≡ 0 → right ≡ 2 ^ relation
     → is_between (set_of left) (set_of right) edge ≡ true → relation ≡ far_end edge (set_of left)
-far-end edge left right relation apart one crosses =
-    by (set_of left edge.left) (set_of right edge.right) (set_of left edge.right) (set_of right edge.left) refl refl refl crosses
-  where
-    alone : (other : ℕ) → set_of right other ≡ true → other ≡ relation
-    alone other is = relation-alone relation other (subst (λ set. set_of set other ≡ true) one is)
-
-    by : (b c d e : Bool) → set_of left edge.left ≡ b → set_of right edge.right ≡ c → set_of right edge.left ≡ e
-        → ((b && c) || (d && e)) ≡ true → relation ≡ (if b then edge.right else edge.left)
-    by true true d e near far other is = sym (alone edge.right far)
-    by true false true true near far other is = absurd (not-both left right relation edge.left apart one (alone edge.left other) near)
-    by true false true false near far other is = absurd (false≢true is)
-    by true false false e near far other is = absurd (false≢true is)
-    by false c true true near far other is = sym (alone edge.left other)
-    by false c true false near far other is = absurd (false≢true is)
-    by false c false e near far other is = absurd (false≢true is)
+far-end edge left right relation apart one crosses = grind (arith, common_steps, relation-alone, not-both)
 
 -- ---- a node that may stand over a set is tried
 

@@ -1,5 +1,6 @@
 -- A plan's set as a number has the bits of its leaves.
-use Rattle.std.proofs.Common.{◌≡◌, ◌↔◌, ℕ, ◌*◌, ◌^◌, max, Bool, true, false, cond, ◌||◌, List, [], ◌∷◌, ◌++◌, IsTrue, bit_and, bit_or, nat_eq, refl, ap, ap₂, sym, ◌∙◌, arith}
+use Rattle.std.proofs.Common.{◌≡◌, ◌↔◌, ℕ, ◌^◌, max, Bool, true, false, cond, ◌||◌, List, [], ◌∷◌, ◌++◌, IsTrue, bit_and, bit_or, nat_eq, refl, ap, ap₂, sym, ◌∙◌, arith}
+use Rattle.std.proofs.lemmas.Grind.{common_steps}
 use Rattle.std.specs.Int.{bit_at, IsBitSet}
 use Rattle.std.specs.List.{list_any}
 use Rattle.std.proofs.lemmas.List.Folds.{list_any-append}
@@ -41,13 +42,8 @@ pub bit-of : (p : PlanTree) (relation : ℕ) → bit_at (covers_of p) relation �
 bit-of = bits
 
 is-set : (set relation : ℕ) (b : Bool) → bit_at set relation ≡ cond b 1 0 → IsBitSet set relation ↔ IsTrue b
-is-set set relation true bit =
-    let one : bit_and set (2 ^ relation) ≡ 1 * 2 ^ relation = and_pow set relation ∙ ap (λ n. n * 2 ^ relation) bit in
-    (λ _. grind arith, λ _. λ none. omega (arith, one, none, pow_pos relation))
-is-set set relation false bit =
-    let product : bit_and set (2 ^ relation) ≡ 0 * 2 ^ relation = and_pow set relation ∙ ap (λ n. n * 2 ^ relation) bit in
-    let none : bit_and set (2 ^ relation) ≡ 0 = omega (arith, product) in
-    (λ some. absurd (some none), λ yes. grind arith)
+is-set set relation true bit = grind (arith, common_steps, bit_and, and_pow, pow_pos)
+is-set set relation false bit = grind (arith, common_steps, bit_and, and_pow)
 
 pub bits-are-leaves : (p : PlanTree) (relation : ℕ) → IsBitSet (covers_of p) relation ↔ IsTrue (has_leaf p relation)
 bits-are-leaves p relation = is-set (covers_of p) relation (has_leaf p relation) (bits p relation)

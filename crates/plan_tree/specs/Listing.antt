@@ -32,12 +32,11 @@ IsLeftOf left set = (1 ≤ left) × (left < set)
 
 -- the left side of a join is such a side
 abbrev pub HasLeftOf : Root → (set : ℕ) → Type 0
-HasLeftOf (root.Scan relation) set = Unit {0}
-HasLeftOf (root.IndexScan relation column) set = Unit {0}
 HasLeftOf (root.Nest left) set = IsLeftOf left set
 HasLeftOf (root.Hash edge left) set = IsLeftOf left set
 HasLeftOf (root.Merge edge left) set = IsLeftOf left set
 HasLeftOf (root.IndexLoop edge left relation) set = IsLeftOf left set
+HasLeftOf leaf set = Unit {0}
 
 -- the join of a kind by an edge with a left side
 abbrev pub join_by : BlockTree → EdgeJoin → (edge left : ℕ) → Root
@@ -51,9 +50,6 @@ Puts block set old new nodes = new.items ≡ old.items ++ standing block set (no
 
 -- the join of two plans by a node; one that is no hash or merge join is a nested loop
 abbrev pub joined_by : Root → PlanTree → PlanTree → PlanTree
-joined_by (root.Scan relation) left right = Nest left right
-joined_by (root.IndexScan relation column) left right = Nest left right
-joined_by (root.Nest side) left right = Nest left right
 joined_by (root.Hash edge side) left right = Hash edge left right
 joined_by (root.Merge edge side) left right = Merge edge left right
-joined_by (root.IndexLoop edge side relation) left right = Nest left right
+joined_by other left right = Nest left right

@@ -3,41 +3,33 @@ use Rattle.std.specs.Prelude.{ℕ}
 use Rattle.std.specs.declared.cmp.Ordering.{Ordering}
 use Rattle.std.specs.declared.cmp.Ordering.TheVariants.{Equal}
 use Rattle.std.specs.Ordering.{nat_cmp, ordering_then}
-use Rattle.plan_tree.specs.Plans.{PlanTree, Scan, IndexScan, Nest, Hash, Merge, IndexLoop}
+use Rattle.plan_tree.specs.Plans.{PlanTree, Nest, Hash, Merge, IndexLoop}
 use Rattle.plan_tree.specs.Order.{plan_order_of}
 
 -- the left side of a join; of a leaf the leaf
 abbrev pub left_side : PlanTree → PlanTree
-left_side (Scan relation) = Scan relation
-left_side (IndexScan relation column) = IndexScan relation column
 left_side (Nest left right) = left
 left_side (Hash edge left right) = left
 left_side (Merge edge left right) = left
 left_side (IndexLoop edge left relation) = left
+left_side leaf = leaf
 
 -- the right side of a join; of a leaf and of an index loop the plan itself
 abbrev pub right_side : PlanTree → PlanTree
-right_side (Scan relation) = Scan relation
-right_side (IndexScan relation column) = IndexScan relation column
 right_side (Nest left right) = right
 right_side (Hash edge left right) = right
 right_side (Merge edge left right) = right
-right_side (IndexLoop edge left relation) = IndexLoop edge left relation
+right_side other = other
 
 -- the relation on the right of an index loop; 0 of other plans
 abbrev pub right_relation : PlanTree → ℕ
-right_relation (Scan relation) = 0
-right_relation (IndexScan relation column) = 0
-right_relation (Nest left right) = 0
-right_relation (Hash edge left right) = 0
-right_relation (Merge edge left right) = 0
 right_relation (IndexLoop edge left relation) = relation
+right_relation other = 0
 
 -- the order of two plans whose outermost nodes are compared already: the left plans decide before what stands on the right
 abbrev pub side_order : PlanTree → PlanTree → Ordering
-side_order (Scan relation) other = Equal
-side_order (IndexScan relation column) other = Equal
 side_order (Nest left right) other = ordering_then (plan_order_of left (left_side other)) (plan_order_of right (right_side other))
 side_order (Hash edge left right) other = ordering_then (plan_order_of left (left_side other)) (plan_order_of right (right_side other))
 side_order (Merge edge left right) other = ordering_then (plan_order_of left (left_side other)) (plan_order_of right (right_side other))
 side_order (IndexLoop edge left relation) other = ordering_then (plan_order_of left (left_side other)) (nat_cmp relation (right_relation other))
+side_order leaf other = Equal

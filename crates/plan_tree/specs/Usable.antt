@@ -1,41 +1,31 @@
 -- By which conjuncts of a filter an index on a column finds rows.
 use Rattle.std.specs.Prelude.{ℕ, ◌&&◌, ◌||◌, not, Bool, true, false, List, nat_eq}
 use Rattle.sql_values.specs.declared.op.Op.{Op}
-use Rattle.sql_values.specs.declared.op.Op.TheVariants.{Eq, Ne, Lt, Le, Gt, Ge}
+use Rattle.sql_values.specs.declared.op.Op.TheVariants.{Eq, Ne}
 use Rattle.sql_values.specs.declared.column.ColumnType.{ColumnType}
 use Rattle.sql_values.specs.declared.column.ColumnType.TheVariants.{Integer, Varchar}
 use Rattle.query_block.specs.declared.condition.Operand.{Operand}
-use Rattle.query_block.specs.declared.condition.Operand.TheVariants.{Column, Literal, Parameter}
+use Rattle.query_block.specs.declared.condition.Operand.TheVariants.{Column}
 use Rattle.query_block.specs.Blocks.{kind_at, holds_texts}
-use Rattle.query_block.specs.Conditions.{FilterTree, Compare, Between, OneOf, IsNull, Not, And, Or}
+use Rattle.query_block.specs.Conditions.{FilterTree, Compare, Between}
 use Rattle.query_block.specs.Parameters.{is_open}
 
 -- whether an operand is this column
 abbrev pub is_column : ℕ → Operand → Bool
 is_column column (Column other) = nat_eq column other
-is_column column (Literal literal) = false
-is_column column (Parameter number) = false
+is_column column other = false
 
 -- whether an operand is a value: a literal, or a parameter, which stands for one
 abbrev pub is_value : Operand → Bool
 is_value (Column column) = false
-is_value (Literal literal) = true
-is_value (Parameter number) = true
+is_value other = true
 
 -- whether one range of numbers, or one text, meets the operator
 abbrev pub is_range : ColumnType → Op → Bool
-is_range Integer Eq = true
 is_range Integer Ne = false
-is_range Integer Lt = true
-is_range Integer Le = true
-is_range Integer Gt = true
-is_range Integer Ge = true
+is_range Integer op = true
 is_range (Varchar most) Eq = true
-is_range (Varchar most) Ne = false
-is_range (Varchar most) Lt = false
-is_range (Varchar most) Le = false
-is_range (Varchar most) Gt = false
-is_range (Varchar most) Ge = false
+is_range (Varchar most) op = false
 
 -- whether an index on the column can use the conjunct: the column compared with a value, or an INTEGER column between two
 abbrev pub is_usable : List ColumnType → (column : ℕ) → (conjunct : FilterTree) → Bool
@@ -43,11 +33,7 @@ is_usable columns column (Compare op left right) =
     is_range (kind_at columns column) op && ((is_column column left && is_value right) || (is_value left && is_column column right))
 is_usable columns column (Between of low high) =
     not (holds_texts (kind_at columns column)) && is_column column of && is_value low && is_value high
-is_usable columns column (OneOf of operands) = false
-is_usable columns column (IsNull of) = false
-is_usable columns column (Not inner) = false
-is_usable columns column (And parts) = false
-is_usable columns column (Or parts) = false
+is_usable columns column other = false
 
 -- the same of the conjuncts that have no parameter
 abbrev pub is_fixed_usable : List ColumnType → (column : ℕ) → (conjunct : FilterTree) → Bool

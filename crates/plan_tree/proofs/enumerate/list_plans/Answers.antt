@@ -1,4 +1,5 @@
 use Rattle.std.proofs.Common.{◌≡◌, ℕ, ◌-◌, ◌++◌, [], ◌∷◌, List, Vec, Global, length, map, refl, sym, ap, ap₂, ◌∙◌, arith}
+use Rattle.std.proofs.lemmas.Grind.{common_steps}
 use Rattle.std.proofs.lemmas.List.{length-map, map_push}
 use Rattle.query_block.specs.Blocks.{BlockTree, block_tree}
 use Rattle.plan_tree.specs.declared.plan.Plan.{Plan}
@@ -18,9 +19,7 @@ unfolding plans_below
 loop-set-init c = ap (map trees) c.new-lists.ensures.items
 
 pub plans_over-requires : goal.plans_over-requires
-plans_over-requires c =
-    ap length c.deref.ensures.value
-    ∙ length-lists (block_tree c.args.block.now) c.loop-set.lists.items c.loop-set.set c.loop-set.invariant
+plans_over-requires c = grind (arith, common_steps, length-lists)
 
 pub loop-set-preserved : goal.loop-set-preserved
 loop-set-preserved c =
@@ -33,10 +32,7 @@ loop-set-preserved c =
     ∙ sym (below-more block set)
 
 pub plans_over-requires-2 : goal.plans_over-requires-2
-plans_over-requires-2 c =
-    let at : c.loop-set.set ≡ c.set_count-last.result - 1 = omega arith in
-    ap length c.deref-2.ensures.value
-    ∙ length-lists (block_tree c.args.block.now) c.loop-set.lists.items c.loop-set.set c.loop-set.invariant ∙ at
+plans_over-requires-2 c = grind (arith, common_steps, length-lists)
 
 pub returns : goal.returns
 returns c =

@@ -1,5 +1,5 @@
-use Rattle.std.proofs.Common.{◌≡◌, List, [], ◌++◌, sym, ◌∙◌}
-use Rattle.query_block.specs.Blocks.{block_tree}
+use Rattle.std.proofs.Common.{◌≡◌, List, [], ◌++◌, arith}
+use Rattle.std.proofs.lemmas.Grind.{common_steps}
 use Rattle.plan_tree.proofs.RootLists.{roots-by-kind}
 use Rattle.plan_tree.proofs.roots.roots_of.Goals as goal
 
@@ -10,7 +10,4 @@ one-after-another : {A : Type 0} (none first second third fourth fifth last scan
 one-after-another none first second third fourth fifth last scans index_scans nests hashes merges loops a b c d e f g = cc
 
 pub returns : goal.returns
-returns c =
-    one-after-another _ _ _ _ _ _ _ _ _ _ _ _ _ c.new-roots.ensures.items c.in_ok-put_scans.ensures c.in_ok-put_index_scans.ensures
-    c.in_ok-put_nests.ensures c.in_ok-put_edge_joins.ensures c.in_ok-put_edge_joins-2.ensures c.in_ok-put_edge_joins-3.ensures
-    ∙ sym (roots-by-kind (block_tree c.args.block.now) c.args.set)
+returns c = grind (arith, common_steps, one-after-another, roots-by-kind)

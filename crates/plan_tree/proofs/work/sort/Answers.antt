@@ -1,4 +1,5 @@
-use Rattle.std.proofs.Common.{◌≡◌, ◌*◌, ◌≤◌, ap, ◌∙◌, arith}
+use Rattle.std.proofs.Common.{◌≡◌, ◌*◌, ap, ◌∙◌, arith}
+use Rattle.std.proofs.lemmas.Grind.{common_steps}
 use Rattle.std.proofs.lemmas.Nat.{leading_length}
 use Rattle.std.proofs.Math.Nat.{mul-le-mul_left}
 use Rattle.plan_tree.specs.Work.{bits, capped}
@@ -12,6 +13,4 @@ returns-clause-work c =
     c.saturating_mul.ensures ∙ ap (λ n. capped (c.args.rows * n)) (omega (arith, c.from.ensures, found.1, digits))
 
 pub returns-clause-bound : goal.returns-clause-bound
-returns-clause-bound c =
-    let few : c.from.result ≤ 128 = omega (arith, c.from.ensures) in
-    omega (arith, c.saturating_mul.ensures, mul-le-mul_left c.args.rows few)
+returns-clause-bound c = grind (arith, common_steps, mul-le-mul_left)
