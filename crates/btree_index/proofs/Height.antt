@@ -1,20 +1,17 @@
 -- The height of an index, and how many nodes its levels have.
-use Rattle.std.proofs.Common.{◌≡◌, ℕ, zero, suc, ◌+◌, ◌-◌, ◌*◌, ◌^◌, ◌<◌, ◌≤◌, ◌∙◌, refl, ap, sym, subst, arith, max}
+use Rattle.std.proofs.Common.{◌≡◌, ℕ, zero, suc, ◌+◌, ◌-◌, ◌*◌, ◌^◌, ◌<◌, ◌≤◌, refl, sym, subst, arith, max}
 use Rattle.std.specs.Prelude.{nat_le}
 use Rattle.std.specs.Int.{div_ceil}
 use Rattle.std.proofs.Math.Nat.{lt_of_mul-lt-mul_right, mul-le-mul_right, le_antisymm, one-le-pow, lt_of_not-le}
 use Rattle.std.proofs.lemmas.Bool.{leb-true, le-leb}
-use Rattle.std.proofs.lemmas.Grind.{div_ceil_times, pow_more}
+use Rattle.std.proofs.lemmas.Grind.{div_ceil_times, pow_more, common_steps}
 use Rattle.btree_index.specs.Height.{height_of}
 use Rattle.btree_index.specs.Nodes.{nodes_up_to, nodes_of}
 use Rattle.btree_index.proofs.Least.{least_from-most, least_from-passes}
 
 -- a quotient is rounded up to no more than a number of which so many parts have room
 pub ceil_least : (n b most : ℕ) → 0 < b → n ≤ most * b → div_ceil n b ≤ most
-ceil_least n b most some room =
-    let bounds = div_ceil_times n b some in
-    let less : div_ceil n b * b < suc most * b = omega (arith, bounds.1) in
-    let under : div_ceil n b < suc most = lt_of_mul-lt-mul_right b less in omega arith
+ceil_least n b most some room = grind (arith, common_steps, div_ceil_times, lt_of_mul-lt-mul_right)
 
 pub ceil_room : (n b : ℕ) → 0 < b → n ≤ div_ceil n b * b
 ceil_room n b some = (div_ceil_times n b some).0
@@ -44,9 +41,7 @@ below_power (suc n) = let next = pow_more 64 n in let before = below_power n in 
 
 -- a tree of its height has room for the entries
 pub height_room : (n : ℕ) → n ≤ 64 ^ height_of n
-height_room n =
-    let last = below_power (1 + n) in
-    leb-true n (64 ^ height_of n) (least_from-passes n 1 (λ levels. nat_le n (64 ^ levels)) (le-leb n (64 ^ (1 + n)) (omega arith)))
+height_room n = grind (arith, common_steps, below_power, leb-true, least_from-passes, le-leb)
 
 parts_some : (n b : ℕ) → 0 < b → 0 < n → 0 < div_ceil n b
 parts_some n b some more =
@@ -55,12 +50,7 @@ parts_some n b some more =
 -- the nodes of one more level
 pub nodes_more : (n level : ℕ) → 0 < level → 0 < n → nodes_up_to n level ≡ nodes_up_to n (level - 1) + div_ceil n (64 ^ level)
 nodes_more n zero some more = absurd (omega arith)
-nodes_more n (suc below) some more =
-    let less : suc below - 1 ≡ below = omega arith in
-    let same : below + 1 ≡ suc below = omega arith in
-    let parts = parts_some n (64 ^ suc below) (pow_some (suc below)) more in
-    let all : max 1 (div_ceil n (64 ^ suc below)) ≡ div_ceil n (64 ^ suc below) = omega arith in
-    rw (less, same, all) refl
+nodes_more n (suc below) some more = grind (arith, common_steps, parts_some, pow_some)
 
 -- and the last level is one node
 pub nodes_whole : (n height : ℕ) → 0 < height → n ≤ 64 ^ height → nodes_up_to n height ≡ nodes_up_to n (height - 1) + 1
@@ -74,17 +64,11 @@ nodes_whole n (suc below) some room =
 
 -- the root is one node
 pub root_size : (n height : ℕ) → 1 ≤ height → n ≤ 64 ^ height → div_ceil n (64 ^ (height - 1)) ≤ 64
-root_size n height some room =
-    let next = pow_more 64 (height - 1) in
-    let same : height - 1 + 1 ≡ height = omega arith in
-    let all : 64 ^ height ≡ 64 ^ (height - 1) * 64 = ap (λ k. 64 ^ k) (sym same) ∙ next in
-    ceil_least n (64 ^ (height - 1)) 64 (pow_some (height - 1)) (omega arith)
+root_size n height some room = grind (arith, common_steps, pow_more, ceil_least, pow_some)
 
 -- the nodes of the next level
 pub level_size : (n level size : ℕ) → 1 ≤ level → size ≡ div_ceil n (64 ^ (level - 1)) → div_ceil size 64 ≡ div_ceil n (64 ^ level)
-level_size n level size some is =
-    let same : level - 1 + 1 ≡ level = omega arith in
-    ap (λ k. div_ceil k 64) is ∙ ceil_again n (64 ^ (level - 1)) (pow_some (level - 1)) ∙ ap (div_ceil n) (sym (pow_more 64 (level - 1)) ∙ ap (λ k. 64 ^ k) same)
+level_size n level size some is = grind (arith, common_steps, ceil_again, pow_some, pow_more)
 
 -- an index of more than one level has entries
 pub entries_some : (n : ℕ) → 2 ≤ height_of n → 0 < n
@@ -93,8 +77,4 @@ entries_some (suc n) more = omega arith
 
 -- the words of the inner nodes are the nodes but for the root
 pub nodes_counted : (n height words : ℕ) → height ≡ height_of n → words ≡ nodes_up_to n (height - 1) → words + 1 ≡ nodes_of n
-nodes_counted n height words stated counted =
-    let same = ap (λ h. nodes_up_to n (h - 1)) stated in
-    let whole = nodes_whole n (height_of n) (height_some n) (height_room n) in
-    let all : words ≡ nodes_up_to n (height_of n - 1) = counted ∙ same in
-    ap (λ k. k + 1) all ∙ sym whole
+nodes_counted n height words stated counted = grind (arith, common_steps, nodes_whole, height_some, height_room)

@@ -1,8 +1,8 @@
 -- How the levels above the leaves are made.
 use Rattle.std.proofs.Common.{◌≡◌, ℕ, suc, ◌+◌, ◌-◌, ◌*◌, ◌^◌, ◌<◌, ◌≤◌, ◌∙◌, List, [], ◌∷◌, ◌++◌, length, take, drop, sym, ap, subst, arith, get_or, min, length-take, length-drop}
+use Rattle.std.proofs.lemmas.Grind.{common_steps}
 use Rattle.std.specs.Prelude.{ℤ}
 use Rattle.std.proofs.lemmas.List.{get_or_append_left, get_or_push, get_or-take, get_or-drop, get_or_default, take_at, drop_at, take-append-drop, append_assoc, append-nil}
-use borrow.Author.Count.{below_more}
 use Rattle.std.specs.Int.{div_ceil}
 use Rattle.btree_index.specs.Nodes.{AreLastWords, AreLevels, node_count, nodes_up_to}
 use Rattle.btree_index.proofs.Height.{nodes_more, root_size}
@@ -13,26 +13,14 @@ pub each_more : (old inner new : List ℤ) (begin end node last : ℕ) (word : �
     → new ≡ inner ++ word ∷ [] → word ≡ get_or inner last word → last ≡ min (begin + node * 64 + 63) (end - 1) → last < end
     → (k : ℕ) (d : ℤ) → k < node + 1 → get_or new (end + k) d ≡ get_or old (min (begin + k * 64 + 63) (end - 1)) d
 each_more old inner new begin end node last word size long kept each more read place there k d l =
-    below_more (λ k. get_or new (end + k) d ≡ get_or old (min (begin + k * 64 + 63) (end - 1)) d) node
-    (λ k m. ap (λ xs. get_or xs (end + k) d) more ∙ get_or_append_left inner (word ∷ []) d (end + k) (omega arith) ∙ each k d m)
-    (ap (λ xs. get_or xs (end + node) d) more ∙ get_or_push inner word d (end + node) long ∙ read ∙ sym (get_or-take end inner last word there)
-    ∙ ap (λ xs. get_or xs last word) kept ∙ get_or_default old last word d (omega arith) ∙ ap (λ n. get_or old n d) place) k l
+    grind (arith, common_steps, get_or, get_or_append_left, get_or_push, get_or-take, get_or_default)
 
 -- what was pushed is the level above what stood from a place on
 pub last_pushed : (old inner : List ℤ) (begin end nodes : ℕ) → length old ≡ end → begin ≤ end → length inner ≡ end + nodes → nodes ≡ node_count (end - begin)
     → ((k : ℕ) (d : ℤ) → k < nodes → get_or inner (end + k) d ≡ get_or old (min (begin + k * 64 + 63) (end - 1)) d)
     → AreLastWords (drop begin old) (drop end inner)
 last_pushed old inner begin end nodes size there long count each =
-    let below = length-drop begin old in
-    let above = length-drop end inner in
-    let stands : length (drop begin old) ≡ end - begin = omega arith in
-    let pushed : length (drop end inner) ≡ nodes = omega arith in record {
-      count = pushed ∙ count ∙ ap node_count (sym stands);
-      each = λ node d l.
-          let inside : node < nodes = omega arith in
-          let place : min (begin + node * 64 + 63) (end - 1) ≡ begin + min (node * 64 + 63) (length (drop begin old) - 1) = omega arith in
-          get_or-drop end inner node d ∙ each node d inside ∙ ap (λ n. get_or old n d) place ∙ sym (get_or-drop begin old (min (node * 64 + 63) (length (drop begin old) - 1)) d);
-    }
+    grind (arith, common_steps, length-drop, get_or-drop, get_or)
 
 -- a level put before the levels above it
 levels_begin : (more : ℕ) (words above rest : List ℤ) → AreLastWords words above → AreLevels more above rest → AreLevels (suc more) words (above ++ rest)
@@ -42,9 +30,7 @@ levels_begin more words above rest last levels =
 -- the level above the leaves and those above it are all
 pub levels_begun : (height : ℕ) (words above rest : List ℤ) → 2 ≤ height → AreLastWords words above → AreLevels (height - 2) above rest
     → AreLevels (height - 1) words (above ++ rest)
-levels_begun height words above rest some last levels =
-    let same : suc (height - 2) ≡ height - 1 = omega arith in
-    subst (λ n. AreLevels n words (above ++ rest)) same (levels_begin (height - 2) words above rest last levels)
+levels_begun height words above rest some last levels = grind (arith, common_steps, levels_begin)
 
 -- where a level is put behind the last, what completes it completes them all
 pub levels_more : (height level begin : ℕ) (words inner more : List ℤ) → level < height → take (length inner) more ≡ inner
@@ -71,16 +57,9 @@ levels_end height level n words root inner rest some last room size completes =
 
 -- one leaf has no level above it
 pub levels_none : (height n : ℕ) (words inner : List ℤ) → height ≡ 1 → n ≤ 64 ^ height → length words ≡ n → AreLevels (height - 1) words inner
-levels_none height n words inner one room size =
-    let same = ap (λ k. 64 ^ k) one in
-    let low : length words ≤ 64 = omega arith in
-    subst (λ k. AreLevels (k - 1) words inner) (sym one) low
+levels_none height n words inner one room size = grind (arith, common_steps)
 
 -- the words so far, and those of one more level
 pub nodes_pushed : (n level : ℕ) (inner more : List ℤ) → 1 ≤ level → 0 < n → take (length inner) more ≡ inner
     → length more - length inner ≡ div_ceil n (64 ^ level) → length inner ≡ nodes_up_to n (level - 1) → length more ≡ nodes_up_to n (level + 1 - 1)
-nodes_pushed n level inner more some entries kept size counted =
-    let taken : min (length inner) (length more) ≡ length inner = sym (length-take (length inner) more) ∙ ap length kept in
-    let step = nodes_more n level (omega arith) entries in
-    let all : length more ≡ nodes_up_to n level = omega arith in
-    let next : level ≡ level + 1 - 1 = omega arith in all ∙ ap (nodes_up_to n) next
+nodes_pushed n level inner more some entries kept size counted = grind (arith, common_steps, length-take, nodes_more)

@@ -1,8 +1,9 @@
 use Rattle.std.proofs.Common.{◌≡◌, ◌+◌, ◌-◌, ◌≤◌, ◌<◌, ◌^◌, ◌∙◌, ℕ, length, drop, map, ap, sym, subst, arith, rules, length-drop, zero-add, []}
+use Rattle.std.proofs.lemmas.Grind.{common_steps}
 use Rattle.std.specs.Int.{div_ceil}
 use Rattle.std.proofs.lemmas.List.{length-map}
 use Rattle.btree_index.specs.Height.{height_of}
-use Rattle.btree_index.specs.Nodes.{AreLevels, AreLastWords, entry_word, nodes_up_to}
+use Rattle.btree_index.specs.Nodes.{AreLevels, AreLastWords, entry_word}
 use Rattle.btree_index.proofs.Height.{height_room, height_some, entries_some, level_size, nodes_more, nodes_counted}
 use Rattle.btree_index.proofs.Pushed.{levels_begun, levels_more, levels_end, levels_none, nodes_pushed}
 use Rattle.btree_index.proofs.levels.inner_levels.Goals as goal
@@ -13,39 +14,16 @@ room n height stated = subst (λ h. n ≤ 64 ^ h) (sym stated) (height_room n)
 
 -- more than one level has at least two, and some entries
 some_levels : (n height : ℕ) → height ≡ height_of n → (height ≡ 1 → ⊥) → (2 ≤ height) × (0 < n)
-some_levels n height stated more =
-    let least = height_some n in
-    let two : 2 ≤ height = omega arith in (two, entries_some n (omega arith))
+some_levels n height stated more = grind (arith, common_steps, height_some, entries_some)
 
 pub returns-then-height-eq1-clause-levels : goal.returns-then-height-eq1-clause-levels
-returns-then-height-eq1-clause-levels c =
-    let entries = c.args.entries.now in
-    levels_none c.args.height (length entries) (map entry_word entries) c.new.result.items c.if-height-eq1.true
-    (room (length entries) c.args.height c.requires) (length-map entries entry_word)
+returns-then-height-eq1-clause-levels c = grind (arith, common_steps, levels_none, room, length-map)
 
 pub returns-then-height-eq1-clause-count : goal.returns-then-height-eq1-clause-count
-returns-then-height-eq1-clause-count c =
-    let n = length c.args.entries.now in
-    let one = c.if-height-eq1.true in
-    let none : length c.new.result.items ≡ 0 = search rules in
-    let below : 0 ≡ c.args.height - 1 = omega arith in
-    nodes_counted n c.args.height (length c.new.result.items) c.requires (none ∙ ap (nodes_up_to n) below)
+returns-then-height-eq1-clause-count c = grind (arith, common_steps, nodes_counted)
 
 pub loop-level-init : goal.loop-level-init
-loop-level-init c =
-    let entries = c.args.entries.now in
-    let words = map entry_word entries in
-    let some = some_levels (length entries) c.args.height c.requires c.if-height-eq1.false in
-    let last : AreLastWords words c.in_ok-inner.inner.items = c.in_ok-inner.ensures in
-    let long = length-map entries entry_word in
-    let count : length c.in_ok-inner.inner.items ≡ div_ceil (length entries) 64 = last.count ∙ ap (λ n. div_ceil n 64) long in
-    let first : nodes_up_to (length entries) 1 ≡ 0 + div_ceil (length entries) 64 = nodes_more (length entries) 1 (omega arith) some.1 in
-    let counted : length c.in_ok-inner.inner.items ≡ nodes_up_to (length entries) 1 = count ∙ sym (zero-add (div_ceil (length entries) 64)) ∙ sym first in record {
-      begins = omega arith;
-      size = omega arith;
-      nodes = counted;
-      completes = λ rest levels. levels_begun c.args.height words c.in_ok-inner.inner.items rest some.0 last levels;
-    }
+loop-level-init c = grind (arith, common_steps, some_levels, length-map, nodes_more, zero-add, levels_begun)
 
 pub loop-level-preserved : goal.loop-level-preserved
 loop-level-preserved c =
@@ -79,8 +57,4 @@ returns-clause-levels c =
     (omega arith) (omega arith) (room (length entries) c.args.height c.requires) (length-drop c.loop-level.begin c.loop-level.inner.items ∙ kept.size) kept.completes
 
 pub returns-clause-count : goal.returns-clause-count
-returns-clause-count c =
-    let n = length c.args.entries.now in
-    let some = some_levels n c.args.height c.requires c.if-height-eq1.false in
-    let last : c.loop-level._level ≡ c.args.height = omega arith in
-    nodes_counted n c.args.height (length c.loop-level.inner.items) c.requires (c.loop-level.invariant.nodes ∙ ap (λ h. nodes_up_to n (h - 1)) last)
+returns-clause-count c = grind (arith, common_steps, some_levels, nodes_counted)

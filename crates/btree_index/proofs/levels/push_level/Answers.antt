@@ -1,7 +1,6 @@
-use Rattle.std.proofs.Common.{◌≡◌, ◌++◌, ◌∷◌, [], arith, rules, length, drop, subst, sym}
+use Rattle.std.proofs.Common.{◌≡◌, ◌++◌, ◌∷◌, [], arith, rules}
 use Rattle.std.proofs.lemmas.Grind.{common_steps}
-use Rattle.btree_index.specs.Nodes.{AreLastWords}
-use Rattle.btree_index.proofs.Pushed.{each_more, last_pushed}
+use Rattle.btree_index.proofs.Pushed.{each_more}
 use Rattle.btree_index.proofs.levels.push_level.Goals as goal
 
 pub loop-node-preserved : goal.loop-node-preserved
@@ -15,11 +14,3 @@ loop-node-preserved c =
       each = each_more c.args.inner.now.items inner c.push.new.self.items c.args.begin c.len-end.result c.loop-node.node c.min-last.result
           word (search rules) kept.long kept.kept kept.each pushed c.index-word.ensures (search rules) (omega arith);
     }
-
-pub returns-clause-above : goal.returns-clause-above
-returns-clause-above c =
-    let kept = c.loop-node.invariant in
-    let old = c.args.inner.now.items in
-    let size : length old ≡ c.len-end.result = search rules in
-    subst (λ n. AreLastWords (drop c.args.begin old) (drop n c.loop-node.inner.items)) (sym size)
-    (last_pushed old c.loop-node.inner.items c.args.begin c.len-end.result c.loop-node.node size (omega arith) kept.long (omega arith) kept.each)

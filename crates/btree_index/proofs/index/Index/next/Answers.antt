@@ -1,5 +1,6 @@
-use Rattle.std.proofs.Common.{◌≡◌, ◌∷◌, ◌+◌, ◌-◌, rules, arith, ap, sym, subst, refl, take, drop, ◌∙◌}
-use Rattle.std.specs.Prelude.{pos, slice_index_or}
+use Rattle.std.proofs.Common.{◌≡◌, ◌∷◌, ◌+◌, ◌-◌, rules, arith, refl, take, drop}
+use Rattle.std.proofs.lemmas.Grind.{common_steps}
+use Rattle.std.specs.Prelude.{pos}
 use Rattle.btree_index.proofs.Ranges.{left_step}
 use Rattle.btree_index.proofs.index.Index.next.Goals as goal
 
@@ -12,12 +13,7 @@ returns-in_err-pay-2-clause-pays c =
 left : (c : goal.After-cursor-1)
     → take (c.args.cursor.now.end - c.args.cursor.now.next) (drop c.args.cursor.now.next c.args.self.now)
     ≡ c.index.result.now ∷ take (c.args.cursor.now.end - (c.args.cursor.now.next + 1)) (drop (c.args.cursor.now.next + 1) c.args.self.now)
-left c =
-    let cursor = c.args.cursor.now in
-    let entry = c.index.result.now in
-    let read = subst (λ xs. entry ≡ slice_index_or xs cursor.next entry) c.self.view_is c.index.ensures in
-    left_step c.args.self.now cursor.next cursor.end entry (omega (arith, c.if-cursor.false)) c.requires.end
-    ∙ ap (λ e. e ∷ take (cursor.end - (cursor.next + 1)) (drop (cursor.next + 1) c.args.self.now)) (sym read)
+left c = grind (arith, common_steps, left_step)
 
 pub returns-clause-moves : goal.returns-clause-moves
 returns-clause-moves c = record { row = rw (left c) refl; left = rw (left c) refl; unchanged = tt; placed = search rules }
