@@ -1,5 +1,6 @@
 -- What is written by the grammar is read again, whatever follows it.
-use Rattle.std.proofs.Common.{◌≡◌, ℕ, zero, suc, ◌≤◌, inl, inr, true, false, List, [], ◌∷◌, ◌++◌, length, Option, Some, None, refl, sym, ap, ◌∙◌, append_assoc, length-append, codes, bytes_eq, arith}
+use Rattle.std.proofs.Common.{◌≡◌, ℕ, zero, suc, ◌≤◌, true, false, List, [], ◌∷◌, ◌++◌, length, Option, Some, None, refl, ap, ◌∙◌, append_assoc, length-append, codes, bytes_eq, arith}
+use Rattle.std.proofs.lemmas.Grind.{common_steps}
 use Rattle.std.proofs.lemmas.Slice.Eq.{bytes_eq-Decides}
 use Rattle.sql_parse.specs.declared.mark.Mark.{Mark}
 use Rattle.sql_parse.specs.declared.mark.Mark.TheVariants as m
@@ -23,12 +24,7 @@ NoDot rest = after_mark m.Dot rest ≡ None
 
 -- a name is no reserved word
 pub not_reserved : (word value : List ℕ) → IsName word → is_reserved value ≡ true → bytes_eq word value ≡ false
-not_reserved word value name reserved =
-    elim (bytes_eq word value) as (λ same. bytes_eq word value ≡ same → same ≡ false) [
-      | true ↦ λ is. let equal = (bytes_eq-Decides word value).0 is in
-          let wrong : true ≡ false = sym reserved ∙ (ap is_reserved (sym equal) ∙ name) in cc
-      | false ↦ λ is. refl
-    ] refl
+not_reserved word value name reserved = grind (arith, common_steps, bytes_eq, bytes_eq-Decides)
 
 pub name_at-again : (word : List ℕ) (tokens : List Lexeme) → IsName word → name_at (Word word ∷ tokens) ≡ Some (word, tokens)
 unfolding name_at
@@ -50,11 +46,7 @@ colref-again tokens column rest form follows = column_name-again column.alias co
 -- a literal is read again, whatever follows it
 pub literal-again : IsReadAgain IsLiteral literal_at (λ rest. Unit {0})
 unfolding literal_at integer_at unsigned_at number_at text_token_at after_mark
-literal-again tokens (value.Int n) rest form follows = elim form.1 [
-  | inl bare ↦ rw (bare.0, bare.1) refl
-  | inr (inl plus) ↦ rw (plus.0, plus.1) refl
-  | inr (inr minus) ↦ rw (minus.0, minus.1) refl
-]
+literal-again tokens (value.Int n) rest form follows = grind (arith, common_steps)
 literal-again tokens (value.Text text) rest form follows = rw form refl
 literal-again tokens value.Null rest form follows = absurd form
 
@@ -67,19 +59,13 @@ operand-column (Some alias) column tokens rest form = rw form.0 refl
 operand-literal : (tokens : List Lexeme) (literal : Value) (rest : List Lexeme) → IsLiteral tokens literal
     → operand_at (tokens ++ rest) ≡ (literal_at (tokens ++ rest) >>= λ found. Some (term.Literal found.0, found.1))
 unfolding operand_at parameter_at
-operand-literal tokens (value.Int n) rest form = elim form.1 [
-  | inl bare ↦ rw bare.0 refl
-  | inr (inl plus) ↦ rw plus.0 refl
-  | inr (inr minus) ↦ rw minus.0 refl
-]
+operand-literal tokens (value.Int n) rest form = grind (arith, common_steps)
 operand-literal tokens (value.Text text) rest form = rw form refl
 operand-literal tokens value.Null rest form = absurd form
 
 pub operand-again : IsReadAgain IsTerm operand_at NoDot
 unfolding operand_at parameter_at
-operand-again tokens (term.Column column) rest form follows =
-    operand-column column.alias column.column tokens rest form
-    ∙ ap (λ found. found >>= λ found. Some (term.Column found.0, found.1)) (colref-again tokens column rest form follows)
+operand-again tokens (term.Column column) rest form follows = grind (arith, common_steps, operand-column, colref-again)
 operand-again tokens (term.Literal literal) rest form follows =
     operand-literal tokens literal rest form ∙ ap (λ found. found >>= λ found. Some (term.Literal found.0, found.1)) (literal-again tokens literal rest form tt)
 operand-again tokens (term.Parameter number) rest form follows = rw form refl
@@ -96,11 +82,7 @@ column-begins (Some alias) column tokens rest form = rw (form.0, not_reserved al
 pub operand-begins : (tokens : List Lexeme) (operand : Term) (rest : List Lexeme) → IsTerm tokens operand → BeginsOperand (tokens ++ rest)
 unfolding after_mark
 operand-begins tokens (term.Column column) rest form = column-begins column.alias column.column tokens rest form
-operand-begins tokens (term.Literal (value.Int n)) rest form = elim form.1 [
-  | inl bare ↦ rw bare.0 (refl, refl)
-  | inr (inl plus) ↦ rw plus.0 (refl, refl)
-  | inr (inr minus) ↦ rw minus.0 (refl, refl)
-]
+operand-begins tokens (term.Literal (value.Int n)) rest form = grind (arith, common_steps)
 operand-begins tokens (term.Literal (value.Text text)) rest form = rw form (refl, refl)
 operand-begins tokens (term.Literal value.Null) rest form = absurd form
 operand-begins tokens (term.Parameter number) rest form = rw form (refl, refl)
@@ -149,7 +131,4 @@ pub in_parentheses-again : {A : Type 0} (IsInside : Rule A) (inside : Reader A) 
     → IsReadAgain IsInside inside Follows → IsReadAgain (InParentheses IsInside) (in_parentheses_at inside) (λ rest. Unit {0})
 unfolding in_parentheses_at after_mark
 in_parentheses-again IsInside inside Follows closes again tokens x rest form follows =
-    let later = mark m.CloseParen ∷ rest in
-    let found : inside ((form.0 ++ mark m.CloseParen ∷ []) ++ rest) ≡ Some (x, later) =
-    ap inside (append_assoc form.0 (mark m.CloseParen ∷ []) rest) ∙ again form.0 x later form.2 (closes rest) in
-    rw (form.1, found) refl
+    grind (arith, common_steps, append_assoc)

@@ -1,5 +1,6 @@
 -- Conditions that are written by the grammar are read again.
-use Rattle.std.proofs.Common.{◌≡◌, ℕ, zero, suc, ◌⊎◌, inl, inr, Bool, true, false, List, [], ◌∷◌, ◌++◌, Some, None, refl, sym, ap, subst, ◌∙◌, append_assoc}
+use Rattle.std.proofs.Common.{◌≡◌, ℕ, zero, suc, ◌⊎◌, inl, inr, Bool, true, false, List, [], ◌∷◌, ◌++◌, Some, None, refl, sym, ap, subst, ◌∙◌, append_assoc, arith}
+use Rattle.std.proofs.lemmas.Grind.{common_steps}
 use Rattle.sql_values.specs.declared.op.Op.{Op}
 use Rattle.sql_parse.specs.declared.condition.Connective.{Connective}
 use Rattle.sql_parse.specs.declared.condition.Connective.TheVariants as connectives
@@ -11,7 +12,7 @@ use Rattle.sql_parse.specs.declared.tree.ColRef.{ColRef}
 use Rattle.sql_parse.specs.Lexemes.{Lexeme, Comparison, mark}
 use Rattle.sql_parse.specs.Trees.{ConditionTree, Compare, Between, OneOf, IsNull, Not, And, Or}
 use Rattle.sql_parse.specs.Grammar.{Rule, written_if, Separated, InParentheses, IsTerm, IsPredicate, IsFactor, IsChain, IsConjunction, IsDisjunction, IsGroup}
-use Rattle.sql_parse.specs.Reading.{Reader, choose, after_mark, comparison_at, list_at, in_parentheses_at, operand_at, negation_at, null_test_of, between_of, range_or_list_of, predicate_of, predicate_at, separator_of, node_of, chain_at, plain_factor_at, factor_at, level_at, group_at}
+use Rattle.sql_parse.specs.Reading.{Reader, after_mark, comparison_at, list_at, in_parentheses_at, operand_at, negation_at, null_test_of, between_of, range_or_list_of, predicate_of, predicate_at, separator_of, node_of, chain_at, plain_factor_at, factor_at, level_at, group_at}
 use Rattle.sql_parse.proofs.Again.{IsReadAgain, NoDot, operand-again, BeginsOperand, operand-begins, list-again, in_parentheses-again}
 
 -- a predicate, once its first operand is read
@@ -19,9 +20,7 @@ predicate_of-read : (tokens operand tail rest : List Lexeme) (left : Term) → t
     → predicate_at (tokens ++ rest) ≡ predicate_of left (tail ++ rest)
 unfolding predicate_at
 predicate_of-read tokens operand tail rest left is form no_dot =
-    let first : operand_at (tokens ++ rest) ≡ Some (left, tail ++ rest) =
-    ap (λ all. operand_at (all ++ rest)) is ∙ (ap operand_at (append_assoc operand tail rest) ∙ operand-again operand left (tail ++ rest) form no_dot) in
-    rw first refl
+    grind (arith, common_steps, append_assoc, operand-again)
 
 compare-again : (op : Op) (left right : Term) (tokens rest : List Lexeme) → IsTerm tokens right → NoDot rest
     → predicate_of left (Comparison op ∷ (tokens ++ rest)) ≡ Some (Compare op left right, rest)
@@ -32,9 +31,7 @@ between-again : (negated : Bool) (of low high : Term) (b c rest : List Lexeme) �
     → between_of negated of ((b ++ mark m.And ∷ c) ++ rest) ≡ Some (Between negated of low high, rest)
 unfolding between_of after_mark
 between-again negated of low high b c rest first second follows =
-    let found : operand_at ((b ++ mark m.And ∷ c) ++ rest) ≡ Some (low, mark m.And ∷ (c ++ rest)) =
-    ap operand_at (append_assoc b (mark m.And ∷ c) rest) ∙ operand-again b low (mark m.And ∷ (c ++ rest)) first refl in
-    rw (found, operand-again c high rest second follows) refl
+    grind (arith, common_steps, append_assoc, operand-again)
 
 range-again : (negated : Bool) (of low high : Term) (b c rest : List Lexeme) → IsTerm b low → IsTerm c high → NoDot rest
     → predicate_of of ((written_if negated (m.Not ∷ []) ++ mark m.Between ∷ (b ++ mark m.And ∷ c)) ++ rest) ≡ Some (Between negated of low high, rest)
@@ -108,11 +105,7 @@ plain_factor-again : (nesting : ℕ) → IsGroupReadAgain nesting
 unfolding plain_factor_at after_mark
 plain_factor-again nesting group tokens tree rest (inl form) follows =
     rw (predicate-begins tokens tree rest form).0 (predicate-again tokens tree rest form follows)
-plain_factor-again nesting group tokens tree rest (inr form) follows =
-    let found = group tokens tree rest form tt in
-    let opens = group-opens nesting tokens tree form in
-    subst (λ (all : List Lexeme). choose (after_mark m.OpenParen (all ++ rest)) (predicate_at (all ++ rest)) (λ later. group_at nesting (tokens ++ rest)) ≡ Some (tree, rest))
-    (sym opens.1) found
+plain_factor-again nesting group tokens tree rest (inr form) follows = grind (arith, common_steps, group-opens)
 
 factor-again : (nesting : ℕ) → IsGroupReadAgain nesting → IsReadAgain (IsFactor (IsGroup nesting)) (factor_at (group_at nesting)) NoDot
 unfolding factor_at after_mark

@@ -1,5 +1,6 @@
 -- Queries that are written by the grammar are read again.
-use Rattle.std.proofs.Common.{◌≡◌, ℕ, inl, inr, List, [], ◌∷◌, ◌++◌, codes, Option, Some, None, refl, sym, ap, ◌∙◌, append_assoc}
+use Rattle.std.proofs.Common.{◌≡◌, ℕ, List, [], ◌∷◌, ◌++◌, codes, Option, Some, None, refl, sym, ap, ◌∙◌, append_assoc, arith}
+use Rattle.std.proofs.lemmas.Grind.{common_steps}
 use Rattle.std.proofs.lemmas.List.{append-nil}
 use Rattle.sql_parse.specs.declared.condition.Connective.TheVariants.{Or}
 use Rattle.sql_parse.specs.declared.mark.Mark.TheVariants as m
@@ -31,17 +32,7 @@ as_follows rest = refl
 
 item-again : IsReadAgain IsItem item_at EndsItem
 unfolding item_at
-item-again tokens item rest form follows = elim form.2 [
-  | inl plain ↦ rw (plain.0, name_at-again item.table rest form.0, follows.0, follows.1)
-      (ap (λ alias. Some (record { table = item.table; alias = alias }, rest)) (sym plain.1))
-  | inr (inl alias) ↦ rw (alias, name_at-again item.table (Word item.alias ∷ rest) form.0, no_as item.alias rest form.1, name_at-again item.alias rest form.1) refl
-  | inr (inr alias) ↦ rw (
-    alias,
-    name_at-again item.table (mark m.As ∷ Word item.alias ∷ rest) form.0,
-    as_follows (Word item.alias ∷ rest),
-    name_at-again item.alias rest form.1,
-  ) refl
-]
+item-again tokens item rest form follows = grind (arith, common_steps, name_at-again, no_as, as_follows)
 
 items-again : IsReadAgain (Separated m.Comma IsItem) (list_at item_at m.Comma) (λ rest. EndsItem rest × (after_mark m.Comma rest ≡ None))
 unfolding after_mark name_at
@@ -56,8 +47,7 @@ columns-are_no_star : (columns : List ColRef) (tokens rest : List Lexeme) → Se
 columns-are_no_star [] tokens rest form = absurd form
 columns-are_no_star (column ∷ []) tokens rest form = name-is_no_star column.alias column.column tokens rest form
 columns-are_no_star (column ∷ next ∷ columns) tokens rest form =
-    ap (λ all. after_mark m.Star (all ++ rest)) form.2
-    ∙ (ap (after_mark m.Star) (append_assoc form.0 (mark m.Comma ∷ form.1) rest) ∙ name-is_no_star column.alias column.column form.0 _ form.3)
+    grind (arith, common_steps, append_assoc, name-is_no_star)
 
 selection-again : IsReadAgain IsSelection selection_at (λ rest. NoDot rest × (after_mark m.Comma rest ≡ None))
 unfolding selection_at after_mark
@@ -81,9 +71,4 @@ where-ends_items tokens (Some tree) form = rw form.1 ((refl, refl), refl)
 pub select-again : (tokens : List Lexeme) (query : QueryTree) → IsSelect tokens query → select_at tokens ≡ Some (query, [])
 unfolding select_at after_mark
 select-again tokens query form =
-    rw (
-      form.3,
-      selection-again form.0 query.columns (mark m.From ∷ (form.1 ++ form.2)) form.4 (refl, refl),
-      items-again form.1 query.from form.2 form.5 (where-ends_items form.2 query.condition form.6),
-      where-again form.2 query.condition form.6,
-    ) refl
+    grind (arith, common_steps, selection-again, items-again, where-ends_items, where-again)

@@ -1,5 +1,6 @@
 -- The text of a query is UTF-8, since each of its tokens is.
 use Rattle.std.proofs.Common.{◌≡◌, ℕ, ◌<◌, Bool, true, List, [], ◌∷◌, ◌++◌, refl, sym, subst, arith}
+use Rattle.std.proofs.lemmas.Grind.{common_steps}
 use Rattle.std.specs.List.{AllPass}
 use Rattle.std.specs.Char.{is_ascii_digit}
 use Rattle.std.specs.Str.{IsUtf8}
@@ -73,8 +74,7 @@ token-utf8 kinds.Comparison bytes form limit = comparison-utf8 bytes form
 written-utf8 : (tokens : List Written) → MayBeWritten tokens → IsUtf8 (written_text tokens)
 written-utf8 [] may = IsUtf8-nil
 written-utf8 (this ∷ tokens) (space, form, keeps, stops, others) =
-    IsUtf8-append this.space (this.bytes ++ written_text tokens) (passing-utf8 is_white white-ascii this.space space)
-    (IsUtf8-append this.bytes (written_text tokens) (token-utf8 this.kind this.bytes form keeps) (written-utf8 tokens others))
+    grind (arith, common_steps, IsUtf8-append, passing-utf8, white-ascii, token-utf8, written-utf8 tokens others)
 
 pub query-utf8 : (tokens : List Lexeme) (query : QueryTree) → EachSound tokens → IsSelect tokens query → IsUtf8 (canonical_query query)
 query-utf8 tokens query sound form =

@@ -1,5 +1,5 @@
 -- Chains of conditions: one part is itself, several are one node.
-use Rattle.std.proofs.Common.{◌≡◌, ℕ, suc, ◌-◌, true, false, List, [], ◌∷◌, length, Option, Some, None, is_some, refl, ap, arith}
+use Rattle.std.proofs.Common.{◌≡◌, true, false, List, [], ◌∷◌, length, Option, Some, None, is_some, refl, ap}
 use Rattle.sql_parse.specs.declared.condition.Connective.{Connective}
 use Rattle.sql_parse.specs.declared.fault.ReadFault.{ReadFault}
 use Rattle.sql_parse.specs.declared.fault.ReadFault.TheVariants.{NotAStatement, NoMemory}
@@ -16,9 +16,6 @@ with_first x read = read >>= λ xs. Some (x ∷ xs.0, xs.1)
 -- the tree of the parts that reading gives
 abbrev pub as_tree : (List ConditionTree → ConditionTree) → Option (List ConditionTree × List Lexeme) → Option (ConditionTree × List Lexeme)
 as_tree node read = read >>= λ xs. Some (node xs.0, xs.1)
-
-suc-sub-one : (n : ℕ) → suc n - 1 ≡ n
-suc-sub-one n = omega arith
 
 pub none_if : {A : Type 0} (o : Option A) → is_some o ≡ false → o ≡ None
 none_if None no_value = refl

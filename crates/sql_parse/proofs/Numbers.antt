@@ -1,5 +1,6 @@
 -- The numbers of parameters among the tokens of a statement.
-use Rattle.std.proofs.Common.{◌≡◌, ℕ, suc, ◌+◌, true, false, cond, List, [], ◌∷◌, length, map, Option, Some, None, refl, ap}
+use Rattle.std.proofs.Common.{◌≡◌, ℕ, ◌+◌, true, false, cond, List, [], ◌∷◌, length, map, Option, Some, None, refl, arith}
+use Rattle.std.proofs.lemmas.Grind.{common_steps}
 use Rattle.std.specs.List.{filter_map}
 use Rattle.sql_lex.specs.declared.token.Token.{Token}
 use Rattle.sql_lex.specs.declared.token.TokenKind.{TokenKind}
@@ -21,12 +22,7 @@ numbers_in tokens = filter_map number_of tokens
 pub numbered_length : (script : List ℕ) (first : ℕ) (tokens : List Token) → length (numbered first (map (lexeme script) tokens)) ≡ length tokens
 numbered_length script first [] = refl
 numbered_length script first (token ∷ tokens) =
-    let this = lexeme script token in
-    let later = map (lexeme script) tokens in
-    elim (is_question_mark this) as (λ b. length (cond b (Parameter first ∷ numbered (first + 1) later) (this ∷ numbered first later)) ≡ suc (length tokens)) [
-      | true ↦ ap suc (numbered_length script (first + 1) tokens)
-      | false ↦ ap suc (numbered_length script first tokens)
-    ]
+    grind (arith, common_steps, numbered_length script (first + 1) tokens, numbered_length script first tokens)
 
 pub mark-no_number : (keyword : Mark) → number_of (mark keyword) ≡ None
 mark-no_number m.OpenParen = refl

@@ -1,6 +1,7 @@
 -- Each operand of a query has a token of its own, and its parameters are those among its tokens, in order.
 use Rattle.std.proofs.Common.{◌≡◌, ◌∙◌, ℕ, zero, suc, ◌≤◌, ◌⊎◌, inl, inr, Bool, true, false, List, [], ◌∷◌, ◌++◌, length, flat_map, Option, Some, None, refl, sym, ap, subst, length-append, arith}
-use Rattle.std.specs.List.{filter_map, cons_option}
+use Rattle.std.proofs.lemmas.Grind.{common_steps}
+use Rattle.std.specs.List.{filter_map}
 use Rattle.std.proofs.lemmas.List.{append-nil}
 use Rattle.std.proofs.lemmas.List.Elements.{filter_map-append}
 use Rattle.sql_values.specs.declared.value.Value.{Value}
@@ -11,7 +12,7 @@ use Rattle.sql_parse.specs.declared.tree.Term.{Term}
 use Rattle.sql_parse.specs.declared.tree.Term.TheVariants as term
 use Rattle.sql_parse.specs.declared.tree.ColRef.{ColRef}
 use Rattle.sql_parse.specs.Limits.{nesting_limit}
-use Rattle.sql_parse.specs.Lexemes.{Lexeme, Comparison, mark}
+use Rattle.sql_parse.specs.Lexemes.{Lexeme, mark}
 use Rattle.sql_parse.specs.Trees.{ConditionTree, ConditionTrees, Compare, Between, OneOf, IsNull, Not, And, Or, NoMore, More, operands}
 use Rattle.sql_parse.specs.Grammar.{Rule, Separated, InParentheses, IsColumnName, IsLiteral, IsTerm, IsPredicate, IsFactor, IsChain, IsConjunction, IsDisjunction, IsGroup, IsItem, IsSelection, IsWhere, IsSelect, written_if}
 use Rattle.sql_parse.specs.Parameters.{parameter_of}
@@ -33,21 +34,14 @@ pub hold-none : (tokens : List Lexeme) → numbers_in tokens ≡ [] → Hold tok
 hold-none tokens none = record { few = omega arith; numbers = none }
 
 pub hold-after : (token : Lexeme) (tokens : List Lexeme) (terms : List Term) → number_of token ≡ None → Hold tokens terms → Hold (token ∷ tokens) terms
-hold-after token tokens terms none held = record {
-  few = omega (arith, held.few);
-  numbers = ap (λ number. cons_option number (numbers_in tokens)) none ∙ held.numbers;
-}
+hold-after token tokens terms none held = grind (arith, common_steps, numbers_in)
 
 pub hold-after_mark : (keyword : Mark) (tokens : List Lexeme) (terms : List Term) → Hold tokens terms → Hold (mark keyword ∷ tokens) terms
 hold-after_mark keyword tokens terms held = hold-after (mark keyword) tokens terms (mark-no_number keyword) held
 
 pub hold-append : (front back : List Lexeme) (terms more : List Term) → Hold front terms → Hold back more → Hold (front ++ back) (terms ++ more)
-hold-append front back terms more one other = record {
-  few = omega (arith, one.few, other.few, length-append front back, length-append terms more);
-  numbers = filter_map-append number_of front back
-      ∙ (ap (λ numbers. numbers ++ numbers_in back) one.numbers
-      ∙ (ap (λ numbers. filter_map parameter_of terms ++ numbers) other.numbers ∙ sym (filter_map-append parameter_of terms more)));
-}
+hold-append front back terms more one other =
+    grind (arith, common_steps, length-append, filter_map-append, number_of, numbers_in)
 
 pub hold-after_not : (negated : Bool) (tokens : List Lexeme) (terms : List Term) → Hold tokens terms → Hold (written_if negated (m.Not ∷ []) ++ tokens) terms
 hold-after_not false tokens terms held = held
@@ -79,11 +73,7 @@ column_name-numbers None column tokens form = rw form.0 (omega arith, refl)
 column_name-numbers (Some alias) column tokens form = rw form.0 (omega arith, refl)
 
 literal-numbers : (tokens : List Lexeme) (literal : Value) → IsLiteral tokens literal → (1 ≤ length tokens) × (numbers_in tokens ≡ [])
-literal-numbers tokens (value.Int n) form = elim form.1 [
-  | inl bare ↦ rw bare.0 (omega arith, refl)
-  | inr (inl plus) ↦ rw plus.0 (omega arith, refl)
-  | inr (inr minus) ↦ rw minus.0 (omega arith, refl)
-]
+literal-numbers tokens (value.Int n) form = grind (arith, common_steps)
 literal-numbers tokens (value.Text text) form = rw form (omega arith, refl)
 literal-numbers tokens value.Null form = absurd form
 
@@ -91,15 +81,11 @@ pub literal-held : Holds IsLiteral no_terms
 literal-held tokens literal form = hold-none tokens (literal-numbers tokens literal form).1
 
 column-held : (tokens : List Lexeme) (column : ColRef) → IsColumnName column.alias tokens column.column → Hold tokens (term.Column column ∷ [])
-column-held tokens column form =
-    let told = column_name-numbers column.alias column.column tokens form in
-    record { few = omega (arith, told.0); numbers = told.1 }
+column-held tokens column form = grind (arith, common_steps, column_name-numbers)
 
 operand-held : Holds IsTerm (λ operand. operand ∷ [])
 operand-held tokens (term.Column column) form = column-held tokens column form
-operand-held tokens (term.Literal literal) form =
-    let told = literal-numbers tokens literal form in
-    record { few = omega (arith, told.0); numbers = told.1 }
+operand-held tokens (term.Literal literal) form = grind (arith, common_steps, literal-numbers)
 operand-held tokens (term.Parameter number) form = rw form (record { few = omega arith; numbers = refl })
 
 flat_map-one : (terms : List Term) → flat_map (λ operand. operand ∷ []) terms ≡ terms
@@ -126,20 +112,15 @@ abbrev mutual
   terms_in_all (More part parts) = terms_in part ++ terms_in_all parts
 
 predicate-held : Holds IsPredicate terms_in
-predicate-held tokens (Compare op left right) form =
-    rw form.2 (hold-append form.0 _ (left ∷ []) (right ∷ []) (operand-held form.0 left form.3)
-    (hold-after (Comparison op) form.1 _ refl (operand-held form.1 right form.4)))
+predicate-held tokens (Compare op left right) form = grind (arith, common_steps, hold-append, operand-held, hold-after)
 predicate-held tokens (Between negated of low high) form =
-    rw form.3 (hold-append form.0 _ (of ∷ []) (low ∷ high ∷ []) (operand-held form.0 of form.4)
-    (hold-after_not negated _ _ (hold-after_mark m.Between _ _
-    (hold-append form.1 _ (low ∷ []) (high ∷ []) (operand-held form.1 low form.5) (hold-after_mark m.And form.2 _ (operand-held form.2 high form.6))))))
+    grind (arith, common_steps, hold-append, operand-held, hold-after_not, hold-after_mark)
 predicate-held tokens (OneOf negated of terms) form =
     rw form.2 (hold-append form.0 _ (of ∷ []) terms (operand-held form.0 of form.3)
     (hold-after_not negated _ _ (hold-after_mark m.In form.1 _
     (in_parentheses-held (Separated m.Comma IsTerm) (λ terms. terms) operands-held form.1 terms form.4))))
 predicate-held tokens (IsNull negated column) form =
-    rw form.1 (hold-append form.0 _ (term.Column column ∷ []) [] (column-held form.0 column form.2)
-    (hold-after_mark m.Is _ _ (hold-after_not negated _ _ (hold-none (mark m.Null ∷ []) refl))))
+    grind (arith, common_steps, hold-append, column-held, hold-after_mark, hold-after_not, hold-none)
 predicate-held tokens (Not inner) form = absurd form
 predicate-held tokens (And parts) form = absurd form
 predicate-held tokens (Or parts) form = absurd form
@@ -191,11 +172,7 @@ selection-held tokens (Some columns) form =
     list-held m.Comma _ (λ ts column is. hold-none ts (column_name-numbers column.alias column.column ts is).1) tokens columns form
 
 item-held : Holds IsItem no_terms
-item-held tokens item form = elim form.2 [
-  | inl bare ↦ hold-none tokens (rw bare.0 refl)
-  | inr (inl short) ↦ hold-none tokens (rw short refl)
-  | inr (inr full) ↦ hold-none tokens (rw full refl)
-]
+item-held tokens item form = grind (arith, common_steps, hold-none)
 
 -- the operands of a query are those of its condition
 pub select-held : Holds IsSelect (λ query. terms_of_condition query.condition)

@@ -1,5 +1,6 @@
 -- Where the pieces of a script end, and what holds of the statement of each.
 use Rattle.std.proofs.Common.{◌≡◌, ℕ, ◌+◌, ◌≤◌, true, false, cond, List, [], ◌∷◌, ◌++◌, length, map, take, drop, refl, arith}
+use Rattle.std.proofs.lemmas.Grind.{common_steps}
 use Rattle.std.specs.List.{All, AllByRecursion}
 use Rattle.std.proofs.lemmas.List.Elements.{All-head, All-tail, All-cons, All-nil, All-from_recursion}
 use Rattle.sql_lex.specs.Tokens.{IsToken}
@@ -25,12 +26,7 @@ prepend-nothing token (piece ∷ pieces) = refl
 
 prepend-split : (script : List ℕ) (tokens : List Token) → prepend [] (split script tokens) ≡ split script tokens
 prepend-split script [] = refl
-prepend-split script (token ∷ tokens) =
-    elim (is_semicolon (lexeme script token)) as (λ b. prepend [] (cond b ([] ∷ split script tokens) (in_front token (split script tokens)))
-    ≡ cond b ([] ∷ split script tokens) (in_front token (split script tokens))) [
-      | true ↦ refl
-      | false ↦ prepend-nothing token (split script tokens)
-    ]
+prepend-split script (token ∷ tokens) = grind (arith, common_steps, prepend-nothing)
 
 pub in_piece-first : (script : List ℕ) (tokens : List Token) → IsInPiece script tokens 0
 in_piece-first script tokens = prepend-split script tokens

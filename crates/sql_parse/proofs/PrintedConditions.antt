@@ -1,11 +1,12 @@
 -- A condition that is written somehow is also written as it is printed, within the same nesting of parentheses.
-use Rattle.std.proofs.Common.{◌≡◌, ℕ, zero, suc, ◌⊎◌, inl, inr, Bool, true, false, List, [], ◌∷◌, refl, sym, ap, subst, append-nil}
+use Rattle.std.proofs.Common.{◌≡◌, ℕ, zero, suc, ◌⊎◌, inl, inr, Bool, true, false, List, [], ◌∷◌, refl, sym, ap, subst, append-nil, arith}
+use Rattle.std.proofs.lemmas.Grind.{common_steps}
 use Rattle.sql_parse.specs.declared.mark.Mark.{Mark}
 use Rattle.sql_parse.specs.declared.mark.Mark.TheVariants as m
 use Rattle.sql_parse.specs.Limits.{nesting_limit}
 use Rattle.sql_parse.specs.Lexemes.{Lexeme, mark}
 use Rattle.sql_parse.specs.Trees.{ConditionTree, ConditionTrees, Compare, Between, OneOf, IsNull, Not, And, Or, NoMore, More, operands}
-use Rattle.sql_parse.specs.Grammar.{Rule, Separated, IsPredicate, IsFactor, IsConjunction, IsDisjunction, IsGroup, IsCondition}
+use Rattle.sql_parse.specs.Grammar.{Rule, Separated, IsPredicate, IsFactor, IsConjunction, IsDisjunction, IsGroup}
 use Rattle.sql_parse.specs.Canonical.{Fixed, in_parentheses, is_or, is_chain, is_no_predicate, grouped_if, condition_parts, chain_parts}
 use Rattle.sql_parse.proofs.PrintedForms.{tokens_of, tokens-append, IsPrintedBy, predicate-printed}
 
@@ -91,14 +92,8 @@ abbrev GroupsStand : ℕ → Type 0
 GroupsStand n = (tokens : List Lexeme) (tree : ConditionTree) → IsGroup n tokens tree → AsGroup (Stands tree) true n
 
 factor-stands : (n : ℕ) → GroupsStand n → (tokens : List Lexeme) (tree : ConditionTree) → IsFactor (IsGroup n) tokens tree → AsGroup (Stands tree) (is_chain tree) n
-factor-stands n groups tokens tree form = elim form [
-  | inl predicate ↦ predicate-stands_chain tokens tree n predicate
-  | inr (inl group) ↦ group-stands_so tree (is_chain tree) n (groups tokens tree group)
-  | inr (inr not) ↦ subst (λ t. AsGroup (Stands t) (is_chain t) n) (sym not.3) (elim not.4 [
-    | inl predicate ↦ predicate-stands_inner not.0 not.1 n predicate
-    | inr group ↦ group-stands_so not.1 (is_no_predicate not.1) n (groups not.0 not.1 group)
-  ])
-]
+factor-stands n groups tokens tree form =
+    grind (arith, common_steps, predicate-stands_chain, group-stands_so, predicate-stands_inner)
 
 separated-stands : (separator : Mark) (IsPart : Rule ConditionTree) (in_group : ConditionTree → Bool) (n : ℕ)
     → ((tokens : List Lexeme) (tree : ConditionTree) → IsPart tokens tree → AsGroup (Stands tree) (in_group tree) n)
@@ -275,6 +270,6 @@ mutual
     each_stands-printed in_group parts n may.1,
   )
 
-pub condition-printed : IsPrintedBy IsCondition condition_parts
+pub condition-printed : IsPrintedBy (IsDisjunction (IsGroup nesting_limit)) condition_parts
 condition-printed tokens tree form =
     printed-disjunction tree nesting_limit (stands-printed tree nesting_limit (disjunction-stands nesting_limit (groups-stand nesting_limit) tokens tree form))

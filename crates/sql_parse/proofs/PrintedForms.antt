@@ -1,15 +1,16 @@
 -- What is printed for a value is written for it by the grammar, wherever anything is.
-use Rattle.std.proofs.Common.{◌≡◌, ◌∙◌, ℕ, suc, ◌⊎◌, inl, inr, Bool, true, false, cond, List, [], ◌∷◌, ◌++◌, map, Option, Some, None, ℤ, pos, negsuc, int_lt, bytes_eq, refl, sym, ap, subst, append-nil, rules}
+use Rattle.std.proofs.Common.{◌≡◌, ◌∙◌, ℕ, suc, inl, inr, Bool, true, false, List, [], ◌∷◌, ◌++◌, map, Option, Some, None, ℤ, pos, negsuc, int_lt, bytes_eq, refl, sym, ap, subst, append-nil, rules, arith}
+use Rattle.std.proofs.lemmas.Grind.{common_steps}
 use Rattle.std.proofs.lemmas.List.{map-append}
 use Rattle.std.proofs.lemmas.Slice.Eq.{bytes_eq-Decides}
 use Rattle.sql_values.specs.declared.value.Value.TheVariants as value
 use Rattle.sql_parse.specs.declared.mark.Mark.{Mark}
 use Rattle.sql_parse.specs.declared.mark.Mark.TheVariants as m
 use Rattle.sql_parse.specs.declared.tree.Term.TheVariants as term
-use Rattle.sql_parse.specs.Lexemes.{Lexeme, Word, mark}
+use Rattle.sql_parse.specs.Lexemes.{Lexeme, mark}
 use Rattle.sql_parse.specs.Trees.{Compare, Between, OneOf, IsNull, Not, And, Or}
 use Rattle.sql_parse.specs.Grammar.{Rule, written_if, Separated, InParentheses, IsColumnName, IsColRef, IsInteger, IsLiteral, IsTerm, IsPredicate, IsItem, IsSelection}
-use Rattle.sql_parse.specs.Canonical.{Part, Fixed, Name, Operator, part_lexeme, listed, in_parentheses, kept_if, column_name_parts, column_parts, integer_parts, value_parts, operand_parts, condition_parts, item_parts, selection_parts}
+use Rattle.sql_parse.specs.Canonical.{Part, Fixed, part_lexeme, listed, in_parentheses, kept_if, column_name_parts, column_parts, integer_parts, value_parts, operand_parts, condition_parts, item_parts, selection_parts}
 
 abbrev pub tokens_of : List Part → List Lexeme
 tokens_of parts = map part_lexeme parts
@@ -69,13 +70,7 @@ operand-printed tokens (term.Literal literal) form = literal-printed tokens lite
 operand-printed tokens (term.Parameter number) form = refl
 
 pub predicate-printed : IsPrintedBy IsPredicate condition_parts
-predicate-printed tokens (Compare op left right) form = (
-  tokens_of (operand_parts left),
-  tokens_of (operand_parts right),
-  tokens-append (operand_parts left) (Operator op ∷ operand_parts right),
-  operand-printed form.0 left form.3,
-  operand-printed form.1 right form.4,
-)
+predicate-printed tokens (Compare op left right) form = grind (arith, common_steps, tokens-append, operand-printed)
 predicate-printed tokens (Between negated of low high) form =
     let range = Fixed m.Between ∷ (operand_parts low ++ Fixed m.And ∷ operand_parts high) in (
       tokens_of (operand_parts of),
@@ -97,28 +92,14 @@ predicate-printed tokens (OneOf negated of terms) form =
       operand-printed form.0 of form.3,
       in_parentheses-printed (Separated m.Comma IsTerm) (listed operand_parts) (separated-printed IsTerm operand_parts operand-printed) form.1 terms form.4,
     )
-predicate-printed tokens (IsNull negated column) form = (
-  tokens_of (column_parts column),
-  tokens-append (column_parts column) (Fixed m.Is ∷ (kept_if negated (m.Not ∷ []) ++ Fixed m.Null ∷ []))
-      ∙ ap (λ ts. tokens_of (column_parts column) ++ mark m.Is ∷ ts) (kept-before negated (m.Not ∷ []) (Fixed m.Null ∷ [])),
-  colref-printed form.0 column form.2,
-)
+predicate-printed tokens (IsNull negated column) form =
+    grind (arith, common_steps, tokens-append, kept-before, colref-printed)
 predicate-printed tokens (Not inner) form = absurd form
 predicate-printed tokens (And parts) form = absurd form
 predicate-printed tokens (Or parts) form = absurd form
 
 pub item-printed : IsPrintedBy IsItem item_parts
-item-printed tokens item form = (
-  form.0,
-  form.1,
-  elim (bytes_eq item.alias item.table) as (λ same. bytes_eq item.alias item.table ≡ same →
-      ((tokens_of (Name item.table ∷ cond same [] (Fixed m.As ∷ Name item.alias ∷ [])) ≡ Word item.table ∷ []) × (item.alias ≡ item.table))
-      ⊎ (tokens_of (Name item.table ∷ cond same [] (Fixed m.As ∷ Name item.alias ∷ [])) ≡ Word item.table ∷ Word item.alias ∷ [])
-      ⊎ (tokens_of (Name item.table ∷ cond same [] (Fixed m.As ∷ Name item.alias ∷ [])) ≡ Word item.table ∷ mark m.As ∷ Word item.alias ∷ [])) [
-        | true ↦ λ is. inl (refl, (bytes_eq-Decides item.alias item.table).0 is)
-        | false ↦ λ is. inr (inr refl)
-      ] refl,
-)
+item-printed tokens item form = grind (arith, common_steps, bytes_eq, bytes_eq-Decides)
 
 pub selection-printed : IsPrintedBy IsSelection selection_parts
 selection-printed tokens None form = refl

@@ -23,8 +23,8 @@ use Rattle.sql_lex.specs.declared.token.TokenKind.TheVariants as kinds
 use Rattle.sql_values.specs.declared.op.Op.TheVariants as ops
 use Rattle.sql_parse.specs.declared.mark.Mark.{Mark}
 use Rattle.sql_parse.specs.declared.mark.Mark.TheVariants as m
-use Rattle.sql_parse.specs.Lexemes.{Lexeme, Word, Number, Text, Sign, Comparison, Parameter, lexeme_of, lexeme, is_question_mark, numbered, lexemes, mark}
-use Rattle.sql_parse.specs.Canonical.{spelled, lexeme_kind}
+use Rattle.sql_parse.specs.Lexemes.{Lexeme, Word, Number, Text, Sign, Comparison, Parameter, lexeme_of, lexeme, is_question_mark, numbered, lexemes, mark, lexeme_kind}
+use Rattle.sql_parse.specs.Canonical.{spelled}
 use Rattle.sql_parse.specs.Parameters.{AreNumberedFrom}
 use Rattle.sql_parse.proofs.Numbers.{numbers_in}
 
@@ -63,10 +63,7 @@ upper-passes (b ∷ bs) all =
 -- numbers
 
 folds : FoldsDigits (λ n digits. fold (λ value digit. 10 * value + (digit - 48)) n digits)
-folds = record {
-  empty = λ n. refl;
-  more = λ n c cs range. let e : 10 * n + (c - 48) ≡ n * 10 + (c - 48) = omega arith in ap (λ k. fold (λ value digit. 10 * value + (digit - 48)) k cs) e;
-}
+folds = grind (arith, common_steps)
 
 model : IsNumeralModel (λ digits. all_ascii_digits digits ≡ true) (λ digits. fold (λ value digit. 10 * value + (digit - 48)) 0 digits)
 model = numerals_by_fold (λ digits. all_ascii_digits digits ≡ true) tells_all_ascii_digits (λ n digits. fold (λ value digit. 10 * value + (digit - 48)) n digits) folds
@@ -103,11 +100,8 @@ quoted-text v = ap (halved false) (between_quotes-quoted v) ∙ halved-doubled v
 -- what a token that is no `?` stands for is sound
 lexeme-sound : (kind : TokenKind) (bytes : List ℕ) → HasForm kind bytes → KeepsTokenLimit kind bytes → is_question_mark (lexeme_of kind bytes) ≡ false
     → IsSound (lexeme_of kind bytes)
-lexeme-sound kinds.Word bytes form limit other = (
-  (upper-starts bytes form.0, upper-passes bytes form.1),
-  subst (λ n. n ≤ max_word_bytes) (sym (length-map bytes to_ascii_uppercase)) limit,
-  upper_twice bytes,
-)
+lexeme-sound kinds.Word bytes form limit other =
+    grind (arith, common_steps, upper-starts, upper-passes, length-map, upper_twice)
 lexeme-sound kinds.Number bytes form limit other = limit
 lexeme-sound kinds.Text bytes form limit other = limit
 lexeme-sound kinds.Sign bytes form limit other = (form, other)
@@ -182,11 +176,7 @@ numbered-again first (other ∷ tokens) sound known = ap (λ more. other ∷ mor
 
 pub word-sound : (word : List ℕ) → starts_word (slice_index word 0) ≡ true → list_all is_word_byte word ≡ true → nat_le (length word) 128 ≡ true
     → bytes_eq (word_value_of word) word ≡ true → IsSound (Word word)
-word-sound word starts all limit upper = (
-  (starts, AllPass-from_list_all is_word_byte word all),
-  grind (arith, nat_tests),
-  (bytes_eq-Decides (word_value_of word) word).0 upper,
-)
+word-sound word starts all limit upper = grind (arith, common_steps, AllPass-from_list_all, nat_tests, bytes_eq-Decides)
 
 pub mark-sound : (keyword : Mark) → IsSound (mark keyword)
 mark-sound m.OpenParen = ((40, refl, refl), refl)

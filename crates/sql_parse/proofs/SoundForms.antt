@@ -1,5 +1,6 @@
 -- What is printed for a value that tokens of a script are written for is sound.
-use Rattle.std.proofs.Common.{◌≡◌, ℕ, zero, suc, ◌≤◌, inl, inr, Bool, true, false, cond, List, [], ◌∷◌, ◌++◌, Option, Some, None, pos, int_lt, neg_ℤ, bytes_eq, sym, subst, rules}
+use Rattle.std.proofs.Common.{◌≡◌, ℕ, zero, suc, ◌≤◌, inl, inr, Bool, true, false, cond, List, [], ◌∷◌, ◌++◌, Option, Some, None, pos, int_lt, neg_ℤ, bytes_eq, sym, subst, rules, arith}
+use Rattle.std.proofs.lemmas.Grind.{common_steps}
 use Rattle.sql_lex.specs.Limits.{max_number}
 use Rattle.sql_values.specs.declared.value.Value.TheVariants as value
 use Rattle.sql_parse.specs.declared.mark.Mark.{Mark}
@@ -8,8 +9,8 @@ use Rattle.sql_parse.specs.declared.tree.Term.TheVariants as term
 use Rattle.sql_parse.specs.Limits.{nesting_limit}
 use Rattle.sql_parse.specs.Lexemes.{Lexeme, Word, mark}
 use Rattle.sql_parse.specs.Trees.{ConditionTree, Compare, Between, OneOf, IsNull, Not, And, Or, operands}
-use Rattle.sql_parse.specs.Grammar.{Rule, written_if, Separated, InParentheses, IsColumnName, IsColRef, IsInteger, IsLiteral, IsTerm, IsPredicate, IsFactor, IsConjunction, IsDisjunction, IsGroup, IsItem, IsSelection, IsWhere, IsSelect}
-use Rattle.sql_parse.specs.Canonical.{Part, Fixed, Name, Operator, listed, in_parentheses, kept_if, column_name_parts, column_parts, integer_parts, value_parts, operand_parts, is_or, is_chain, is_no_predicate, grouped_if, condition_parts, chain_parts, item_parts, selection_parts, where_parts, query_parts}
+use Rattle.sql_parse.specs.Grammar.{Rule, Separated, InParentheses, IsColumnName, IsColRef, IsInteger, IsLiteral, IsTerm, IsPredicate, IsFactor, IsConjunction, IsDisjunction, IsGroup, IsItem, IsSelection, IsWhere, IsSelect}
+use Rattle.sql_parse.specs.Canonical.{Part, Fixed, Name, listed, in_parentheses, kept_if, column_name_parts, column_parts, integer_parts, value_parts, operand_parts, is_or, is_chain, grouped_if, condition_parts, chain_parts, item_parts, selection_parts, where_parts, query_parts}
 use Rattle.sql_parse.proofs.Sound.{IsSound, EachSound, mark-sound}
 use Rattle.sql_parse.proofs.WrittenParts.{Follows, Writable, writable-append}
 
@@ -40,8 +41,7 @@ group-writable parts writable =
 
 pub in_parentheses-writable : {A : Type 0} (IsInside : Rule A) (parts : A → List Part) → IsWritable IsInside parts → IsWritable (InParentheses IsInside) (λ x. in_parentheses (parts x))
 in_parentheses-writable IsInside parts writable tokens x sound form =
-    let all : EachSound (mark m.OpenParen ∷ (form.0 ++ mark m.CloseParen ∷ [])) = subst EachSound form.1 sound in
-    group-writable (parts x) (writable form.0 x (sound-front form.0 (mark m.CloseParen ∷ []) all.1) form.2)
+    grind (arith, common_steps, group-writable, sound-front)
 
 column_name-writable : (alias : Option (List ℕ)) → IsWritable (IsColumnName alias) (column_name_parts alias)
 column_name-writable None tokens column sound form = let all = subst EachSound form.0 sound in (all.0, tt, tt)
@@ -59,11 +59,7 @@ negated-number zero limit = not_negative-writable 0 limit
 negated-number (suc n) limit = (mark-sound m.Minus, tt, (limit, tt, tt))
 
 integer-writable : IsWritable IsInteger integer_parts
-integer-writable tokens n sound form = elim form.1 [
-  | inl bare ↦ let all = subst EachSound bare.0 sound in subst (λ k. Writable (integer_parts k)) (sym bare.1) (not_negative-writable form.0 all.0)
-  | inr (inl plus) ↦ let all = subst EachSound plus.0 sound in subst (λ k. Writable (integer_parts k)) (sym plus.1) (not_negative-writable form.0 all.1.0)
-  | inr (inr minus) ↦ let all = subst EachSound minus.0 sound in subst (λ k. Writable (integer_parts k)) (sym minus.1) (negated-number form.0 all.1.0)
-]
+integer-writable tokens n sound form = grind (arith, common_steps, not_negative-writable, negated-number)
 
 pub literal-writable : IsWritable IsLiteral value_parts
 literal-writable tokens (value.Int n) sound form = integer-writable tokens n sound form
@@ -81,34 +77,11 @@ negated-writable true parts writable = (mark-sound m.Not, tt, writable)
 
 predicate-writable : IsWritable IsPredicate condition_parts
 predicate-writable tokens (Compare op left right) sound form =
-    let all = subst EachSound form.2 sound in
-    let later = sound-back form.0 _ all in
-    writable-append (operand_parts left) (Operator op ∷ operand_parts right) (operand-writable form.0 left (sound-front form.0 _ all) form.3)
-    (tt, tt, operand-writable form.1 right later.1 form.4)
+    grind (arith, common_steps, sound-back, writable-append, operand-writable, sound-front)
 predicate-writable tokens (Between negated of low high) sound form =
-    let range = mark m.Between ∷ (form.1 ++ mark m.And ∷ form.2) in
-    let all = subst EachSound form.3 sound in
-    let later : EachSound range = sound-back (written_if negated (m.Not ∷ [])) range (sound-back form.0 (written_if negated (m.Not ∷ []) ++ range) all) in
-    let last : EachSound (mark m.And ∷ form.2) = sound-back form.1 (mark m.And ∷ form.2) later.1 in
-    writable-append (operand_parts of) (kept_if negated (m.Not ∷ []) ++ Fixed m.Between ∷ (operand_parts low ++ Fixed m.And ∷ operand_parts high))
-    (operand-writable form.0 of (sound-front form.0 (written_if negated (m.Not ∷ []) ++ range) all) form.4)
-    (negated-writable negated (Fixed m.Between ∷ (operand_parts low ++ Fixed m.And ∷ operand_parts high)) (
-      mark-sound m.Between,
-      tt,
-      writable-append (operand_parts low) (Fixed m.And ∷ operand_parts high)
-          (operand-writable form.1 low (sound-front form.1 (mark m.And ∷ form.2) later.1) form.5) (mark-sound m.And, tt, operand-writable form.2 high last.1 form.6),
-    ))
+    grind (arith, common_steps, sound-back, writable-append, operand-writable, sound-front, negated-writable, mark-sound)
 predicate-writable tokens (OneOf negated of terms) sound form =
-    let values = mark m.In ∷ form.1 in
-    let all = subst EachSound form.2 sound in
-    let later : EachSound values = sound-back (written_if negated (m.Not ∷ [])) values (sound-back form.0 (written_if negated (m.Not ∷ []) ++ values) all) in
-    writable-append (operand_parts of) (kept_if negated (m.Not ∷ []) ++ Fixed m.In ∷ in_parentheses (listed operand_parts terms))
-    (operand-writable form.0 of (sound-front form.0 (written_if negated (m.Not ∷ []) ++ values) all) form.3)
-    (negated-writable negated (Fixed m.In ∷ in_parentheses (listed operand_parts terms)) (
-      mark-sound m.In,
-      tt,
-      in_parentheses-writable (Separated m.Comma IsTerm) (listed operand_parts) (listed-writable IsTerm operand_parts operand-writable) form.1 terms later.1 form.4,
-    ))
+    grind (arith, common_steps, sound-back, writable-append, operand-writable, sound-front, negated-writable, mark-sound, in_parentheses-writable, listed-writable)
 predicate-writable tokens (IsNull negated column) sound form =
     let all = subst EachSound form.1 sound in
     writable-append (column_parts column) (Fixed m.Is ∷ (kept_if negated (m.Not ∷ []) ++ Fixed m.Null ∷ [])) (colref-writable form.0 column (sound-front form.0 _ all) form.2)
@@ -134,20 +107,8 @@ chain-writable keyword follows is_group IsPart writable tokens (x ∷ y ∷ ys) 
     (mark-sound keyword, follows (chain_parts keyword is_group (operands (y ∷ ys))), chain-writable keyword follows is_group IsPart writable form.1 (y ∷ ys) later.1 form.4)
 
 factor-writable : (n : ℕ) → IsWritable (IsGroup n) condition_parts → IsWritable (IsFactor (IsGroup n)) condition_parts
-factor-writable n groups tokens tree sound form = elim form [
-  | inl predicate ↦ predicate-writable tokens tree sound predicate
-  | inr (inl group) ↦ groups tokens tree sound group
-  | inr (inr not) ↦
-      let all : EachSound (mark m.Not ∷ not.0) = subst EachSound not.2 sound in
-      subst (λ t. Writable (condition_parts t)) (sym not.3) (
-        mark-sound m.Not,
-        tt,
-        grouped-writable (is_no_predicate not.1) (condition_parts not.1) (elim not.4 [
-          | inl predicate ↦ predicate-writable not.0 not.1 all.1 predicate
-          | inr group ↦ groups not.0 not.1 all.1 group
-        ]),
-      )
-]
+factor-writable n groups tokens tree sound form =
+    grind (arith, common_steps, predicate-writable, mark-sound, grouped-writable)
 
 conjunction-writable : (n : ℕ) → IsWritable (IsGroup n) condition_parts → IsWritable (IsConjunction (IsGroup n)) condition_parts
 conjunction-writable n groups tokens tree sound form = elim form [
@@ -181,16 +142,7 @@ alias-writable table alias true one other = (one, tt, tt)
 alias-writable table alias false one other = (one, tt, (mark-sound m.As, tt, (other, tt, tt)))
 
 item-writable : IsWritable IsItem item_parts
-item-writable tokens item sound form =
-    let same = bytes_eq item.alias item.table in
-    elim form.2 [
-      | inl bare ↦ let all : EachSound (Word item.table ∷ []) = subst EachSound bare.0 sound in
-          alias-writable item.table item.alias same all.0 (subst (λ (name : List ℕ). IsSound (Word name)) (sym bare.1) all.0)
-      | inr (inl short) ↦ let all : EachSound (Word item.table ∷ Word item.alias ∷ []) = subst EachSound short sound in
-          alias-writable item.table item.alias same all.0 all.1.0
-      | inr (inr full) ↦ let all : EachSound (Word item.table ∷ mark m.As ∷ Word item.alias ∷ []) = subst EachSound full sound in
-          alias-writable item.table item.alias same all.0 all.1.1.0
-    ]
+item-writable tokens item sound form = grind (arith, common_steps, bytes_eq, alias-writable)
 
 selection-writable : IsWritable IsSelection selection_parts
 selection-writable tokens None sound form = (mark-sound m.Star, tt, tt)

@@ -1,5 +1,6 @@
 -- Each query that is read has the parts that the layers above rely on.
 use Rattle.std.proofs.Common.{◌<◌, ◌^◌, List, [], ◌∷◌, length, Option, Some, None, IfSome, arith}
+use Rattle.std.proofs.lemmas.Grind.{common_steps}
 use Rattle.sql_parse.specs.declared.mark.Mark.{Mark}
 use Rattle.sql_parse.specs.declared.mark.Mark.TheVariants as m
 use Rattle.sql_parse.specs.declared.tree.ColRef.{ColRef}
@@ -23,10 +24,4 @@ abbrev pub AreNumbered : Option ConditionTree → Type 0
 AreNumbered condition = AreNumberedFrom 0 (parameters_of_condition condition) × (length (parameters_of_condition condition) < 2 ^ 32)
 
 pub query-well_formed : (tokens : List Lexeme) (query : QueryTree) → AreNumbered query.condition → IsSelect tokens query → IsWellFormedQuery query
-query-well_formed tokens query numbered form = record {
-  tables = separated-some m.Comma _ form.1 query.from form.5;
-  columns = selection-some form.0 query.columns form.4;
-  condition = where-free form.2 query.condition form.6;
-  numbered = numbered.0;
-  few_parameters = numbered.1;
-}
+query-well_formed tokens query numbered form = grind (arith, common_steps, separated-some, selection-some, where-free)

@@ -1,5 +1,6 @@
 -- Sound parts are read, as they are spaced, as these tokens.
-use Rattle.std.proofs.Common.{◌≡◌, ◌∙◌, ◌⊎◌, inl, inr, ℕ, ◌+◌, ◌-◌, ◌<◌, ◌≤◌, Bool, true, false, cond, nat_eq, List, [], ◌∷◌, ◌++◌, map, length, get_or, drop, codes, decimal, slice_index, None, Some, refl, sym, ap, arith, length-append, length-drop}
+use Rattle.std.proofs.Common.{◌≡◌, ◌∙◌, ◌⊎◌, inl, inr, ℕ, ◌+◌, ◌-◌, ◌<◌, ◌≤◌, Bool, true, false, cond, nat_eq, List, [], ◌∷◌, ◌++◌, map, length, get_or, drop, codes, slice_index, None, Some, refl, sym, ap, arith, length-append, length-drop}
+use Rattle.std.proofs.lemmas.Grind.{common_steps}
 use Rattle.std.specs.List.{AllPass}
 use Rattle.std.specs.Char.{is_ascii_digit}
 use Rattle.std.proofs.lemmas.Bool.Decides.{nat_tests}
@@ -17,9 +18,9 @@ use Rattle.sql_lex.specs.declared.token.TokenKind.{TokenKind}
 use Rattle.sql_values.specs.declared.op.Op.{Op}
 use Rattle.sql_values.specs.declared.op.Op.TheVariants as ops
 use Rattle.sql_parse.specs.declared.mark.Mark.TheVariants as m
-use Rattle.sql_parse.specs.Lexemes.{lexeme_of, lexeme, numbered, lexemes}
+use Rattle.sql_parse.specs.Lexemes.{lexeme_of, lexeme, lexemes, lexeme_kind}
 use Rattle.sql_parse.specs.Parameters.{AreNumberedFrom}
-use Rattle.sql_parse.specs.Canonical.{Part, Fixed, Keyword, Name, Number, Text, Operator, Parameter, part_lexeme, spelled, lexeme_kind, joins_next, with_spaces, parts_text}
+use Rattle.sql_parse.specs.Canonical.{Part, Fixed, Keyword, Name, Number, Text, Operator, Parameter, part_lexeme, spelled, joins_next, with_spaces, parts_text}
 use Rattle.sql_parse.proofs.PrintedForms.{tokens_of}
 use Rattle.sql_parse.proofs.Sound.{IsSound, EachSound, sound-form, sound-limit, plain, sound-again, numbered-again, decimal-digits, decimal-length}
 use Rattle.sql_parse.proofs.Numbers.{numbers_in}
@@ -73,13 +74,7 @@ next-quiet (Fixed m.Dot ∷ parts) = inr (inr (inr (inr refl)))
 next-quiet (other ∷ parts) = inr (inl refl)
 
 quiet-stops : (test : ℕ → Bool) → test 0 ≡ false → test 32 ≡ false → test 41 ≡ false → test 44 ≡ false → test 46 ≡ false → (b : ℕ) → IsQuiet b → test b ≡ false
-quiet-stops test at_end at_space at_close at_comma at_point b quiet = elim quiet [
-  | inl is ↦ ap test is ∙ at_end
-  | inr (inl is) ↦ ap test is ∙ at_space
-  | inr (inr (inl is)) ↦ ap test is ∙ at_close
-  | inr (inr (inr (inl is))) ↦ ap test is ∙ at_comma
-  | inr (inr (inr (inr is))) ↦ ap test is ∙ at_point
-]
+quiet-stops test at_end at_space at_close at_comma at_point b quiet = grind (arith, common_steps)
 
 word-stops : (parts : List Part) → is_word_byte (slice_index (written_text (with_spaces false parts)) 0) ≡ false
 word-stops parts = quiet-stops is_word_byte refl refl refl refl refl _ (next-quiet parts)
@@ -106,8 +101,7 @@ digit-no_minus b digit = grind (arith, nat_tests)
 minus-stops : (parts : List Part) → Follows (Fixed m.Minus) parts → Writable parts → nat_eq (slice_index (written_text (with_spaces true parts)) 0) 45 ≡ false
 minus-stops [] follows sound = absurd follows
 minus-stops (Number n ∷ parts) follows sound =
-    ap (λ b. nat_eq b 45) (first-append (decimal n) (written_text (with_spaces false parts)) (decimal-length n sound.0))
-    ∙ digit-no_minus _ (first-passes is_ascii_digit (decimal n) (decimal-length n sound.0) (decimal-digits n sound.0))
+    grind (arith, common_steps, nat_eq, first-append, decimal-length, digit-no_minus, first-passes, decimal-digits)
 minus-stops (other ∷ parts) follows sound = absurd follows
 
 varchar-stops : (parts : List Part) → Follows (Fixed m.Varchar) parts → is_word_byte (slice_index (written_text (with_spaces true parts)) 0) ≡ false
@@ -185,5 +179,4 @@ parts-sound (part ∷ parts) sound = (sound.0, parts-sound parts sound.2)
 pub text-lexemes : (parts : List Part) → Writable parts → AreNumberedFrom 0 (numbers_in (tokens_of parts))
     → lexemes (parts_text parts) (written_tokens 0 (with_spaces true parts)) ≡ tokens_of parts
 text-lexemes parts sound known =
-    ap (numbered 0) (lexemes-written (parts_text parts) 0 (with_spaces true parts) (omega arith) refl (may_be_written true parts sound) ∙ spaced-lexemes true parts sound)
-    ∙ numbered-again 0 (tokens_of parts) (parts-sound parts sound) known
+    grind (arith, common_steps, lexemes-written, may_be_written, spaced-lexemes, numbered-again, tokens_of, parts-sound)

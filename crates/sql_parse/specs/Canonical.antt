@@ -2,8 +2,6 @@
 use Rattle.std.specs.Prelude.{ℕ, ℤ, pos, int_lt, unsigned_abs, Bool, true, false, ◌||◌, List, [], ◌∷◌, ◌++◌, map, flat_map, codes, bytes_eq, decimal, Option, Some, None, if◌then◌else◌}
 use Rattle.sql_lex.specs.Values.{quoted, comparison_text}
 use Rattle.sql_lex.specs.Written.{Written, written_text}
-use Rattle.sql_lex.specs.declared.token.TokenKind.{TokenKind}
-use Rattle.sql_lex.specs.declared.token.TokenKind.TheVariants as kinds
 use Rattle.sql_values.specs.declared.op.Op.{Op}
 use Rattle.sql_values.specs.declared.value.Value.{Value}
 use Rattle.sql_values.specs.declared.value.Value.TheVariants as value
@@ -14,7 +12,7 @@ use Rattle.sql_parse.specs.declared.tree.Term.TheVariants as term
 use Rattle.sql_parse.specs.declared.tree.ColRef.{ColRef}
 use Rattle.sql_parse.specs.declared.tree.Item.{Item}
 use Rattle.sql_parse.specs.Lexemes as lexeme
-use Rattle.sql_parse.specs.Lexemes.{Lexeme, mark}
+use Rattle.sql_parse.specs.Lexemes.{Lexeme, lexeme_kind, mark}
 use Rattle.sql_parse.specs.Trees.{ConditionTree, ConditionTrees, Compare, Between, OneOf, IsNull, Not, And, Or, NoMore, More, QueryTree}
 
 -- what canonical text is made of
@@ -47,14 +45,6 @@ spelled (lexeme.Text text) = quoted text
 spelled (lexeme.Sign bytes) = bytes
 spelled (lexeme.Comparison op) = comparison_text op
 spelled (lexeme.Parameter number) = codes "?"
-
-abbrev pub lexeme_kind : Lexeme → TokenKind
-lexeme_kind (lexeme.Word upper) = kinds.Word
-lexeme_kind (lexeme.Number n) = kinds.Number
-lexeme_kind (lexeme.Text text) = kinds.Text
-lexeme_kind (lexeme.Sign bytes) = kinds.Sign
-lexeme_kind (lexeme.Comparison op) = kinds.Comparison
-lexeme_kind (lexeme.Parameter number) = kinds.Sign
 
 -- no space stands before a closing parenthesis, a comma and a point
 abbrev pub joins_previous : Part → Bool

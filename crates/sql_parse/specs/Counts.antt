@@ -8,13 +8,10 @@ use Rattle.sql_parse.specs.Trees.{ConditionTree, ConditionTrees, Compare, Betwee
 abbrev mutual
   -- each comparison, BETWEEN, IN and IS NULL is one predicate
   pub predicates_in : ConditionTree → ℕ
-  predicates_in (Compare op left right) = 1
-  predicates_in (Between negated of low high) = 1
-  predicates_in (OneOf negated of terms) = 1
-  predicates_in (IsNull negated column) = 1
   predicates_in (Not inner) = predicates_in inner
   predicates_in (And parts) = predicates_in_all parts
   predicates_in (Or parts) = predicates_in_all parts
+  predicates_in predicate = 1
 
   pub predicates_in_all : ConditionTrees → ℕ
   predicates_in_all NoMore = 0

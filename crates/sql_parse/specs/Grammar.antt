@@ -93,9 +93,7 @@ IsPredicate tokens (OneOf negated of terms) =
 IsPredicate tokens (IsNull negated column) =
     (a : List Lexeme) × (tokens ≡ a ++ mark m.Is ∷ (written_if negated (m.Not ∷ []) ++ mark m.Null ∷ []))
     × IsColRef a column
-IsPredicate tokens (Not inner) = ⊥
-IsPredicate tokens (And parts) = ⊥
-IsPredicate tokens (Or parts) = ⊥
+IsPredicate tokens other = ⊥
 
 -- factor = [ NOT ] ( predicate | "(" cond ")" )
 abbrev pub IsFactor : (IsGroup : Rule ConditionTree) → Rule ConditionTree
@@ -129,10 +127,6 @@ unfoldable pub IsGroup : (nesting : ℕ) → Rule ConditionTree
 IsGroup zero tokens tree = ⊥
 IsGroup (suc nesting) tokens tree = InParentheses (IsDisjunction (IsGroup nesting)) tokens tree
 
--- a condition, whose parentheses nest within the limit
-abbrev pub IsCondition : Rule ConditionTree
-IsCondition = IsDisjunction (IsGroup nesting_limit)
-
 -- item = name [ [ AS ] name ]
 abbrev pub IsItem : Rule Item
 IsItem tokens item =
@@ -147,10 +141,10 @@ abbrev pub IsSelection : Rule (Option (List ColRef))
 IsSelection tokens None = tokens ≡ mark m.Star ∷ []
 IsSelection tokens (Some columns) = Separated m.Comma IsColRef tokens columns
 
--- [ WHERE cond ]
+-- [ WHERE cond ]; parentheses nest within the limit
 abbrev pub IsWhere : Rule (Option ConditionTree)
 IsWhere tokens None = tokens ≡ []
-IsWhere tokens (Some tree) = After (mark m.Where) IsCondition tokens tree
+IsWhere tokens (Some tree) = After (mark m.Where) (IsDisjunction (IsGroup nesting_limit)) tokens tree
 
 -- select = SELECT ( "*" | colref { "," colref } ) FROM item { "," item } [ WHERE cond ]
 abbrev pub IsSelect : Rule QueryTree

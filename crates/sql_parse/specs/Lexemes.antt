@@ -20,14 +20,13 @@ pub data Lexeme : Type 0 where
   -- a `?`, by its number among those of the statement, from 0
   Parameter : (number : ℕ) → Lexeme
 
--- the operator that is spelled so
-abbrev pub comparison_of : List ℕ → Op
-comparison_of bytes =
-    if bytes_eq bytes (codes "=") then Eq else (
-    if bytes_eq bytes (codes "<>") then Ne else (
-    if bytes_eq bytes (codes "<") then Lt else (
-    if bytes_eq bytes (codes "<=") then Le else (
-    if bytes_eq bytes (codes ">") then Gt else Ge))))
+-- the kind of its token
+abbrev pub lexeme_kind : Lexeme → TokenKind
+lexeme_kind (Word upper) = kinds.Word
+lexeme_kind (Number n) = kinds.Number
+lexeme_kind (Text text) = kinds.Text
+lexeme_kind (Comparison op) = kinds.Comparison
+lexeme_kind other = kinds.Sign
 
 -- what bytes of a kind stand for
 abbrev pub lexeme_of : TokenKind → List ℕ → Lexeme
@@ -35,7 +34,14 @@ lexeme_of kinds.Word bytes = Word (word_value_of bytes)
 lexeme_of kinds.Number bytes = Number (number_value_of bytes)
 lexeme_of kinds.Text bytes = Text (text_value_of bytes)
 lexeme_of kinds.Sign bytes = Sign bytes
-lexeme_of kinds.Comparison bytes = Comparison (comparison_of bytes)
+lexeme_of kinds.Comparison bytes =
+    Comparison (
+    if bytes_eq bytes (codes "=") then Eq
+    else if bytes_eq bytes (codes "<>") then Ne
+    else if bytes_eq bytes (codes "<") then Lt
+    else if bytes_eq bytes (codes "<=") then Le
+    else if bytes_eq bytes (codes ">") then Gt
+    else Ge)
 
 -- what a token of the script stands for by itself; a `?` is a sign like others
 abbrev pub lexeme : List ℕ → Token → Lexeme

@@ -19,7 +19,7 @@ use Rattle.sql_parse.specs.declared.statement.Statement.{Statement}
 use Rattle.sql_parse.specs.declared.condition.Connective.{Connective}
 use Rattle.sql_parse.specs.declared.condition.Connective.TheVariants as connectives
 use Rattle.sql_parse.specs.Limits.{nesting_limit}
-use Rattle.sql_parse.specs.Lexemes.{Lexeme, Word, Number, Text, Sign, Comparison, Parameter, mark, is_reserved}
+use Rattle.sql_parse.specs.Lexemes.{Lexeme, Word, Number, Text, Sign, Comparison, Parameter, lexeme_kind, mark, is_reserved}
 use Rattle.sql_parse.specs.Trees.{condition_tree, statement_tree, ConditionTree, Compare, Between, OneOf, IsNull, Not, And, Or, operands, QueryTree, StatementTree}
 
 -- What a function returned, seen by view, is what reading gives, unless memory ran out.
@@ -145,12 +145,7 @@ integer_at tokens =
 -- the kind of the first token
 abbrev pub token_kind_at : List Lexeme → Option TokenKind
 token_kind_at [] = None
-token_kind_at (Word word ∷ rest) = Some kinds.Word
-token_kind_at (Number n ∷ rest) = Some kinds.Number
-token_kind_at (Text text ∷ rest) = Some kinds.Text
-token_kind_at (Sign bytes ∷ rest) = Some kinds.Sign
-token_kind_at (Comparison op ∷ rest) = Some kinds.Comparison
-token_kind_at (Parameter number ∷ rest) = Some kinds.Sign
+token_kind_at (token ∷ rest) = Some (lexeme_kind token)
 
 abbrev pub literal_of_kind : Option TokenKind → Reader Value
 literal_of_kind (Some kinds.Text) tokens = do
@@ -184,8 +179,7 @@ unfoldable pub null_test_of : Term → Reader ConditionTree
 null_test_of (term.Column column) tokens = do
   rest ← after_mark m.Null (negation_at tokens).1
   Some (IsNull (negation_at tokens).0 column, rest)
-null_test_of (term.Literal literal) tokens = None
-null_test_of (term.Parameter number) tokens = None
+null_test_of other tokens = None
 
 unfoldable pub between_of : (negated : Bool) → Term → Reader ConditionTree
 between_of negated of tokens = do

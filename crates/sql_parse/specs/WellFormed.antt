@@ -12,11 +12,8 @@ use Rattle.sql_parse.specs.Parameters.{parameters_of_condition, AreNumberedFrom}
 
 -- an operand isn't NULL as a literal
 abbrev pub IsNotNull : Term → Type 0
-IsNotNull (term.Column _) = Unit {0}
 IsNotNull (term.Literal value.Null) = ⊥
-IsNotNull (term.Literal (value.Int _)) = Unit {0}
-IsNotNull (term.Literal (value.Text _)) = Unit {0}
-IsNotNull (term.Parameter _) = Unit {0}
+IsNotNull other = Unit {0}
 
 abbrev pub AreNotNull : List Term → Type 0
 AreNotNull [] = Unit {0}
