@@ -1,5 +1,6 @@
 -- The bound on the work of a run.
 use Rattle.std.proofs.Common.{◌≡◌, ◌∙◌, inl, inr, ℕ, ◌+◌, ◌*◌, ◌<◌, ◌≤◌, ◌++◌, Bool, List, [], ◌∷◌, length, map, true, false, nat_le, if◌then◌else◌, refl, ap, sym, subst, arith}
+use Rattle.std.proofs.lemmas.Grind.{common_steps}
 use Rattle.std.specs.Prelude.{All, Contains}
 use Rattle.std.proofs.Math.Nat.{mul-le-mul_left}
 use Rattle.std.proofs.lemmas.Nat.{mul-le}
@@ -142,9 +143,7 @@ wins rate cost optimal total spent near =
 
 goes-on : (rate cost next optimal here rest : ℕ) → here ≤ rate * cost → next ≡ 2 * cost → rest + rate * next ≤ 4 * rate * optimal
     → here + rest + rate * cost ≤ 4 * rate * optimal
-goes-on rate cost next optimal here rest spent doubled more =
-    let twice : rate * next ≡ rate * (2 * cost) = ap (λ n. rate * n) doubled in
-    omega (arith, spent, twice, more)
+goes-on rate cost next optimal here rest spent doubled more = grind (arith, common_steps)
 
 -- a plan of the contour is within the contour's budget at a point, and the rule never skips it there
 abbrev pub FitsUnskipped : CostingTree → (threshold : ℕ) → (work : PlanTree → ℕ) → (skip : List Member → Member → Bool) → (point : List ℕ) → ContourTree → Type 0

@@ -1,5 +1,6 @@
 -- Compiled bouquets are sound.
-use Rattle.std.proofs.Common.{◌≡◌, ◌∙◌, ℕ, ◌+◌, ◌-◌, ◌*◌, ◌≤◌, List, Contains, length, get_or, ap, sym, subst, arith}
+use Rattle.std.proofs.Common.{◌≡◌, ◌∙◌, ℕ, ◌+◌, ◌-◌, ◌≤◌, List, Contains, length, get_or, ap, sym, subst, arith}
+use Rattle.std.proofs.lemmas.Grind.{common_steps}
 use Rattle.std.proofs.Math.Nat.{mul-le-mul_left}
 use Rattle.ess_grid.specs.Points.{IsPoint}
 use Rattle.plan_tree.specs.Plans.{PlanTree}
@@ -21,10 +22,7 @@ use Rattle.bouquet_type.proofs.SomePlan.{some-plan}
 -- a plan that covers a point within a contour's cost is within the contour's budget there
 pub covered-within : (costing : CostingTree) (threshold cost : ℕ) (p : PlanTree) (other : List ℕ) → CoversAt costing threshold p other → optimal_cost costing other ≤ cost
     → cost_of costing p other ≤ budget_of threshold cost
-covered-within costing threshold cost p other covers within =
-    let most : (100 + threshold) * optimal_cost costing other ≤ (100 + threshold) * cost = mul-le-mul_left (100 + threshold) within in
-    let few : 100 * cost_of costing p other ≤ (100 + threshold) * optimal_cost costing other = grind (arith, covers) in
-    omega (arith, most, few)
+covered-within costing threshold cost p other covers within = grind (arith, common_steps, mul-le-mul_left)
 
 -- a contour with the plans that greedy reduction takes for its frontier has one within its budget
 fits-at : (costing : CostingTree) (threshold : ℕ) (plan : PlanTree) (point : List ℕ) (contour : ContourTree) → IsCosting costing → IsPlan costing.block plan

@@ -1,5 +1,6 @@
 -- Costs of contours that double.
 use Rattle.std.proofs.Common.{◌≡◌, ◌∙◌, ℕ, ◌+◌, ◌-◌, ◌*◌, ◌^◌, ◌≤◌, List, [], ◌∷◌, length, map, ap, sym, arith}
+use Rattle.std.proofs.lemmas.Grind.{common_steps}
 use Rattle.std.specs.List.{range_with_len}
 use Rattle.std.proofs.Math.Nat.{pow-suc}
 use Rattle.ess_grid.specs.Points.{bottom_of}
@@ -47,9 +48,7 @@ doubled-numbered costing number (contour ∷ next ∷ more) some are =
 pub last-numbered : (costing : CostingTree) (number : ℕ) (contours : List ContourTree) → 1 ≤ number → 1 ≤ length contours → AreNumbered costing number contours
     → last_cost contours ≡ contour_cost costing (number + length contours - 1)
 last-numbered costing number [] some long are = absurd (omega (arith, long))
-last-numbered costing number (contour ∷ []) some long are =
-    let place : number ≡ number + 1 - 1 = omega (arith, some) in
-    numbered-first costing number contour [] are ∙ ap (contour_cost costing) place
+last-numbered costing number (contour ∷ []) some long are = grind (arith, common_steps, numbered-first)
 last-numbered costing number (contour ∷ next ∷ more) some long are =
     let rest = numbered-rest costing number contour (next ∷ more) are in
     let place : number + 1 + length (next ∷ more) - 1 ≡ number + length (contour ∷ next ∷ more) - 1 = omega (arith, some) in

@@ -1,5 +1,6 @@
 -- How a run over some members ends.
-use Rattle.std.proofs.Common.{◌≡◌, ◌∙◌, ◌⊎◌, inl, inr, ℕ, ◌+◌, ◌<◌, ◌≤◌, ◌++◌, List, [], ◌∷◌, length, true, false, nat_le, refl, ap, arith}
+use Rattle.std.proofs.Common.{◌≡◌, ◌⊎◌, inl, inr, ℕ, ◌<◌, ◌≤◌, ◌++◌, List, [], ◌∷◌, length, nat_le, refl, ap, arith}
+use Rattle.std.proofs.lemmas.Grind.{common_steps}
 use Rattle.std.specs.Prelude.{All, sum_by}
 use Rattle.std.proofs.lemmas.Bool.{le-leb, lt-leb, cases_lt}
 use Rattle.std.proofs.lemmas.List.Elements.{All-nil, All-cons, All-head, All-tail}
@@ -23,22 +24,13 @@ same-end plan contour total other_total runs other_runs totals counts = λ i. re
 -- they are passed by one after the other
 pub end-passed : (work : PlanTree → ℕ) (before after : List Member) (final : PlanTree) → All (IsPast work) before
     → end_of work (before ++ after) final ≡ end_behind (spent_on before) (length before) (end_of work after final)
-end-passed work [] after final past =
-    let end = end_of work after final in
-    same-end end.plan end.contour end.total (0 + end.total) end.runs (0 + end.runs) (omega arith) (omega arith)
+end-passed work [] after final past = grind (arith, common_steps, same-end)
 end-passed work (member ∷ more) after final past =
-    let over : nat_le (work member.plan) member.budget ≡ false = lt-leb _ _ (All-head (IsPast work) member more past) in
-    let end = end_of work after final in
-    rw over (
-    ap (end_behind member.budget 1) (end-passed work more after final (All-tail (IsPast work) member more past))
-    ∙ same-end end.plan end.contour _ _ _ _ (omega (arith, sum_by-cons (λ (other : Member). other.budget) member more)) (omega arith)
-    )
+    grind (arith, common_steps, nat_le, lt-leb, All-head, All-tail, same-end, sum_by-cons, end-passed work more after final (All-tail (IsPast work) member more past))
 
 pub end-fits : (work : PlanTree → ℕ) (member : Member) (after : List Member) (final : PlanTree) → work member.plan ≤ member.budget
     → end_of work (member ∷ after) final ≡ record { plan = member.plan; total = work member.plan; runs = 1; contour = member.contour }
-end-fits work member after final fits =
-    let within : nat_le (work member.plan) member.budget ≡ true = le-leb _ _ fits in
-    rw within refl
+end-fits work member after final fits = grind (arith, common_steps, nat_le, le-leb)
 
 -- the first member that fits, with what stands before and after it; or none fits
 pub first-fits : (work : PlanTree → ℕ) (members : List Member)

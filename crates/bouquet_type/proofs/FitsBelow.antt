@@ -1,7 +1,8 @@
 -- From the points of a contour's frontier to all points within its cost.
 use Rattle.std.proofs.Common.{◌≡◌, ℕ, ◌≤◌, List, Contains, true, arith}
+use Rattle.std.proofs.lemmas.Grind.{common_steps}
 use Rattle.std.proofs.lemmas.List.Elements.{filter_passes, All-contains}
-use Rattle.ess_grid.specs.Points.{IsGrid, IsPoint, points_of}
+use Rattle.ess_grid.specs.Points.{IsGrid, IsPoint}
 use Rattle.cost_model.specs.Costing.{CostingTree}
 use Rattle.cost_model.specs.Optimal.{optimal_cost}
 use Rattle.cost_model.specs.Frontier.{is_on_frontier, frontier}
@@ -16,9 +17,7 @@ within-passes costing cost point passes = grind (arith, passes)
 
 pub frontier-within : (costing : CostingTree) (cost : ℕ) (point : List ℕ) → Contains (frontier costing cost) point → optimal_cost costing point ≤ cost
 unfolding frontier
-frontier-within costing cost point is =
-    let on = filter_passes (is_on_frontier costing cost) (points_of costing.grid) in
-    within-passes costing cost point (All-contains (λ other. is_on_frontier costing cost other ≡ true) (frontier costing cost) point on is)
+frontier-within costing cost point is = grind (arith, common_steps, filter_passes, within-passes, All-contains)
 
 -- costs grow, and above each point within the contour's cost lies one of its frontier: where some plan fits at each of these,
 -- one fits at each point within the cost

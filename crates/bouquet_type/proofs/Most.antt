@@ -1,5 +1,6 @@
 -- The most plans of some contours.
-use Rattle.std.proofs.Common.{◌≡◌, ℕ, zero, suc, ◌+◌, ◌<◌, ◌≤◌, max, List, [], ◌∷◌, length, map, drop, slice_index_or, refl, ap, arith, add-one}
+use Rattle.std.proofs.Common.{◌≡◌, ℕ, zero, suc, ◌+◌, ◌<◌, ◌≤◌, max, List, [], ◌∷◌, length, map, drop, slice_index_or, refl, arith, add-one}
+use Rattle.std.proofs.lemmas.Grind.{common_steps}
 use Rattle.std.proofs.lemmas.List.{length-map}
 use Rattle.std.proofs.lemmas.List.Elements.{All-head, All-tail}
 use Rattle.std.specs.Prelude.{All}
@@ -18,9 +19,7 @@ pub most_from-next : (place : ℕ) (contours : List Contour) (contour : Contour)
     → most_from place contours ≡ max (length contour.plans.items) (most_from (place + 1) contours)
 most_from-next zero [] contour there at = absurd (omega (arith, there))
 most_from-next (suc place) [] contour there at = absurd (omega (arith, there))
-most_from-next zero (first ∷ more) contour there at =
-    let same : contour ≡ first = at in
-    rw same (ap (λ n. max n (most_plans (map contour_tree more))) (length-map first.plans.items plan_tree))
+most_from-next zero (first ∷ more) contour there at = grind (arith, common_steps, length-map)
 most_from-next (suc place) (first ∷ more) contour there at =
     rw add-one (rw add-one at (most_from-next place more contour (omega (arith, there)) at))
 
@@ -33,9 +32,7 @@ most_from-end (suc place) (first ∷ more) past = most_from-end place more (omeg
 -- there are some on each contour, and not too many
 pub most-some : (block : BlockTree) (contours : List Contour) → 1 ≤ length contours → All (IsContour block) contours → 1 ≤ most_plans (map contour_tree contours)
 most-some block [] some are = absurd (omega (arith, some))
-most-some block (first ∷ more) some are =
-    let here = All-head (IsContour block) first more are in
-    omega (arith, here.some, length-map first.plans.items plan_tree)
+most-some block (first ∷ more) some are = grind (arith, common_steps, All-head, length-map)
 
 pub most-few : (block : BlockTree) (contours : List Contour) → All (IsContour block) contours → most_plans (map contour_tree contours) ≤ max_points
 most-few block [] are = omega arith

@@ -1,12 +1,13 @@
 -- From one execution of a schedule to the next.
-use Rattle.std.proofs.Common.{◌≡◌, ◌∙◌, ℕ, zero, suc, ◌+◌, ◌-◌, ◌<◌, ◌≤◌, ◌++◌, List, [], ◌∷◌, drop, length, slice_index_or, refl, ap, sym, subst, arith}
+use Rattle.std.proofs.Common.{◌≡◌, ◌∙◌, ℕ, zero, suc, ◌+◌, ◌<◌, ◌≤◌, ◌++◌, List, [], ◌∷◌, drop, length, slice_index_or, refl, ap, sym, subst, arith}
+use Rattle.std.proofs.lemmas.Grind.{common_steps}
 use Rattle.std.specs.Prelude.{All, Option, Some, None}
 use Rattle.std.proofs.lemmas.List.{drop_all, drop_more}
 use Rattle.std.proofs.lemmas.List.Elements.{All-head, All-tail}
 use Rattle.plan_tree.specs.Plans.{PlanTree, Scan}
 use Rattle.bouquet_type.specs.Trees.{BouquetTree, ContourTree}
 use Rattle.bouquet_type.specs.Budgets.{budget_of}
-use Rattle.bouquet_type.specs.Schedule.{Member, final_of, final_plan, last_plan, members_on, members_from, schedule}
+use Rattle.bouquet_type.specs.Schedule.{Member, final_plan, last_plan, members_on, members_from, schedule}
 use Rattle.bouquet_type.specs.Ladders.{AreTried, LadderState, IsLadder, StandsAtFoot, foot_of}
 use Rattle.bouquet_type.proofs.Climbing.{few-members}
 use Rattle.bouquet_type.specs.Cursor.{AttemptTree, ScheduleState, IsSchedule, IsWholeSchedule, StandsAtFirst, TakesNext, first_attempt, members_behind, members_left}
@@ -37,7 +38,7 @@ at-none left s none = subst (λ members. StandsAtFirst members s) (sym none) tt
 -- the next plan of the contour at hand
 pub next-plan : (ladder : LadderState) (given number : ℕ) (budget : Option ℕ) → IsSchedule (schedule_at ladder given budget number) → given < length ladder.hand.plans
     → TakesNext (schedule_at ladder given budget number) (schedule_at ladder (given + 1) budget number)
-next-plan ladder given number None is more = absurd (omega (arith, more, is.ended.1))
+next-plan ladder given number None is more = absurd (omega (arith, more, (is.ended refl).1))
 next-plan ladder given number (Some budget) is more =
     let plans = ladder.hand.plans in
     let plan = slice_index_or plans given (Scan 0) in
@@ -48,7 +49,7 @@ next-plan ladder given number (Some budget) is more =
     ap (λ left. members_on budget number cost (given + 1) left ++ later) (drop_more plans given (Scan 0) more) in
     record {
       at = record {
-        is = record { ladder = is.ladder; given = omega (arith, more); few = is.few; ended = tt };
+        is = record { ladder = is.ladder; given = omega (arith, more); few = is.few; ended = λ none. cc };
         some = omega arith;
       };
       step = ap (λ place. attempt_of (Some budget) number (slice_index_or plans place (Scan 0))) (omega arith)
@@ -61,9 +62,7 @@ next-plan ladder given number (Some budget) is more =
 -- no plan of the contour at hand is left
 all-given : (ladder : LadderState) (given number budget : ℕ) → given ≡ length ladder.hand.plans
     → members_left (schedule_at ladder given (Some budget) number) ≡ members_from ladder.whole.threshold (number + 1) ladder.ahead
-all-given ladder given number budget all =
-    ap (λ left. members_on budget number ladder.hand.cost (given + 1) left ++ members_from ladder.whole.threshold (number + 1) ladder.ahead)
-    (drop_all given ladder.hand.plans (omega (arith, all)))
+all-given ladder given number budget all = grind (arith, common_steps, drop_all)
 
 -- the first plan of the next contour
 first-of : (plans : List PlanTree) → 1 ≤ length plans → plans ≡ slice_index_or plans 0 (Scan 0) ∷ drop 1 plans
@@ -73,7 +72,7 @@ first-of (p ∷ more) some = refl
 pub next-contour : (old new : LadderState) (given number cap : ℕ) (budget : Option ℕ) → IsSchedule (schedule_at old given budget number) → given ≡ length old.hand.plans → IsLadder new
     → new.whole ≡ old.whole → old.ahead ≡ new.hand ∷ new.ahead → cap ≡ budget_of new.whole.threshold new.hand.cost
     → TakesNext (schedule_at old given budget number) (schedule_at new 1 (Some cap) (number + 1))
-next-contour old new given number cap None is all climbed whole ahead cap_is = absurd (omega (arith, ap length ahead, ap length is.ended.0))
+next-contour old new given number cap None is all climbed whole ahead cap_is = absurd (omega (arith, ap length ahead, ap length (is.ended refl).0))
 next-contour old new given number cap (Some budget) is all climbed whole ahead cap_is =
     let HasPlan : ContourTree → Type 0 = λ contour. 1 ≤ length contour.plans in
     let some = All-head HasPlan new.hand new.ahead (subst (All HasPlan) ahead is.ladder.some) in
@@ -90,7 +89,7 @@ next-contour old new given number cap (Some budget) is all climbed whole ahead c
     ∙ ap (λ left. members_on cap (number + 1) cost 1 left ++ later) (first-of plans some) in
     record {
       at = record {
-        is = record { ladder = climbed; given = some; few = omega (arith, is.few, ap length ahead); ended = tt };
+        is = record { ladder = climbed; given = some; few = omega (arith, is.few, ap length ahead); ended = λ none. cc };
         some = omega arith;
       };
       step = sym (ap (λ left. first_attempt left (final_plan old.whole)) members);
@@ -109,21 +108,7 @@ no-members ladder given number (Some budget) all none =
 pub next-last : (ladder : LadderState) (given number : ℕ) (budget : Option ℕ) → IsSchedule (schedule_at ladder given budget number) → given ≡ length ladder.hand.plans → ladder.ahead ≡ []
     → TakesNext (schedule_at ladder given budget number) (schedule_at ladder given None number)
 next-last ladder given number budget is all none =
-    let plans = ladder.hand.plans in
-    let some = is.ladder.last none in
-    let members = no-members ladder given number budget all none in
-    let final : final_plan ladder.whole ≡ last_plan plans = is.ladder.final ∙ ap (λ ahead. final_of (ladder.hand ∷ ahead)) none in
-    record {
-      at = record {
-        is = record { ladder = is.ladder; given = is.given; few = is.few; ended = (none, all) };
-        some = omega (arith, all, some);
-      };
-      step = ap (attempt_of None 0) (ap (λ place. slice_index_or plans (place - 1) (Scan 0)) all ∙ last-placed plans (length plans - 1) (omega (arith, some)) ∙ sym final)
-          ∙ sym (ap (λ left. first_attempt left (final_plan ladder.whole)) members);
-      first = at-none (members_left (schedule_at ladder given budget number)) (schedule_at ladder given None number) members;
-      left = sym (ap members_behind members);
-      whole = refl;
-    }
+    grind (arith, common_steps, no-members, slice_index_or, last-placed, at-none)
 
 -- the whole schedule, at the foot
 members-at-foot : (bouquet : BouquetTree) (ladder : LadderState) → ladder ≡ foot_of bouquet → members_left (schedule_at ladder 0 (Some 0) 0) ≡ schedule bouquet
@@ -137,7 +122,7 @@ foot-schedule ladder at =
     let few = few-members whole.costing.block whole.threshold 1 ladder.ahead (All-tail (AreTried whole.costing.block) ladder.hand ladder.ahead at.ladder.tried) in
     let count : length (schedule whole) ≡ length (members_from whole.threshold 1 ladder.ahead) = ap (λ contours. length (members_from whole.threshold 1 contours)) ahead in
     record {
-      is = record { ladder = at.ladder; given = omega arith; few = omega (arith, at.ladder.few); ended = tt };
+      is = record { ladder = at.ladder; given = omega arith; few = omega (arith, at.ladder.few); ended = λ none. cc };
       members = members;
       few = omega (arith, few, count, ap length members, at.ladder.few);
       whole = refl;

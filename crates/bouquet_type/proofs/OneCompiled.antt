@@ -1,11 +1,12 @@
 -- A compiled bouquet of at most 128 contours is `compiled`.
-use Rattle.std.proofs.Common.{◌≡◌, ◌∙◌, ℕ, ◌+◌, ◌-◌, ◌^◌, ◌<◌, ◌≤◌, nat_lt, zero, suc, Bool, true, false, cond, List, [], ◌∷◌, All, length, map, refl, ap, ap₂, sym, arith}
+use Rattle.std.proofs.Common.{◌≡◌, ◌∙◌, ℕ, ◌+◌, ◌-◌, ◌<◌, ◌≤◌, nat_lt, zero, suc, Bool, true, false, cond, List, [], ◌∷◌, All, length, map, refl, ap, ap₂, sym, arith}
+use Rattle.std.proofs.lemmas.Grind.{common_steps}
 use Rattle.std.specs.List.{count_by, range_with_len}
 use Rattle.std.proofs.lemmas.List.Sums.{sum_by-cons}
 use Rattle.std.proofs.lemmas.List.Elements.{All-head, All-tail}
 use Rattle.std.proofs.Math.Nat.{mul-le-mul_left}
 use Rattle.std.proofs.Math.Pow.{pow_mono}
-use Rattle.ess_grid.specs.Points.{bottom_of, top_of}
+use Rattle.ess_grid.specs.Points.{top_of}
 use Rattle.plan_tree.specs.Plans.{PlanTree}
 use Rattle.cost_model.specs.Costing.{CostingTree}
 use Rattle.cost_model.specs.Optimal.{optimal_cost}
@@ -30,9 +31,7 @@ counted test from (suc few) (suc count) within passes stops =
 
 -- contour costs never fall
 cost-rises : (costing : CostingTree) (number later : ℕ) → number ≤ later → contour_cost costing number ≤ contour_cost costing later
-cost-rises costing number later before =
-    let power : 2 ^ (number - 1) ≤ 2 ^ (later - 1) = pow_mono (omega (arith, before)) in
-    mul-le-mul_left (optimal_cost costing (bottom_of costing.grid)) power
+cost-rises costing number later before = grind (arith, common_steps, pow_mono, mul-le-mul_left)
 
 -- a compiled bouquet has as many contours as are needed
 count-compiled : (bouquet : BouquetTree) → IsCompiled bouquet → length bouquet.contours ≤ 128 → contour_count bouquet.costing ≡ length bouquet.contours

@@ -53,17 +53,12 @@ attempt_at s = record {
   contour = option_map_or (λ _. s.number) s.budget 0;
 }
 
--- without a budget the last plan of the last contour was given
-abbrev pub IsAtLast : Option ℕ → ScheduleState → Type 0
-IsAtLast None s = (s.ladder.ahead ≡ []) × (s.given ≡ length s.ladder.hand.plans)
-IsAtLast (Some budget) s = ⊤
-
--- what always holds of a schedule
+-- what always holds of a schedule: without a budget the last plan of the last contour was given
 pub record IsSchedule (s : ScheduleState) : Type 0 where
   pub ladder : IsLadder s.ladder
   pub given : s.given ≤ length s.ladder.hand.plans
   pub few : s.number + length s.ladder.ahead ≤ max_contours
-  pub ended : IsAtLast s.budget s
+  pub ended : s.budget ≡ None → (s.ladder.ahead ≡ []) × (s.given ≡ length s.ladder.hand.plans)
 
 -- and it stands at an execution
 pub record IsAtAttempt (s : ScheduleState) : Type 0 where

@@ -20,9 +20,8 @@ last_cost (contour ∷ next ∷ more) = last_cost (next ∷ more)
 
 -- each cost is twice the one before
 abbrev pub AreDoubled : List ContourTree → Type 0
-AreDoubled [] = Unit {0}
-AreDoubled (contour ∷ []) = Unit {0}
 AreDoubled (contour ∷ next ∷ more) = (next.cost ≡ 2 * contour.cost) × AreDoubled (next ∷ more)
+AreDoubled contours = Unit {0}
 
 -- some plan of the contour is within the contour's budget at a point
 abbrev pub FitsAt : CostingTree → (threshold : ℕ) → (point : List ℕ) → ContourTree → Type 0

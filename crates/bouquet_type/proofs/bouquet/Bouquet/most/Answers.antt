@@ -4,9 +4,7 @@ use Rattle.bouquet_type.proofs.Most.{most_from-next, most_from-end, most-some, m
 use Rattle.bouquet_type.proofs.bouquet.Bouquet.most.Goals as goal
 
 pub loop-contour-preserved : goal.loop-contour-preserved
-loop-contour-preserved c =
-    let next = most_from-next c.loop-contour.contour-index c.contours-contour-items.result.now c.contour-item.result c.loop-contour-test.true c.contour-item.is in
-    grind (arith, common_steps, next)
+loop-contour-preserved c = grind (arith, common_steps, most_from-next, common_steps)
 
 pub returns-clause-some : goal.returns-clause-some
 returns-clause-some c =

@@ -1,9 +1,10 @@
-use Rattle.std.proofs.Common.{◌≡◌, true, false, subst, sym}
-use Rattle.std.specs.Prelude.{Ok, Bool, None}
+use Rattle.std.proofs.Common.{◌≡◌, true, subst, arith}
+use Rattle.std.proofs.lemmas.Grind.{common_steps}
+use Rattle.std.specs.Prelude.{Ok, Bool}
 use Rattle.std.specs.declared.alloc.AllocError.{AllocError}
-use Rattle.bouquet_type.specs.Cursor.{TakesNext, schedule_of}
+use Rattle.bouquet_type.specs.Cursor.{schedule_of}
 use Rattle.bouquet_type.specs.Budgets.{budget_of}
-use Rattle.bouquet_type.specs.Ladders.{Climbs, LadderState}
+use Rattle.bouquet_type.specs.Ladders.{Climbs}
 use Rattle.bouquet_type.proofs.NextAttempt.{next-contour, next-last, schedule_at}
 use Rattle.bouquet_type.proofs.schedule.Schedule.climb.Goals as goal
 
@@ -16,8 +17,4 @@ returns-then-branch-clause-goes_on g c =
     next-contour old.ladder new old.given old.number c.budget_on.result old.budget c.requires.is c.requires.given c.in_ok-climb.ensures.ladder climbs.0 climbs.1 cap
 
 pub returns-else-branch-clause-goes_on : goal.returns-else-branch-clause-goes_on
-returns-else-branch-clause-goes_on g c =
-    let old = schedule_of g.L.Ladder.state c.args.self.now in
-    let new = g.L.Ladder.state c.climb.new.self in
-    let climbs : Climbs {E = AllocError} old.ladder new (Ok false) = subst (λ (b : Bool). Climbs {E = AllocError} old.ladder new (Ok b)) c.if-branch.false c.in_ok-climb.ensures.climbs in
-    subst (λ (ladder : LadderState). TakesNext old (schedule_at ladder old.given None old.number)) (sym climbs.1) (next-last old.ladder old.given old.number old.budget c.requires.is c.requires.given climbs.0)
+returns-else-branch-clause-goes_on g c = grind (arith, common_steps, schedule_at, next-last)
