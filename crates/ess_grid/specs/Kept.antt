@@ -1,9 +1,7 @@
--- How points and grids are kept.
-use Rattle.std.specs.Prelude.{◌≡◌, ℕ, ◌-◌, ◌^◌, ◌≤◌, List, ◌++◌, length, take, drop, replicate}
+-- How points are kept.
+use Rattle.std.specs.Prelude.{◌≡◌, ℕ, ◌-◌, ◌≤◌, List, ◌++◌, length, take, drop, replicate}
 use Rattle.std.proofs.Common.{sym, ap, ◌∙◌, arith, take-append-drop, length-take-le}
 use Rattle.sql_values.specs.Limits.{max_axes}
-use Rattle.ess_grid.specs.Levels.{step_of}
-use Rattle.ess_grid.specs.Points.{GridShape, IsGrid}
 
 -- a point's levels stand in an array with a place for each axis that a grid may have; the places past its axes are 0
 pub record IsPadded (axes : ℕ) (levels : List ℕ) : Type 0 where
@@ -25,9 +23,3 @@ padded-take axes levels is_padded =
     ap (λ n. take axes levels ++ replicate (max_axes - n) 0) (length-take axes levels is_padded)
     ∙ ap (λ rest. take axes levels ++ rest) (sym is_padded.zeros)
     ∙ take-append-drop axes levels
-
--- beside its axes and levels a grid keeps two numbers that follow from them
-pub record IsWorkedOut (grid : GridShape) (step points : ℕ) : Type 0 where
-  pub is_grid : IsGrid grid
-  pub step_is : step ≡ step_of grid.levels
-  pub points_are : points ≡ grid.levels ^ grid.axes

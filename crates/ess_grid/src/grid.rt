@@ -24,18 +24,17 @@ pub struct Grid {
 }
 
 impl Model for Grid {
-    ghost use Rattle.std.specs.Prelude.{◌^◌};
+    ghost use Rattle.std.specs.Prelude.{◌≡◌, ◌^◌};
     ghost use Rattle.std.proofs.Common.{sym};
     ghost use Rattle.ess_grid.specs.Levels.{step_of};
-    ghost use Rattle.ess_grid.specs.Points.{GridShape};
-    ghost use Rattle.ess_grid.specs.Kept.{IsWorkedOut};
+    ghost use Rattle.ess_grid.specs.Points.{GridShape, IsGrid};
 
     ghost Value = { GridShape };
 
     ghost view = { λ g. record { axes = g.axes; levels = g.levels } };
 
-    ghost invariant = { λ g.
-        IsWorkedOut (record { axes = g.axes; levels = g.levels }) g.step g.points };
+    ghost invariant = { λ g. IsGrid (record { axes = g.axes; levels = g.levels })
+        × (g.step ≡ step_of g.levels) × (g.points ≡ g.levels ^ g.axes) };
 
     ghost inverse = { λ grid. record {
       axes = grid.axes;
@@ -47,8 +46,8 @@ impl Model for Grid {
     ghost inverse_ok = { λ g h i. record {
       axes = g.axes;
       levels = g.levels;
-      step = sym h.step_is i;
-      points = sym h.points_are i;
+      step = sym h.1 i;
+      points = sym h.2 i;
     } };
 }
 
