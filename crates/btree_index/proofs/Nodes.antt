@@ -1,5 +1,6 @@
 -- What a search in the nodes of a tree finds.
 use Rattle.std.proofs.Common.{◌≡◌, ℕ, zero, suc, ◌+◌, ◌-◌, ◌*◌, ◌/◌, ◌<◌, ◌≤◌, ◌∙◌, List, length, take, drop, map, refl, sym, ap, subst, arith, get_or, min}
+use Rattle.std.proofs.lemmas.Grind.{common_steps}
 use Rattle.std.specs.Prelude.{ℤ, Bool, true, false, if◌then◌else◌}
 use Rattle.std.specs.List.{AllWithin}
 use Rattle.std.specs.List.Sorted.{IsPartitionPoint, IsPartitionedBy}
@@ -7,7 +8,6 @@ use Rattle.std.proofs.Math.Logic.{⊎_elim}
 use Rattle.std.proofs.Math.Nat.{mul-le-mul_right}
 use Rattle.std.proofs.lemmas.Bool.{both_ways, cases_lt, cases_Bool}
 use Rattle.std.proofs.lemmas.List.{get_or_default, get_or-map, length-map}
-use borrow.Author.Count.{below_more}
 use Rattle.btree_index.specs.Entries.{IndexEntry}
 use Rattle.btree_index.specs.Nodes.{node_count, AreLastWords, AreLevels, IsAround, IsCounted, IsTree, entry_word}
 use Rattle.btree_index.proofs.Height.{height_some}
@@ -15,20 +15,12 @@ use Rattle.btree_index.proofs.Height.{height_some}
 -- one more place is counted where it passes, and so did all before it
 pub counted_pass : (passes : ℕ → Bool) (below count : ℕ) → ((i : ℕ) → i ≤ count → passes i ≡ true)
     → IsCounted passes below count → IsCounted passes (below + 1) (count + 1)
-counted_pass passes below count rising so = record {
-  most = omega (arith, so.most);
-  before = λ i l. rising i (omega (arith, so.most));
-  behind = λ i l m. absurd (both_ways (passes below) (so.behind below (omega arith) (omega arith)) (rising below so.most));
-}
+counted_pass passes below count rising so = grind (arith, common_steps, both_ways)
 
 -- and no more where it fails
 pub counted_fail : (passes : ℕ → Bool) (below count : ℕ) → passes count ≡ false
     → IsCounted passes below count → IsCounted passes below (count + 1)
-counted_fail passes below count here so = record {
-  most = omega (arith, so.most);
-  before = so.before;
-  behind = λ i l m. below_more (λ k. below ≤ k → passes k ≡ false) count (λ k n o. so.behind k o n) (λ _. here) i m l;
-}
+counted_fail passes below count here so = grind (arith, common_steps)
 
 -- what a test says of an element, it says at each default
 pub at_default : {A : Type 0} (p : A → Bool) (xs : List A) (k : ℕ) (d e : A) (b : Bool) → k < length xs
@@ -86,11 +78,7 @@ around_node p words above node last rising point there =
 
 -- the words of the level above rise as those below
 pub rising_above : (p : ℤ → Bool) (words above : List ℤ) → AreLastWords words above → IsPartitionedBy p words → IsPartitionedBy p above
-rising_above p words above last rising i j d l m passes =
-    let count = last.count in
-    subst (λ w. p w ≡ true) (sym (last.each i d (omega arith)))
-    (rising (min (i * 64 + 63) (length words - 1)) (min (j * 64 + 63) (length words - 1)) d (omega arith) (omega arith)
-    (subst (λ w. p w ≡ true) (last.each j d m) passes))
+rising_above p words above last rising i j d l m passes = grind (arith, common_steps)
 
 -- what is known of the words of entries is known of the entries
 pub around_mapped : {A B : Type 0} (f : A → B) (p : B → Bool) (xs : List A) (node : ℕ) (e : B) → IsAround p (map f xs) node → IsAround (λ x. p (f x)) xs node

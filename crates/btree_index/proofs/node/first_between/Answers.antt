@@ -1,4 +1,5 @@
 use Rattle.std.proofs.Common.{◌≡◌, ◌+◌, ◌-◌, ◌*◌, ◌/◌, ◌<◌, ◌≤◌, ℤ, get_or, subst, arith, rules, to_z, of_z, w64}
+use Rattle.std.proofs.lemmas.Grind.{common_steps}
 use Rattle.std.proofs.Math.Nat.{div-mul-le_self, lt-div-mul-add, mul-le-mul_right}
 use Rattle.std.specs.List.Sorted.{IsPartitionPoint}
 use Rattle.std.specs.Prelude.{Bool, true, false}
@@ -7,16 +8,10 @@ use Rattle.btree_index.proofs.Nodes.{IsSearched, point_between}
 use Rattle.btree_index.proofs.node.first_between.Goals as goal
 
 pub overflow_mul-line : goal.overflow_mul-line
-overflow_mul-line g c =
-    let wide = c.args.line_items in
-    let most = mul-le-mul_right wide c.count_below-line.ensures.most in
-    let less = div-mul-le_self c.saturating_sub.result wide in search rules
+overflow_mul-line g c = grind (arith, common_steps, mul-le-mul_right, div-mul-le_self)
 
 pub overflow_add-begin-2 : goal.overflow_add-begin-2
-overflow_add-begin-2 g c =
-    let wide = c.args.line_items in
-    let most = mul-le-mul_right wide c.count_below-line.ensures.most in
-    let less = div-mul-le_self c.saturating_sub.result wide in search rules
+overflow_add-begin-2 g c = grind (arith, common_steps, mul-le-mul_right, div-mul-le_self)
 
 pub returns-clause-first : goal.returns-clause-first
 returns-clause-first g c =

@@ -1,4 +1,5 @@
-use Rattle.std.proofs.Common.{pos, map, subst, sym, to_z, of_z, w64}
+use Rattle.std.proofs.Common.{pos, map, subst, sym, to_z, of_z, w64, arith}
+use Rattle.std.proofs.lemmas.Grind.{common_steps}
 use Rattle.std.specs.Prelude.{ℤ}
 use Rattle.std.specs.List.Sorted.{IsPartitionedBy}
 use Rattle.btree_index.specs.Nodes.{entry_word, is_below, is_entry_below}
@@ -12,10 +13,7 @@ first_in_node-requires-clause-rising c =
     subst (λ xs. IsPartitionedBy (is_entry_below word) xs) (sym c.as_slice-entries.ensures.value) (entries_rise c.self.inside.entries.items word c.self.invariant.in_order)
 
 pub first_of-leaf-requires-clause-levels : goal.first_of-leaf-requires-clause-levels
-first_of-leaf-requires-clause-levels c =
-    (level_above_leaves c.self.inside.entries.items c.as_slice-entries.result.now c.self.inside.inner.items c.deref.result.now
-    c.split_at.result.0.now c.split_at.result.1.now c.self.inside.height c.div_ceil.result c.self.invariant c.as_slice-entries.ensures.value
-    c.deref.ensures.value c.if-self-eq1.false c.div_ceil.ensures c.split_at.ensures.front c.split_at.ensures.back).1
+first_of-leaf-requires-clause-levels c = grind (arith, common_steps, level_above_leaves)
 
 pub first_of-leaf-requires-clause-rising : goal.first_of-leaf-requires-clause-rising
 first_of-leaf-requires-clause-rising c =
