@@ -2,7 +2,7 @@
 use Rattle.std.proofs.Common.{◌≡◌, inl, inr, ℕ, suc, ◌<◌, List, [], ◌∷◌, ◌++◌, length, refl, sym, ap, ap₂, ◌∙◌, arith}
 use Rattle.std.proofs.lemmas.Grind.{common_steps}
 use Rattle.std.specs.Prelude.{slice_index_or}
-use Rattle.std.specs.List.{range_with_len}
+use Rattle.std.specs.List.{range_with_len, flat_map}
 use Rattle.std.specs.Ordering.{nat_cmp, ordering_then}
 use Rattle.std.specs.Cmp.{tied_itself}
 use Rattle.std.specs.Cmp.Lexicographic.{slice_cmp}
@@ -13,7 +13,7 @@ use Rattle.query_block.specs.Blocks.{BlockTree, relation_at}
 use Rattle.plan_tree.specs.declared.roots.Root.{Root}
 use Rattle.plan_tree.specs.declared.roots.Root.TheVariants as root
 use Rattle.plan_tree.specs.Roots.{root_numbers, stands}
-use Rattle.plan_tree.specs.AllPlans.{by_each, one_each, end_of_columns, scans_of, column_scans, index_scans_of, nests_of, joins_by, index_loop_by, roots_of}
+use Rattle.plan_tree.specs.AllPlans.{one_each, end_of_columns, scans_of, column_scans, index_scans_of, nests_of, joins_by, index_loop_by, roots_of}
 use Rattle.plan_tree.proofs.Members.{IsIn, of-either}
 use Rattle.plan_tree.proofs.Ascending.{Ascends, AllBefore, between, ascending-both, ascending-filter, ascending-flat, ascending-range}
 use Rattle.plan_tree.proofs.RootLists.{tried_nodes, of-each, of-one, of-one_each, hashes, merges, index_loops, until_index_scans, until_nests, until_hashes, until_merges}
@@ -30,7 +30,7 @@ then-less x xs ys less = ap (λ o. ordering_then o (slice_cmp nat_cmp xs ys)) (t
 -- ---- by each number below an end
 
 ascending-each : (nodes : ℕ → List Root) (end : ℕ) → ((i : ℕ) → Ascends IsEarlier (nodes i))
-    → ((i j : ℕ) → i < j → AllBefore IsEarlier (nodes i) (nodes j)) → Ascends IsEarlier (by_each nodes end)
+    → ((i j : ℕ) → i < j → AllBefore IsEarlier (nodes i) (nodes j)) → Ascends IsEarlier (flat_map nodes (range_with_len 0 end))
 ascending-each nodes end each apart =
     ascending-flat (λ i j. i < j) IsEarlier nodes (range_with_len 0 end) (ascending-range 0 end)
     (λ i is. each i) (λ i j is is' less. apart i j less)

@@ -1,7 +1,7 @@
 -- The list of a set's outermost nodes has each node that may stand over the set, and no other.
 use Rattle.std.proofs.Common.{◌≡◌, ◌↔◌, inl, inr, ℕ, ◌+◌, ◌-◌, ◌^◌, ◌<◌, Bool, true, false, ◌&&◌, List, [], ◌∷◌, ◌++◌, IsTrue, filter, length, bit_and, nat_eq, nat_le, nat_lt, refl, sym, ap, subst, ◌∙◌, if◌then◌else◌, arith}
 use Rattle.std.proofs.lemmas.Grind.{common_steps}
-use Rattle.std.specs.List.{list_any, range_with_len}
+use Rattle.std.specs.List.{list_any, range_with_len, flat_map}
 use Rattle.std.proofs.lemmas.Bool.{and_parts, and_from, eqb-true, eq-eqb, leb-true, le-leb, ltb-true, lt-ltb}
 use Rattle.std.proofs.lemmas.List.{append_assoc}
 use Rattle.std.proofs.lemmas.List.Elements.{filter-append}
@@ -12,7 +12,7 @@ use Rattle.plan_tree.specs.declared.roots.Root.TheVariants as root
 use Rattle.plan_tree.specs.Enumerated.{edge_at, is_indexed, IsScannable, column_on, has_usable}
 use Rattle.plan_tree.specs.Sets.{set_of, is_between}
 use Rattle.plan_tree.specs.Roots.{IsSplit, IsCrossed, IsLookedUp, Stands, is_split, is_joined, stands}
-use Rattle.plan_tree.specs.AllPlans.{by_each, one_each, end_of_columns, far_end, scans_of, column_scans, index_scans_of, nests_of, joins_by, index_loop_by, standing, roots_of}
+use Rattle.plan_tree.specs.AllPlans.{one_each, end_of_columns, far_end, scans_of, column_scans, index_scans_of, nests_of, joins_by, index_loop_by, standing, roots_of}
 use Rattle.plan_tree.proofs.Bits.{relation-alone}
 use Rattle.plan_tree.proofs.RangeLists.{pieces-more}
 use Rattle.plan_tree.proofs.Members.{IsIn, in-left, in-right, of-flat, in-flat, in-range, of-range, in-filter, of-filter}
@@ -119,10 +119,10 @@ module _ (block : BlockTree) where
 
 -- ---- by each number below an end
 
-pub of-each : (nodes : ℕ → List Root) (end : ℕ) (node : Root) → IsIn node (by_each nodes end) → (i : ℕ) × (i < end) × IsIn node (nodes i)
+pub of-each : (nodes : ℕ → List Root) (end : ℕ) (node : Root) → IsIn node (flat_map nodes (range_with_len 0 end)) → (i : ℕ) × (i < end) × IsIn node (nodes i)
 of-each nodes end node is = grind (arith, common_steps, of-flat, of-range)
 
-in-each : (nodes : ℕ → List Root) (end i : ℕ) (node : Root) → i < end → IsIn node (nodes i) → IsIn node (by_each nodes end)
+in-each : (nodes : ℕ → List Root) (end i : ℕ) (node : Root) → i < end → IsIn node (nodes i) → IsIn node (flat_map nodes (range_with_len 0 end))
 in-each nodes end i node below is = in-flat nodes i node (range_with_len 0 end) (in-range i 0 end (omega arith) (omega (arith, below))) is
 
 in-one_each : (make : ℕ → Root) (end i : ℕ) → i < end → IsIn (make i) (one_each make end)
@@ -242,12 +242,12 @@ module _ (block : BlockTree) (set : ℕ) where
 
   -- one more piece
   pub each-more : (nodes : ℕ → List Root) (before now next : List Root) (n : ℕ)
-      → now ≡ before ++ standing block set (by_each nodes n) → next ≡ now ++ standing block set (nodes n)
-      → next ≡ before ++ standing block set (by_each nodes (n + 1))
+      → now ≡ before ++ standing block set (flat_map nodes (range_with_len 0 n)) → next ≡ now ++ standing block set (nodes n)
+      → next ≡ before ++ standing block set (flat_map nodes (range_with_len 0 (n + 1)))
   each-more nodes before now next n so is =
       let test = stands block set in
-      is ∙ ap (λ (xs : List Root). xs ++ filter test (nodes n)) so ∙ append_assoc before (filter test (by_each nodes n)) (filter test (nodes n))
-      ∙ ap (λ (xs : List Root). before ++ xs) (sym (filter-append test (by_each nodes n) (nodes n)) ∙ ap (filter test) (pieces-more nodes n))
+      is ∙ ap (λ (xs : List Root). xs ++ filter test (nodes n)) so ∙ append_assoc before (filter test (flat_map nodes (range_with_len 0 n))) (filter test (nodes n))
+      ∙ ap (λ (xs : List Root). before ++ xs) (sym (filter-append test (flat_map nodes (range_with_len 0 n)) (nodes n)) ∙ ap (filter test) (pieces-more nodes n))
 
   -- one more node
   pub one-more : (make : ℕ → Root) (before now next : List Root) (node : Root) (n : ℕ)

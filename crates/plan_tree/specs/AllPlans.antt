@@ -20,13 +20,9 @@ end_of_columns (column ∷ more) = max (column + 1) (end_of_columns more)
 abbrev pub far_end : Edge → (left : RelationSet) → ℕ
 far_end edge left = if left edge.left then edge.right else edge.left
 
--- nodes for each number below an end, one after another
-abbrev pub by_each : (ℕ → List Root) → (end : ℕ) → List Root
-by_each nodes end = flat_map nodes (range_with_len 0 end)
-
 -- a node for each number below an end
 abbrev pub one_each : (ℕ → Root) → (end : ℕ) → List Root
-one_each node end = by_each (λ number. node number ∷ []) end
+one_each node end = flat_map (λ number. node number ∷ []) (range_with_len 0 end)
 
 -- the nodes that are tried: scans; index scans of a relation by each column up to the last indexed one, and of all
 abbrev pub scans_of : BlockTree → List Root
@@ -37,14 +33,14 @@ column_scans block relation =
     one_each (λ column. root.IndexScan relation column) (end_of_columns (relation_at block.relations relation).indexes)
 
 abbrev pub index_scans_of : BlockTree → List Root
-index_scans_of block = by_each (column_scans block) (length block.relations)
+index_scans_of block = flat_map (column_scans block) (range_with_len 0 (length block.relations))
 
 -- nested loops with each left side; joins by each edge with each left side
 abbrev pub nests_of : (set : ℕ) → List Root
 nests_of set = one_each (λ left. root.Nest left) set
 
 abbrev pub joins_by : BlockTree → (join : (edge left : ℕ) → Root) → (set : ℕ) → List Root
-joins_by block join set = by_each (λ edge. one_each (join edge) set) (length block.edges)
+joins_by block join set = flat_map (λ edge. one_each (join edge) set) (range_with_len 0 (length block.edges))
 
 abbrev pub index_loop_by : BlockTree → (edge left : ℕ) → Root
 index_loop_by block edge left = root.IndexLoop edge left (far_end (edge_at block.edges edge) (set_of left))

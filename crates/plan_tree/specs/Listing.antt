@@ -18,10 +18,6 @@ CountsFor counts count plans =
     (lists : List (List PlanTree)) → counts ≡ map (λ list. capped (length list)) lists
     → count ≡ capped (length (plans (plans_at lists)))
 
--- the trees of lists of plans
-abbrev pub lists_of : List (Vec Plan Global) → List (List PlanTree)
-lists_of lists = map (λ list. map plan_tree list.items) lists
-
 -- a new list has the plans of the old one, and these behind them
 abbrev pub Adds : (old new : Vec Plan Global) → List PlanTree → Type 0
 Adds old new plans = map plan_tree new.items ≡ map plan_tree old.items ++ plans

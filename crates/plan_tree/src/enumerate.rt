@@ -9,7 +9,7 @@ ghost use Rattle.plan_tree.specs.Enumerated.{IsPlan};
 ghost use Rattle.plan_tree.specs.Order.{plan_order_of};
 ghost use Rattle.plan_tree.specs.AllPlans.{pairs_by, plans_at, plans_of, plans_over, trees_of};
 ghost use Rattle.plan_tree.specs.Work.{capped};
-ghost use Rattle.plan_tree.specs.Listing.{joined_by, lists_of, Adds, CountsFor, HasLeftOf, IsLeftOf};
+ghost use Rattle.plan_tree.specs.Listing.{joined_by, Adds, CountsFor, HasLeftOf, IsLeftOf};
 
 use crate::copies::copy;
 use crate::plan::Plan;
@@ -183,7 +183,7 @@ fn put_trees(
     requires length { length lists.now ≡ set }
     requires left { HasLeftOf root set }
     ensures { OnOk result (Adds into.old into.new
-        (trees_of (plans_at (lists_of lists.now)) set root)) }
+        (trees_of (plans_at (map (λ list. map plan_tree list.items) lists.now)) set root)) }
 {
     match root {
         Root::Scan(relation) => Ok(into.push(Plan::Scan(relation))?),
@@ -213,7 +213,7 @@ fn plans_over(
 ) -> Result<Vec<Plan>, AllocError>
     requires { length lists.now ≡ set }
     ensures { IfOk result (λ plans. map plan_tree plans.items
-        ≡ plans_over (block_tree block.now) (lists_of lists.now) set) }
+        ≡ plans_over (block_tree block.now) (map (λ list. map plan_tree list.items) lists.now) set) }
 {
     let roots = roots_of(alloc, block, Subset::new(set))?;
     let mut plans = Vec::new(alloc);
