@@ -1,5 +1,6 @@
 -- A bouquet is called sound exactly where it is.
-use Rattle.std.proofs.Common.{◌≡◌, ◌∙◌, ◌↔◌, ℕ, ◌+◌, List, [], ◌∷◌, get_or, refl, subst}
+use Rattle.std.proofs.Common.{◌≡◌, ◌↔◌, ℕ, ◌+◌, List, [], ◌∷◌, get_or, refl, subst, arith}
+use Rattle.std.proofs.lemmas.Grind.{common_steps}
 use Rattle.std.specs.Prelude.{All}
 use Rattle.std.proofs.lemmas.List.Elements.{All-head, All-tail}
 use Rattle.plan_tree.proofs.Members.{contained-in}
@@ -32,13 +33,10 @@ sound-covered bouquet is sound = λ k d there.
 all-sound : (bouquet : BouquetTree) (number : ℕ) (contours : List ContourTree) → All (IsCovered bouquet) contours → cover_verdict bouquet.costing bouquet.threshold number contours ≡ Sound
 all-sound bouquet number [] all = refl
 all-sound bouquet number (contour ∷ more) all =
-    let here : IsCovered bouquet contour = All-head (IsCovered bouquet) contour more all in
-    rw here (all-sound bouquet (number + 1) more (All-tail (IsCovered bouquet) contour more all))
+    grind (arith, common_steps, All-head, All-tail, all-sound bouquet (number + 1) more (All-tail (IsCovered bouquet) contour more all))
 
 sound-called : (bouquet : BouquetTree) → IsCosting bouquet.costing → IsSound bouquet → verdict_of bouquet ≡ Sound
-sound-called bouquet is sound =
-    covers-answer bouquet sound.first (none-doubled 1 bouquet.contours sound.doubled) sound.last
-    ∙ all-sound bouquet 1 bouquet.contours (sound-covered bouquet is sound)
+sound-called bouquet is sound = grind (arith, common_steps, covers-answer, none-doubled, all-sound, sound-covered)
 
 pub called-sound : (bouquet : BouquetTree) → IsCosting bouquet.costing → verdict_of bouquet ≡ Sound → IsSound bouquet
 called-sound bouquet is called = subst (IsEvidence bouquet) called (verdict-shown bouquet is)

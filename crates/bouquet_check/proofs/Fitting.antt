@@ -1,7 +1,8 @@
 -- Whether some plan is within a budget at a point, and the first point of a frontier at which none is.
 use Rattle.std.proofs.Common.{◌≡◌, ◌∙◌, inl, inr, ℕ, ◌<◌, ◌≤◌, List, [], ◌∷◌, Contains, length, map, get_or, nat_le, refl, ap, sym, arith}
+use Rattle.std.proofs.lemmas.Grind.{common_steps}
 use Rattle.std.specs.Prelude.{All, Bool, true, false, not, Some, None, find}
-use Rattle.std.proofs.lemmas.Bool.{cases_Bool, cases_lt, false≢true, not-true, not-false, leb-true, le-leb}
+use Rattle.std.proofs.lemmas.Bool.{cases_Bool, cases_lt, not-true, not-false, leb-true, le-leb}
 use Rattle.std.proofs.lemmas.List.{length-map, get_or-map}
 use Rattle.std.proofs.lemmas.List.Folds.{list_any_at}
 use Rattle.std.proofs.lemmas.List.Elements.{All-contains}
@@ -37,24 +38,17 @@ fits-read costing budget place plans p point there is within =
 
 pub fits-true : (costing : CostingTree) (threshold : ℕ) (point : List ℕ) (contour : ContourTree)
     → fits_at costing (budget_of threshold contour.cost) contour.plans point ≡ true → FitsAt costing threshold point contour
-fits-true costing threshold point contour fits =
-    let found = of-any (is_within costing (budget_of threshold contour.cost) point) contour.plans fits in
-    (found.0, contained-in found.0 contour.plans found.1, leb-true _ _ found.2)
+fits-true costing threshold point contour fits = grind (arith, common_steps, of-any, contained-in, leb-true)
 
 pub fits-from : (costing : CostingTree) (threshold : ℕ) (point : List ℕ) (contour : ContourTree)
     → FitsAt costing threshold point contour → fits_at costing (budget_of threshold contour.cost) contour.plans point ≡ true
 fits-from costing threshold point contour (p, (place, there, at), within) =
-    list_any_at (is_within costing (budget_of threshold contour.cost) point) contour.plans place p there
-    (ap (is_within costing (budget_of threshold contour.cost) point) at ∙ le-leb _ _ within)
+    grind (arith, common_steps, list_any_at, le-leb)
 
 -- where none is, each plan costs more
 pub none-fits : (costing : CostingTree) (budget : ℕ) (plans : List PlanTree) (point : List ℕ) → fits_at costing budget plans point ≡ false
     → All (λ p. budget < cost_of costing p point) plans
-none-fits costing budget plans point none = λ place d there.
-    elim (cases_lt budget (cost_of costing (get_or plans place d) point)) [
-      | inl past ↦ past
-      | inr within ↦ absurd (false≢true (sym none ∙ fits-by costing budget place plans d point there within))
-    ]
+none-fits costing budget plans point none = grind (arith, common_steps, cases_lt, get_or, fits-by)
 
 -- the first item that passes a test is one, and passes
 found-passes : {X : Type 0} (test : X → Bool) (x : X) (xs : List X) → find test xs ≡ Some x → IsIn x xs × (test x ≡ true)

@@ -1,5 +1,6 @@
 -- A bouquet is as its verdict says.
-use Rattle.std.proofs.Common.{◌≡◌, ◌≢◌, ◌∙◌, inl, inr, ℕ, suc, ◌+◌, ◌-◌, ◌*◌, ◌<◌, ◌≤◌, cond, List, [], ◌∷◌, length, drop, get_or, refl, ap, sym, subst, arith}
+use Rattle.std.proofs.Common.{◌≡◌, ◌∙◌, inl, inr, ℕ, ◌+◌, ◌<◌, ◌≤◌, cond, List, [], ◌∷◌, length, drop, get_or, refl, ap, sym, subst, arith}
+use Rattle.std.proofs.lemmas.Grind.{common_steps}
 use Rattle.std.specs.Prelude.{All, Option, Some, None, nat_lt}
 use Rattle.std.specs.Option.{option_map_or}
 use Rattle.std.proofs.lemmas.Bool.{cases_Bool, cases_lt, ltb-true, ltb-false}
@@ -16,7 +17,7 @@ use Rattle.bouquet_type.specs.Budgets.{budget_of}
 use Rattle.bouquet_type.specs.Sound.{AreDoubled, IsSound, first_cost, last_cost}
 use Rattle.bouquet_type.proofs.FitsBelow.{fits-below, frontier-within}
 use Rattle.bouquet_check.specs.Verdicts.{VerdictTree, Step, Last, Uncovered, uncovered_point, cover_verdict, verdict_of, wrong_step}
-use Rattle.bouquet_check.specs.Evidence.{IsEvidence, IsUncovered, IsWrongStep, numbered_contour}
+use Rattle.bouquet_check.specs.Evidence.{IsEvidence, numbered_contour}
 use Rattle.bouquet_check.proofs.Fitting.{fits-true, none-fits, frontier-point, uncovered-told, covered-all}
 use Rattle.bouquet_check.proofs.Steps.{no_contour, wrong-told, doubled-none}
 
@@ -57,28 +58,27 @@ at-place contours place contour more left =
 
 uncovered-shown : (bouquet : BouquetTree) (place : ℕ) (contour : ContourTree) (point : List ℕ) → IsGrid bouquet.costing.grid → place < length bouquet.contours
     → numbered_contour bouquet (place + 1) ≡ contour → uncovered_point bouquet.costing contour.cost (budget_of bouquet.threshold contour.cost) contour.plans ≡ Some point
-    → IsUncovered bouquet (place + 1) point
+    → IsEvidence bouquet (Uncovered (place + 1) point)
 uncovered-shown bouquet place contour point is_grid there at told =
     let costing = bouquet.costing in
     let found = uncovered-told costing contour.cost (budget_of bouquet.threshold contour.cost) contour.plans point told in
     let within = frontier-within costing contour.cost point (contained-in point (frontier costing contour.cost) found.0) in
-    let dear = none-fits costing (budget_of bouquet.threshold contour.cost) contour.plans point found.1 in
-    record {
-      some = omega arith;
-      there = omega (arith, there);
-      of_grid = frontier-point costing contour.cost point is_grid found.0;
-      within = subst (λ (one : ContourTree). optimal_cost costing point ≤ one.cost) (sym at) within;
-      plans = subst (λ (one : ContourTree). All (λ p. budget_of bouquet.threshold one.cost < cost_of costing p point) one.plans) (sym at) dear;
-    }
+    let dear = none-fits costing (budget_of bouquet.threshold contour.cost) contour.plans point found.1 in (
+      omega arith,
+      omega (arith, there),
+      frontier-point costing contour.cost point is_grid found.0,
+      subst (λ (one : ContourTree). optimal_cost costing point ≤ one.cost) (sym at) within,
+      subst (λ (one : ContourTree). All (λ p. budget_of bouquet.threshold one.cost < cost_of costing p point) one.plans) (sym at) dear,
+    )
 
 -- a verdict that a point may decide
-by-point : (bouquet : BouquetTree) (number : ℕ) (found : Option (List ℕ)) (rest : VerdictTree) → ((point : List ℕ) → found ≡ Some point → IsUncovered bouquet number point)
+by-point : (bouquet : BouquetTree) (number : ℕ) (found : Option (List ℕ)) (rest : VerdictTree) → ((point : List ℕ) → found ≡ Some point → IsEvidence bouquet (Uncovered number point))
     → (found ≡ None → IsEvidence bouquet rest) → IsEvidence bouquet (option_map_or (Uncovered number) found rest)
 by-point bouquet number None rest some none = none refl
 by-point bouquet number (Some point) rest some none = some point refl
 
 -- so does a step
-by-step : (bouquet : BouquetTree) (found : Option ℕ) (rest : VerdictTree) → ((number : ℕ) → found ≡ Some number → IsWrongStep bouquet number)
+by-step : (bouquet : BouquetTree) (found : Option ℕ) (rest : VerdictTree) → ((number : ℕ) → found ≡ Some number → IsEvidence bouquet (Step number))
     → (found ≡ None → IsEvidence bouquet rest) → IsEvidence bouquet (option_map_or Step found rest)
 by-step bouquet None rest some none = none refl
 by-step bouquet (Some number) rest some none = some number refl
@@ -97,18 +97,8 @@ cover-shown bouquet place (contour ∷ more) is_grid at sound =
     (λ point told. uncovered-shown bouquet place contour point is_grid here.there number told)
     (λ none. cover-shown bouquet (place + 1) more is_grid here.rest (λ all. sound (All-cons (IsCovered bouquet) contour more none all)))
 
-step-shown : (bouquet : BouquetTree) (number : ℕ) → wrong_step 1 bouquet.contours ≡ Some number → IsWrongStep bouquet number
-step-shown bouquet number told =
-    let found = wrong-told 1 bouquet.contours number told in
-    let place = found.0 in
-    let later : suc place ≡ number - 1 = omega (arith, found.1.numbered) in
-    let before : place ≡ number - 1 - 1 = omega (arith, found.1.numbered) in
-    record {
-      second = omega (arith, found.1.numbered);
-      there = omega (arith, found.1.numbered, found.1.there);
-      cost = subst (λ n. (get_or bouquet.contours n no_contour).cost ≢ 2 * (get_or bouquet.contours (number - 1 - 1) no_contour).cost) later
-          (subst (λ n. (get_or bouquet.contours (suc place) no_contour).cost ≢ 2 * (get_or bouquet.contours n no_contour).cost) before found.1.cost);
-    }
+step-shown : (bouquet : BouquetTree) (number : ℕ) → wrong_step 1 bouquet.contours ≡ Some number → IsEvidence bouquet (Step number)
+step-shown bouquet number told = grind (arith, common_steps, wrong-told, get_or, no_contour)
 
 pub verdict-shown : (bouquet : BouquetTree) → IsCosting bouquet.costing → IsEvidence bouquet (verdict_of bouquet)
 unfolding verdict_of

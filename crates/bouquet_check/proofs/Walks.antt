@@ -1,5 +1,6 @@
 -- From contour to contour, and from point to point of a frontier.
 use Rattle.std.proofs.Common.{◌≡◌, ◌∙◌, inl, inr, ℕ, zero, suc, ◌+◌, ◌-◌, ◌≤◌, cond, List, [], ◌∷◌, length, map, drop, get_or, refl, ap, arith}
+use Rattle.std.proofs.lemmas.Grind.{common_steps}
 use Rattle.std.specs.Prelude.{Bool, not, ◌&&◌, Option, Some, None, find, filter, slice_index_or}
 use Rattle.std.proofs.lemmas.Bool.{cases_Bool}
 use Rattle.std.proofs.lemmas.Option.{get_or_from_slice_get, slice_get_within}
@@ -23,9 +24,7 @@ one-step number (contour ∷ []) few = refl
 one-step number (contour ∷ next ∷ more) few = absurd (omega (arith, few))
 
 pub steps-end : (place : ℕ) (contours : List Contour) → length contours ≤ place → steps_from place contours ≡ None
-steps-end place contours past =
-    let left = drop (place - 1) contours in
-    one-step place (map contour_tree left) (omega (arith, length-map left contour_tree, length-drop (place - 1) contours, past))
+steps-end place contours past = grind (arith, common_steps, one-step, length-map, length-drop)
 
 -- the verdict on the covers of the contours from a place on
 abbrev pub covers_from : CostingTree → (threshold place : ℕ) → List Contour → VerdictTree
@@ -71,6 +70,4 @@ points-next costing cost budget plans place point is =
 
 pub points-end : (costing : CostingTree) (cost budget : ℕ) (plans : List PlanTree) (place : ℕ) → length (points_of costing.grid) ≤ place
     → points_from costing cost budget plans place ≡ None
-points-end costing cost budget plans place past =
-    ap (λ (left : List (List ℕ)). find (λ point. not (fits_at costing budget plans point)) (filter (is_on_frontier costing cost) left))
-    (drop_all place (points_of costing.grid) past)
+points-end costing cost budget plans place past = grind (arith, common_steps, drop_all)

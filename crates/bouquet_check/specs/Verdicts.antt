@@ -32,10 +32,9 @@ verdict_tree code.Sound = Sound
 
 -- the first of some contours that doesn't cost twice what the one before does; the first of them all has this number
 abbrev pub wrong_step : (number : ℕ) → List ContourTree → Option ℕ
-wrong_step number [] = None
-wrong_step number (contour ∷ []) = None
 wrong_step number (contour ∷ next ∷ more) =
     if nat_eq next.cost (2 * contour.cost) then wrong_step (number + 1) (next ∷ more) else Some (number + 1)
+wrong_step number contours = None
 
 -- whether one of some plans costs at most this budget at a point
 abbrev pub fits_at : CostingTree → (budget : ℕ) → List PlanTree → (point : List ℕ) → Bool

@@ -1,4 +1,5 @@
-use Rattle.std.proofs.Common.{◌≡◌, ◌∙◌, ◌+◌, ◌<◌, ◌≤◌, [], cond, get_or, length, map, ap, ap₂, sym, arith}
+use Rattle.std.proofs.Common.{◌≡◌, ◌∙◌, ◌+◌, ◌<◌, [], cond, get_or, length, map, ap, ap₂, sym, arith}
+use Rattle.std.proofs.lemmas.Grind.{common_steps}
 use Rattle.std.specs.Prelude.{true, false, not, ◌&&◌, Some}
 use Rattle.std.proofs.lemmas.Option.{slice_get-get_or}
 use Rattle.ess_grid.specs.Points.{GridShape, points_of, point_at}
@@ -78,9 +79,4 @@ loop-place-preserved c =
     ]
 
 pub returns : goal.returns
-returns c =
-    let costing = costing_tree c.args.surface.now in
-    let grid : c.grid-grid.result.now ≡ costing.grid = c.grid-grid.ensures ∙ ap (λ (one : CostingShape). one.grid) c.costing-costing.ensures.same in
-    let all : length (points_of costing.grid) ≤ c.loop-place.place =
-    omega (arith, c.loop-place-test.false, c.points-place-end.ensures.count, ap (λ (one : GridShape). length (points_of one)) grid) in
-    sym (points-end costing c.args.contour.now.cost c.args.budget (map plan_tree c.args.contour.now.plans.items) c.loop-place.place all) ∙ c.loop-place.invariant.left
+returns c = grind (arith, common_steps, points-end)
