@@ -1,5 +1,6 @@
 -- A query that nothing refuses binds to a block of which holds what is always so of blocks.
 use Rattle.std.proofs.Common.{◌≡◌, ◌≢◌, ◌∙◌, ℕ, zero, suc, ◌+◌, ◌<◌, ◌≤◌, ◌^◌, Bool, true, false, nat_lt, ◌==◌, if◌then◌else◌, List, [], ◌∷◌, ◌++◌, length, map, filter, slice_index_or, All, IfSome, Option, Some, None, refl, sym, ap, subst, arith, append-nil, ltb-true, ltb-false, eqb-true, true≢false, flat_map}
+use Rattle.std.proofs.lemmas.Grind.{common_steps}
 use Rattle.std.specs.Prelude.{unwrap_or}
 use Rattle.std.specs.List.{AllByRecursion, cons_option, filter_map}
 use Rattle.std.specs.Option.{option_or}
@@ -28,25 +29,20 @@ use Rattle.sql_parse.specs.Trees.{ConditionTree, ConditionTrees, Compare, Betwee
 use Rattle.sql_parse.specs.Parameters.{parameter_of, parameters_in, parameters_in_all, parameters_of_condition}
 use Rattle.sql_parse.specs.WellFormed.{IsNotNull, AreNotNull, IsWellFormedCondition, AreWellFormedConditions, IsWellFormedQuery}
 use Rattle.db_catalog.specs.Database.{DatabaseState}
-use Rattle.sql_bind.specs.declared.fault.BindFault.TheVariants.{Limit}
 use Rattle.sql_bind.specs.declared.reach.Reach.{Reach}
 use Rattle.sql_bind.specs.declared.reach.Reach.TheVariants.{Nothing, One, Several}
 use Rattle.sql_bind.specs.Named.{NamedTable, IsNamed}
-use Rattle.sql_bind.specs.Names.{may_name, places_among, places_from, named_once, the_one, written_column_fault, place_of, first_fault_from, written_columns_fault}
+use Rattle.sql_bind.specs.Names.{places_among, places_from, named_once, the_one, written_column_fault, place_of, first_fault, first_fault_from}
 use Rattle.sql_bind.specs.Located.{kind_in, kind_if, located, located_at, kinds_of, first_kind, given_kind, parameters_among}
-use Rattle.sql_bind.specs.Predicates.{predicates, predicates_of_all, term_fault, terms_fault, own_fault, kinds_fault, alike_fault, predicate_fault, predicates_fault, parameters_of}
+use Rattle.sql_bind.specs.Predicates.{predicates, predicates_of_all, term_fault, own_fault, alike_fault, predicate_fault, predicates_fault, parameters_of}
 use Rattle.sql_bind.specs.Conjuncts.{Conjunct, conjuncts, conjuncts_of_all, conjunct_of, conjunct_fault, joined_reach, reach_at, reach_of_term, reach_of_terms, reach_of, reach_of_all, edge_between, equality_between, equality_of, is_filter_of, edge_in, negated_if, is_null_at, bound_condition, bound_conditions}
-use Rattle.sql_bind.specs.Binding.{named_table, named_tables, past_limit, from_fault, projection_fault, conjuncts_in, condition_fault, edges_of, filter_of, columns_from, every_column, projection_of, relations_from, parameter_kinds, block_of, bind_fault}
+use Rattle.sql_bind.specs.Binding.{named_table, named_tables, past_limit, projection_fault, conjuncts_in, condition_fault, edges_of, filter_of, columns_from, every_column, projection_of, relations_from, parameter_kinds, block_of, bind_fault}
 use Rattle.sql_bind.proofs.Faults.{first_fault-append, neither}
 use Rattle.sql_bind.proofs.Parameters.{HasKind, HaveKinds, column-count, have-own, have-parts, parameter_kinds-count}
 
 -- a number within its limit
 within : (name : LimitName) (most value : ℕ) → past_limit name most value ≡ None → value ≤ most
-within name most value h = by (nat_lt most value) refl
-  where
-    by : (b : Bool) → nat_lt most value ≡ b → value ≤ most
-    by true e = let gone : Some (Limit name value) ≡ None = sym (ap (λ b. if b then Some (Limit name value) else None) e) ∙ h in cc
-    by false e = ltb-false most value e
+within name most value h = grind (arith, common_steps, nat_lt, ltb-false)
 
 kept-if : {X : Type 0} (P : X → Type 0) (b : Bool) (x : X) (xs : List X) → (b ≡ true → P x) → All P xs → All P (if b then x ∷ xs else xs)
 kept-if P true x xs p h = All-cons P x xs (p refl) h
@@ -82,15 +78,13 @@ IsOf relation most place = (place.relation ≡ relation) × (place.column < most
 every-of : (relation number most : ℕ) (columns : List ColumnDef) → number + length columns ≤ most → All (IsOf relation most) (columns_from relation number columns)
 every-of relation number most [] h = All-nil (IsOf relation most)
 every-of relation number most (column ∷ columns) h =
-    All-cons (IsOf relation most) (record { relation = relation; column = number }) (columns_from relation (number + 1) columns)
-    (refl, omega (arith, h)) (every-of relation (number + 1) most columns (omega (arith, h)))
+    grind (arith, common_steps, All-cons, every-of relation (number + 1) most columns (omega (arith, h)))
 
 named-of : (relation number most : ℕ) (columns : List ColumnDef) (name : List ℕ) → number + length columns ≤ most
     → All (IsOf relation most) (places_among relation number columns name)
 named-of relation number most [] name h = All-nil (IsOf relation most)
 named-of relation number most (column ∷ columns) name h =
-    kept-if (IsOf relation most) _ (record { relation = relation; column = number }) (places_among relation (number + 1) columns name)
-    (λ _. (refl, omega (arith, h))) (named-of relation (number + 1) most columns name (omega (arith, h)))
+    grind (arith, common_steps, kept-if, named-of relation (number + 1) most columns name (omega (arith, h)))
 
 -- a column of these tables, of which the first is this relation
 abbrev IsFrom : ℕ → List NamedTable → ColumnAt → Type 0
@@ -115,23 +109,15 @@ of-all relation table tables first rest h more =
 
 every-from : (relation : ℕ) (tables : List NamedTable) → All (IsFrom relation tables) (every_column relation tables)
 every-from relation [] = All-nil (IsFrom relation [])
-every-from relation (table ∷ tables) =
-    of-all relation table tables (columns_from relation 0 table.columns) (every_column (relation + 1) tables)
-    (every-of relation 0 (length table.columns) table.columns (omega arith)) (every-from (relation + 1) tables)
+every-from relation (table ∷ tables) = grind (arith, common_steps, of-all, every-of, every-from (relation + 1) tables)
 
 named-from : (relation : ℕ) (tables : List NamedTable) (written : ColRef) → All (IsFrom relation tables) (places_from relation tables written)
 named-from relation [] written = All-nil (IsFrom relation [])
 named-from relation (table ∷ tables) written =
-    let among = places_among relation 0 table.columns written.column in
-    of-all relation table tables (if may_name written.alias table then among else []) (places_from (relation + 1) tables written)
-    (all-if (IsOf relation (length table.columns)) (may_name written.alias table) among
-    (named-of relation 0 (length table.columns) table.columns written.column (omega arith)))
-    (named-from (relation + 1) tables written)
+    grind (arith, common_steps, of-all, all-if, named-of, named-from (relation + 1) tables written)
 
 from-there : (tables : List NamedTable) (place : ColumnAt) → IsFrom 0 tables place → IsThere tables place
-from-there tables place h =
-    let same : h.0 ≡ place.relation = omega (arith, h.1) in
-    (subst (λ n. n < length tables) same h.2, subst (λ n. place.column < length (table_named tables n).columns) same h.3)
+from-there tables place h = grind (arith, common_steps)
 
 -- the place is there
 abbrev IsSomewhere : List NamedTable → Option ColumnAt → Type 0
@@ -162,11 +148,7 @@ kinds-count : (table : NamedTable) → length (kinds table) ≡ length table.col
 kinds-count table = length-map table.columns (λ column. column.kind)
 
 place-sound : (tables : List NamedTable) (conjuncts : List Conjunct) (place : ColumnAt) → IsThere tables place → IsPlace (relations_from conjuncts 0 tables) place
-place-sound tables conjuncts place h = (
-  omega (arith, h.0, relations-count conjuncts 0 tables),
-  subst (λ columns. place.column < length columns) (sym (columns-at conjuncts 0 tables place.relation))
-      (omega (arith, h.1, kinds-count (table_named tables place.relation))),
-)
+place-sound tables conjuncts place h = grind (arith, common_steps, relations-count, columns-at, kinds-count)
 
 kind-there : (tables : List NamedTable) (conjuncts : List Conjunct) (place : ColumnAt)
     → holds_texts (kind_of (relations_from conjuncts 0 tables) place) ≡ holds_texts (kind_in tables place)
@@ -216,31 +198,31 @@ column-good tables number of None there none = absurd there
 column-good tables number of (Some place) there none = (there, kind-is number of (holds_texts (kind_in tables place)) none)
 
 module _ (tables : List NamedTable) (parameters : List Kind) where
-  terms-good : (number : ℕ) (of : Kind) (terms : List Term) → terms_fault tables terms ≡ None → kinds_fault number of (kinds_of tables terms) ≡ None → AreNotNull terms
+  terms-good : (number : ℕ) (of : Kind) (terms : List Term) → first_fault (term_fault tables) terms ≡ None → first_fault (own_fault number of) (kinds_of tables terms) ≡ None → AreNotNull terms
       → HaveKinds parameters (filter_map parameter_of terms) (flat_map (given_kind of) (kinds_of tables terms)) → AllByRecursion (IsGood tables parameters of) terms
   terms-good number of [] none alike null have = tt
   terms-good number of (term.Column written ∷ terms) none alike null have =
-      let columns = neither (term_fault tables (term.Column written)) (terms_fault tables terms) none in
-      let own = neither (own_fault number of (located tables (term.Column written)).kind) (kinds_fault number of (kinds_of tables terms)) alike in
+      let columns = neither (term_fault tables (term.Column written)) (first_fault (term_fault tables) terms) none in
+      let own = neither (own_fault number of (located tables (term.Column written)).kind) (first_fault (own_fault number of) (kinds_of tables terms)) alike in
       let kinds = flat_map (given_kind of) (kinds_of tables terms) in (
         column-good tables number of (place_of tables written) (column-there tables written columns.0) own.0,
         terms-good number of terms columns.1 own.1 null.1
             (subst (HaveKinds parameters (filter_map parameter_of terms)) (column-count tables of (place_of tables written) kinds) have),
       )
   terms-good number of (term.Literal literal ∷ terms) none alike null have =
-      let own = neither (own_fault number of (located tables (term.Literal literal)).kind) (kinds_fault number of (kinds_of tables terms)) alike in
+      let own = neither (own_fault number of (located tables (term.Literal literal)).kind) (first_fault (own_fault number of) (kinds_of tables terms)) alike in
       ((null.0, kind-is number of _ own.0), terms-good number of terms none own.1 null.1 have)
   terms-good number of (term.Parameter n ∷ terms) none alike null have = (have.0, terms-good number of terms none alike null.1 have.1)
 
-  operands-good : (number : ℕ) (terms : List Term) → option_or (option_or (terms_fault tables terms) (alike_fault number (first_kind (kinds_of tables terms)) (kinds_of tables terms))) None ≡ None
+  operands-good : (number : ℕ) (terms : List Term) → option_or (option_or (first_fault (term_fault tables) terms) (alike_fault number (first_kind (kinds_of tables terms)) (kinds_of tables terms))) None ≡ None
       → AreNotNull terms → HaveKinds parameters (filter_map parameter_of terms) (parameters_among (kinds_of tables terms) ++ []) → AreGood tables parameters terms
   operands-good number terms none null have =
       let kinds = kinds_of tables terms in
-      let one = neither (option_or (terms_fault tables terms) (alike_fault number (first_kind kinds) kinds)) None none in
-      let both = neither (terms_fault tables terms) (alike_fault number (first_kind kinds) kinds) one.0 in
+      let one = neither (option_or (first_fault (term_fault tables) terms) (alike_fault number (first_kind kinds) kinds)) None none in
+      let both = neither (first_fault (term_fault tables) terms) (alike_fault number (first_kind kinds) kinds) one.0 in
       by (first_kind kinds) both.0 both.1 (subst (HaveKinds parameters (filter_map parameter_of terms)) (append-nil (parameters_among kinds)) have)
     where
-      by : (of : Option Kind) → terms_fault tables terms ≡ None → alike_fault number of (kinds_of tables terms) ≡ None
+      by : (of : Option Kind) → first_fault (term_fault tables) terms ≡ None → alike_fault number of (kinds_of tables terms) ≡ None
           → HaveKinds parameters (filter_map parameter_of terms) (flat_map (given_kind (unwrap_or of kind.Integer)) (kinds_of tables terms)) → AreGood tables parameters terms
       by None columns alike have = cc
       by (Some of) columns alike have = record { of = of; all = terms-good number of terms columns alike null have }
@@ -392,16 +374,8 @@ module _ (tables : List NamedTable) (parameters : List Kind) (relation : ℕ) wh
 -- the edge between two columns that exist, of one kind and of different relations
 between-sound : (relations : List RelationTree) (a b : ColumnAt) → IsPlace relations a → IsPlace relations b
     → holds_texts (kind_of relations a) ≡ holds_texts (kind_of relations b) → (a.relation == b.relation) ≡ false → IsEdge relations (edge_between a b)
-between-sound relations a b here_a here_b alike apart = by (nat_lt a.relation b.relation) refl
-  where
-    by : (lower : Bool) → nat_lt a.relation b.relation ≡ lower
-        → IsEdge relations (if lower then record { left = a.relation; left_column = a.column; right = b.relation; right_column = b.column }
-        else record { left = b.relation; left_column = b.column; right = a.relation; right_column = a.column })
-    by true e = record { left = here_a; right = here_b; lower = ltb-true a.relation b.relation e; one_kind = alike }
-    by false e = record { left = here_b; right = here_a; lower = below; one_kind = sym alike }
-      where
-        below : b.relation < a.relation
-        below = omega (arith, ltb-false a.relation b.relation e, eqb-false a.relation b.relation apart)
+between-sound relations a b here_a here_b alike apart =
+    grind (arith, common_steps, nat_lt, ltb-true, ltb-false, eqb-false)
 
 -- no edge is none, whatever is reached
 no_edge : (reached : Reach) (edge : Edge) → edge_in reached None ≡ Some edge → ⊥
@@ -428,11 +402,7 @@ IsPlacedIf tables of None = Unit {0}
 IsPlacedIf tables of (Some place) = IsPlaced tables of (Some place)
 
 term-placed : (tables : List NamedTable) (parameters : List Kind) (of : Kind) (t : Term) → IsGood tables parameters of t → IsPlacedIf tables of (located tables t).place
-term-placed tables parameters of (term.Column written) h = by (place_of tables written) h
-  where
-    by : (place : Option ColumnAt) → IsPlaced tables of place → IsPlacedIf tables of (located_at tables place).place
-    by None h = absurd h
-    by (Some place) h = h
+term-placed tables parameters of (term.Column written) h = grind (arith, common_steps)
 term-placed tables parameters of (term.Literal literal) h = tt
 term-placed tables parameters of (term.Parameter number) h = tt
 
@@ -501,13 +471,8 @@ edges-sound tables parameters all (conjunct ∷ some) h =
 relation-sound : (tables : List NamedTable) (parameters : List Kind) (conjuncts : List Conjunct) (relation : ℕ) (table : NamedTable) → table_named tables relation ≡ table → IsNamed table
     → All (Suits tables parameters) conjuncts
     → IsRelation parameters (record { table = table.number; columns = kinds table; filter = filter_of conjuncts relation; indexes = table.indexed })
-relation-sound tables parameters conjuncts relation table same named h = record {
-  some = omega (arith, named.some, kinds-count table);
-  few = omega (arith, named.few, kinds-count table);
-  filter = subst (λ (t : NamedTable). All (FitsColumns parameters (kinds t)) (filter_of conjuncts relation)) same (filter-fits tables parameters relation conjuncts h);
-  indexes = λ k d below. omega (arith, named.indexed k d below, kinds-count table);
-  different = named.different;
-}
+relation-sound tables parameters conjuncts relation table same named h =
+    grind (arith, common_steps, kinds-count, filter-fits)
 
 relations-sound : (tables : List NamedTable) (parameters : List Kind) (conjuncts : List Conjunct) (relation : ℕ) (rest : List NamedTable)
     → ((k : ℕ) → table_named tables (relation + k) ≡ table_named rest k) → All IsNamed rest → All (Suits tables parameters) conjuncts
@@ -525,11 +490,11 @@ with-place : (tables : List NamedTable) (conjuncts : List Conjunct) (place : Opt
 with-place tables conjuncts None places there h = h
 with-place tables conjuncts (Some place) places there h = All-cons (IsPlace (relations_from conjuncts 0 tables)) place places (place-sound tables conjuncts place there) h
 
-columns-sound : (tables : List NamedTable) (conjuncts : List Conjunct) (columns : List ColRef) → written_columns_fault tables columns ≡ None
+columns-sound : (tables : List NamedTable) (conjuncts : List Conjunct) (columns : List ColRef) → first_fault (written_column_fault tables) columns ≡ None
     → All (IsPlace (relations_from conjuncts 0 tables)) (filter_map (place_of tables) columns)
 columns-sound tables conjuncts [] none = All-nil (IsPlace (relations_from conjuncts 0 tables))
 columns-sound tables conjuncts (written ∷ columns) none =
-    let both = neither (written_column_fault tables written) (written_columns_fault tables columns) none in
+    let both = neither (written_column_fault tables written) (first_fault (written_column_fault tables) columns) none in
     with-place tables conjuncts (place_of tables written) (filter_map (place_of tables) columns) (column-there tables written both.0) (columns-sound tables conjuncts columns both.1)
 
 projection-sound : (tables : List NamedTable) (conjuncts : List Conjunct) (columns : Option (List ColRef)) → projection_fault tables columns ≡ None
@@ -538,7 +503,7 @@ projection-sound tables conjuncts None none =
     All-weaker (IsFrom 0 tables) (IsPlace (relations_from conjuncts 0 tables))
     (λ place h. place-sound tables conjuncts place (from-there tables place h)) (every_column 0 tables) (every-from 0 tables)
 projection-sound tables conjuncts (Some columns) none =
-    columns-sound tables conjuncts columns (neither (past_limit limit.Projection max_projection (length columns)) (written_columns_fault tables columns) none).1
+    columns-sound tables conjuncts columns (neither (past_limit limit.Projection max_projection (length columns)) (first_fault (written_column_fault tables) columns) none).1
 
 -- what holds of a query that nothing refuses
 record IsFree (database : DatabaseState) (query : QueryTree) : Type 0 where
@@ -548,21 +513,7 @@ record IsFree (database : DatabaseState) (query : QueryTree) : Type 0 where
   axes : axes_of (block_of database query) ≤ max_axes
 
 free : (database : DatabaseState) (query : QueryTree) → bind_fault database query ≡ None → IsFree database query
-free database query none =
-    let tables = named_tables database query.from in
-    let of_axes = past_limit limit.Axes max_axes (axes_of (block_of database query)) in
-    let of_condition = option_or (condition_fault tables query.condition) of_axes in
-    let of_projection = option_or (projection_fault tables query.columns) of_condition in
-    let few = neither (past_limit limit.Relations max_relations (length query.from)) (option_or (from_fault database [] query.from) of_projection) none in
-    let from = neither (from_fault database [] query.from) of_projection few.1 in
-    let projected = neither (projection_fault tables query.columns) of_condition from.1 in
-    let filtered = neither (condition_fault tables query.condition) of_axes projected.1 in
-    record {
-      tables = within limit.Relations max_relations (length query.from) few.0;
-      projection = projected.0;
-      condition = filtered.0;
-      axes = within limit.Axes max_axes (axes_of (block_of database query)) filtered.1;
-    }
+free database query none = grind (arith, common_steps, within)
 
 pub block-sound : (database : DatabaseState) (query : QueryTree) → IsWellFormedQuery query → All IsNamed (named_tables database query.from)
     → bind_fault database query ≡ None → IsBlock (block_of database query)

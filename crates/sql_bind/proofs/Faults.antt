@@ -1,5 +1,6 @@
 -- The first fault of lists, one after another, and of the predicates of a chain.
 use Rattle.std.proofs.Common.{◌≡◌, ◌≢◌, ℕ, ◌+◌, List, [], ◌∷◌, ◌++◌, Option, Some, None, Result, Ok, Err, refl, sym, ap, ◌∙◌, arith, length}
+use Rattle.std.proofs.lemmas.Grind.{common_steps}
 use Rattle.std.specs.Prelude.{IsErrAnd}
 use Rattle.std.specs.Option.{option_or}
 use Rattle.sql_bind.specs.declared.fault.BindFault.{BindFault}
@@ -19,11 +20,7 @@ or-assoc (Some x) b c = refl
 pub first_fault-append : {A : Type 0} (fault : ℕ → A → Option BindFault) (n : ℕ) (xs ys : List A)
     → first_fault_from fault n (xs ++ ys) ≡ option_or (first_fault_from fault n xs) (first_fault_from fault (n + length xs) ys)
 first_fault-append fault n [] ys = let none : n ≡ n + 0 = omega arith in ap (λ m. first_fault_from fault m ys) none
-first_fault-append fault n (x ∷ xs) ys =
-    let long : n + 1 + length xs ≡ n + length (x ∷ xs) = omega arith in
-    ap (option_or (fault n x)) (first_fault-append fault (n + 1) xs ys)
-    ∙ sym (or-assoc (fault n x) (first_fault_from fault (n + 1) xs) (first_fault_from fault (n + 1 + length xs) ys))
-    ∙ ap (λ m. option_or (option_or (fault n x) (first_fault_from fault (n + 1) xs)) (first_fault_from fault m ys)) long
+first_fault-append fault n (x ∷ xs) ys = grind (arith, common_steps, or-assoc, first_fault-append fault (n + 1) xs ys)
 
 -- a refusal that is handed on
 pub handed_on : {T : Type 0} (due : Option BindFault) (result : Result T BindFault) (fault : BindFault) → IsErrAnd result (λ x. x ≡ fault)

@@ -1,13 +1,13 @@
 -- The relations of groups of columns together, in whatever way they are grouped.
-use Rattle.std.proofs.Common.{◌≡◌, ◌∙◌, ℕ, ◌+◌, ◌<◌, List, ◌∷◌, length, map, drop, get_or, refl, sym, ap, arith}
+use Rattle.std.proofs.Common.{◌≡◌, ℕ, ◌+◌, ◌<◌, List, length, map, drop, get_or, refl, arith}
+use Rattle.std.proofs.lemmas.Grind.{common_steps}
 use Rattle.std.proofs.lemmas.List.{at_drop_more}
 use Rattle.sql_parse.specs.declared.tree.Cond.{Cond}
-use Rattle.sql_parse.specs.declared.tree.Term.{Term}
 use Rattle.sql_parse.specs.Trees.{condition_tree, operands}
 use Rattle.sql_bind.specs.declared.reach.Reach.{Reach}
 use Rattle.sql_bind.specs.declared.reach.Reach.TheVariants.{Nothing, One, Several}
 use Rattle.sql_bind.specs.Named.{NamedTable}
-use Rattle.sql_bind.specs.Conjuncts.{joined_reach, reach_of_term, reach_of_terms, reach_of, reach_of_all}
+use Rattle.sql_bind.specs.Conjuncts.{joined_reach, reach_of, reach_of_all}
 
 pub joined-nothing : (a : Reach) → joined_reach a Nothing ≡ a
 joined-nothing Nothing = refl
@@ -26,18 +26,7 @@ joined-assoc (One r) (One s) Nothing = joined-nothing (joined_reach (One r) (One
 joined-assoc (One r) (One s) (One t) = three r s t
 joined-assoc (One r) (One s) Several = grind arith
 
--- what was reached before a place, with what is reached from there on, is the whole
-pub terms-next : (tables : List NamedTable) (terms : List Term) (i : ℕ) (term : Term) (before : Reach) → i < length terms → term ≡ get_or terms i term
-    → joined_reach before (reach_of_terms tables (drop i terms)) ≡ joined_reach (joined_reach before (reach_of_term tables term)) (reach_of_terms tables (drop (i + 1) terms))
-terms-next tables terms i term before below is =
-    let whole : List Term → Reach = λ some. joined_reach before (reach_of_terms tables some) in
-    at_drop_more whole terms i term below ∙ ap (λ one. whole (one ∷ drop (i + 1) terms)) (sym is)
-    ∙ sym (joined-assoc before (reach_of_term tables term) (reach_of_terms tables (drop (i + 1) terms)))
-
 pub parts-next : (tables : List NamedTable) (parts : List Cond) (i : ℕ) (part : Cond) (before : Reach) → i < length parts → part ≡ get_or parts i part
     → joined_reach before (reach_of_all tables (operands (map condition_tree (drop i parts))))
     ≡ joined_reach (joined_reach before (reach_of tables (condition_tree part))) (reach_of_all tables (operands (map condition_tree (drop (i + 1) parts))))
-parts-next tables parts i part before below is =
-    let whole : List Cond → Reach = λ some. joined_reach before (reach_of_all tables (operands (map condition_tree some))) in
-    at_drop_more whole parts i part below ∙ ap (λ one. whole (one ∷ drop (i + 1) parts)) (sym is)
-    ∙ sym (joined-assoc before (reach_of tables (condition_tree part)) (reach_of_all tables (operands (map condition_tree (drop (i + 1) parts)))))
+parts-next tables parts i part before below is = grind (arith, common_steps, at_drop_more, joined-assoc)

@@ -1,5 +1,6 @@
 -- The relations of tables with their filters, one after another.
-use Rattle.std.proofs.Common.{◌≡◌, ◌∙◌, ℕ, ◌+◌, ◌<◌, cond, List, [], ◌∷◌, ◌++◌, length, replicate, get_or, refl, sym, ap, arith}
+use Rattle.std.proofs.Common.{◌≡◌, ◌∙◌, ℕ, ◌+◌, ◌<◌, List, [], ◌∷◌, ◌++◌, length, replicate, get_or, refl, sym, ap, arith}
+use Rattle.std.proofs.lemmas.Grind.{common_steps}
 use Rattle.std.specs.List.{count_by, list_any}
 use Rattle.std.proofs.lemmas.List.Sums.{sum_by-cons}
 use Rattle.query_block.specs.Conditions.{FilterTree}
@@ -34,8 +35,4 @@ pub open-count : (conjuncts : List Conjunct) (relation : ℕ) (tables : List Nam
     → count_by (list_any is_open) (more_filters conjuncts relation (replicate (length tables) [])) ≡ count_by has_parameter (relations_from conjuncts relation tables)
 open-count conjuncts relation [] = refl
 open-count conjuncts relation (table ∷ tables) =
-    let one : List FilterTree → ℕ = λ filter. cond (list_any is_open filter) 1 0 in
-    let filter = filter_of conjuncts relation in
-    let more = more_filters conjuncts (relation + 1) (replicate (length tables) []) in
-    sum_by-cons one filter more ∙ ap (λ n. one filter + n) (open-count conjuncts (relation + 1) tables)
-    ∙ sym (sum_by-cons (λ some. one some.filter) (relation_with table filter) (relations_from conjuncts (relation + 1) tables))
+    grind (arith, common_steps, sum_by-cons, open-count conjuncts (relation + 1) tables)

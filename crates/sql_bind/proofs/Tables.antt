@@ -1,5 +1,6 @@
 -- The first fault among the tables of FROM, and the tables up to a place.
-use Rattle.std.proofs.Common.{◌≡◌, ◌∙◌, ℕ, ◌+◌, ◌<◌, List, [], ◌∷◌, ◌++◌, Option, None, length, map, take, drop, get_or, sym, ap}
+use Rattle.std.proofs.Common.{◌≡◌, ◌∙◌, ℕ, ◌+◌, ◌<◌, List, [], ◌∷◌, ◌++◌, Option, None, length, map, take, drop, get_or, sym, ap, arith}
+use Rattle.std.proofs.lemmas.Grind.{common_steps}
 use Rattle.std.specs.Option.{option_or}
 use Rattle.std.proofs.lemmas.List.{at_drop_more, map_more}
 use Rattle.sql_parse.specs.declared.tree.Item.{Item}
@@ -22,11 +23,4 @@ pub table-passed : (database : DatabaseState) (due : Option BindFault) (items : 
     → due ≡ from_fault database (aliases (take i items)) (drop i items) → option_or (table_fault item (table_number database item.table)) (alias_fault (aliases (take i items)) item) ≡ None
     → due ≡ from_fault database (aliases (take (i + 1) items)) (drop (i + 1) items)
 table-passed database due items i item below is left none =
-    let before = aliases (take i items) in
-    let behind = drop (i + 1) items in
-    let rest = from_fault database (before ++ item.alias ∷ []) behind in
-    left ∙ at_drop_more (from_fault database before) items i item below
-    ∙ ap (λ one. from_fault database before (one ∷ behind)) (sym is)
-    ∙ sym (or-assoc (table_fault item (table_number database item.table)) (alias_fault before item) rest)
-    ∙ ap (λ first. option_or first rest) none
-    ∙ ap (λ some. from_fault database some behind) (sym (items-next (λ item. item.alias) items i item below is))
+    grind (arith, common_steps, at_drop_more, or-assoc, items-next)

@@ -1,12 +1,11 @@
 -- The parts of a query, put together, are its block, which fits the database.
-use Rattle.std.proofs.Common.{◌≡◌, ◌∙◌, ℕ, ◌+◌, ◌<◌, List, [], ◌∷◌, ◌++◌, Option, Some, None, All, length, map, replicate, refl, sym, ap, arith}
+use Rattle.std.proofs.Common.{◌≡◌, ◌∙◌, ℕ, ◌+◌, ◌<◌, List, [], ◌∷◌, ◌++◌, Option, None, All, length, replicate, refl, sym, ap, arith}
+use Rattle.std.proofs.lemmas.Grind.{common_steps}
 use Rattle.std.proofs.lemmas.List.{length-map, length-replicate}
 use Rattle.std.proofs.lemmas.List.Elements.{All-nil, All-cons, All-contains_itself}
 use Rattle.std.proofs.lemmas.List.Quantifiers.{position-Some}
 use Rattle.std.specs.List.{count_by, list_any}
 use Rattle.std.specs.Option.{option_or}
-use Rattle.std.specs.Prelude.{unwrap_or}
-use Rattle.std.specs.Str.{bytes_eq}
 use Rattle.sql_values.specs.Stored.{StoredTable}
 use Rattle.sql_values.specs.declared.limit.LimitName.TheVariants as limit
 use Rattle.sql_values.specs.Limits.{max_relations, max_axes}
@@ -15,7 +14,7 @@ use Rattle.query_block.specs.declared.kind.Kind.{Kind}
 use Rattle.query_block.specs.declared.edge.ColumnAt.{ColumnAt}
 use Rattle.query_block.specs.Conditions.{FilterTree}
 use Rattle.query_block.specs.Parameters.{is_open}
-use Rattle.query_block.specs.Blocks.{RelationTree, BlockTree, has_parameter}
+use Rattle.query_block.specs.Blocks.{RelationTree, BlockTree}
 use Rattle.sql_parse.specs.declared.tree.Item.{Item}
 use Rattle.sql_parse.specs.Trees.{ConditionTree, QueryTree}
 use Rattle.db_catalog.specs.Database.{DatabaseState, table_number}
@@ -25,7 +24,7 @@ use Rattle.sql_bind.specs.declared.conjuncts.Parts.{Parts}
 use Rattle.sql_bind.specs.declared.fault.BindFault.{BindFault}
 use Rattle.sql_bind.specs.Named.{NamedTable}
 use Rattle.sql_bind.specs.Conjuncts.{Conjunct}
-use Rattle.sql_bind.specs.Binding.{named_table, named_tables, table_fault, alias_fault, from_fault, relation_with, relations_from, filter_of, block_of, conjuncts_in, parameter_kinds, projection_of, edges_of, past_limit, projection_fault, condition_fault, bind_fault}
+use Rattle.sql_bind.specs.Binding.{named_table, named_tables, table_fault, alias_fault, from_fault, relation_with, relations_from, filter_of, block_of, conjuncts_in, projection_of, past_limit, projection_fault, condition_fault, bind_fault}
 use Rattle.sql_bind.specs.Collected.{HasParts, IsAsked, filter_trees, more_filters, with_filters, where_fault}
 use Rattle.sql_bind.proofs.Faults.{neither}
 use Rattle.sql_bind.proofs.Collected.{trees-count}
@@ -40,13 +39,7 @@ name_of table = table.name
 
 -- a table that the database has is one of its tables
 table-there : (database : DatabaseState) (item : Item) → table_fault item (table_number database item.table) ≡ None → (named_table database item).number < length database.tables
-table-there database item none = by (table_number database item.table) refl none
-  where
-    by : (found : Option ℕ) → table_number database item.table ≡ found → table_fault item found ≡ None → unwrap_or found 0 < length database.tables
-    by None is none = cc
-    by (Some number) is none =
-        let names = map name_of database.tables in
-        omega (arith, (position-Some (bytes_eq item.table) names number [] is).0, length-map database.tables name_of)
+table-there database item none = grind (arith, common_steps, position-Some, length-map)
 
 tables-fit : (database : DatabaseState) (conjuncts : List Conjunct) (relation : ℕ) (before : List (List ℕ)) (items : List Item) → from_fault database before items ≡ None
     → All (FitsTable database) (relations_from conjuncts relation (named_tables database items))
@@ -76,23 +69,13 @@ same_block : (relations other : List RelationTree) (edges edges' : List Edge) (p
     → (let block : BlockTree = record { relations = relations; edges = edges; projection = projection; parameters = parameters } in block)
     ≡ record { relations = other; edges = edges'; projection = projection'; parameters = parameters' }
 same_block relations other edges edges' projection projection' parameters parameters' same_relations same_edges same_projection same_parameters =
-    ap (λ r. record { relations = r; edges = edges; projection = projection; parameters = parameters }) same_relations
-    ∙ ap (λ e. record { relations = other; edges = e; projection = projection; parameters = parameters }) same_edges
-    ∙ ap (λ p. record { relations = other; edges = edges'; projection = p; parameters = parameters }) same_projection
-    ∙ ap (λ k. record { relations = other; edges = edges'; projection = projection'; parameters = k }) same_parameters
+    grind (arith, common_steps)
 
 -- of a condition that isn't refused, the parts tell how many axes it asks for
 pub axes-due : (tables : List NamedTable) (condition : Option ConditionTree) (parts : Parts) → condition_fault tables condition ≡ None
     → HasParts (length tables) (conjuncts_in tables condition) parts
     → where_fault tables condition ≡ past_limit limit.Axes max_axes (length parts.edges.items + count_by (list_any is_open) (filter_trees parts.filters.items))
-axes-due tables condition parts none has =
-    let conjuncts = conjuncts_in tables condition in
-    let of_edges : length parts.edges.items ≡ length (edges_of conjuncts) = ap length has.edges in
-    let of_filters : count_by (list_any is_open) (filter_trees parts.filters.items) ≡ count_by has_parameter (relations_from conjuncts 0 tables) =
-    ap (count_by (list_any is_open)) has.filters ∙ open-count conjuncts 0 tables in
-    let axes = length (edges_of conjuncts) + count_by has_parameter (relations_from conjuncts 0 tables) in
-    let same : axes ≡ length parts.edges.items + count_by (list_any is_open) (filter_trees parts.filters.items) = omega (arith, of_edges, of_filters) in
-    ap (λ fault. option_or fault (past_limit limit.Axes max_axes axes)) none ∙ ap (past_limit limit.Axes max_axes) same
+axes-due tables condition parts none has = grind (arith, common_steps, open-count)
 
 -- parts that no check refused, put together, are the block, and nothing refuses the query
 pub whole : (database : DatabaseState) (query : QueryTree) (from : List Item) (tables : List NamedTable) (asked : Asked) (relations : List RelationTree) (projection : List ColumnAt)
@@ -101,14 +84,4 @@ pub whole : (database : DatabaseState) (query : QueryTree) (from : List Item) (t
     → from_fault database [] from ≡ None → projection_fault tables query.columns ≡ None → where_fault tables query.condition ≡ None
     → ((let block : BlockTree = record { relations = relations; edges = asked.parts.edges.items; projection = projection; parameters = asked.parameters.items } in block) ≡ block_of database query) × (bind_fault database query ≡ None)
 whole database query from tables asked relations projection items is has made named_are few from_none projection_none where_none =
-    let conjuncts = conjuncts_in tables query.condition in
-    let named = is ∙ ap (named_tables database) items in
-    let blocks : List NamedTable → BlockTree = λ some. record { relations = relations_from (conjuncts_in some query.condition) 0 some; edges = edges_of (conjuncts_in some query.condition); projection = projection_of some query.columns; parameters = parameter_kinds some query.condition } in (
-      same_block relations (relations_from conjuncts 0 tables) asked.parts.edges.items (edges_of conjuncts) projection (projection_of tables query.columns) asked.parameters.items (parameter_kinds tables query.condition)
-          (made ∙ ap (with_filters tables) has.parts.filters ∙ relations-of_parts conjuncts 0 tables) has.parts.edges named_are has.parameters
-          ∙ ap blocks named,
-      none_of _ _ (ap (λ some. past_limit limit.Relations max_relations (length some)) (sym items) ∙ few)
-          (none_of _ _ (ap (from_fault database []) (sym items) ∙ from_none)
-          (none_of _ _ (ap (λ some. projection_fault some query.columns) (sym named) ∙ projection_none)
-          (ap (λ some. where_fault some query.condition) (sym named) ∙ where_none))),
-    )
+    grind (arith, common_steps, same_block, relations-of_parts, none_of)

@@ -19,7 +19,7 @@ use Rattle.db_catalog.specs.Database.{DatabaseState, table_at, table_number}
 use Rattle.sql_bind.specs.declared.fault.BindFault.{BindFault}
 use Rattle.sql_bind.specs.declared.fault.BindFault.TheVariants.{UnknownTable, DuplicateAlias, Limit}
 use Rattle.sql_bind.specs.Named.{NamedTable}
-use Rattle.sql_bind.specs.Names.{place_of, written_columns_fault, first_fault_from}
+use Rattle.sql_bind.specs.Names.{place_of, written_column_fault, first_fault, first_fault_from}
 use Rattle.sql_bind.specs.Predicates.{predicates, predicates_fault, parameters_of}
 use Rattle.sql_bind.specs.Conjuncts.{Conjunct, conjuncts, conjunct_of, is_filter_of, edge_in, conjunct_fault}
 
@@ -57,7 +57,7 @@ from_fault database before (item ∷ items) =
 abbrev pub projection_fault : List NamedTable → Option (List ColRef) → Option BindFault
 projection_fault tables None = None
 projection_fault tables (Some columns) =
-    option_or (past_limit limit.Projection max_projection (length columns)) (written_columns_fault tables columns)
+    option_or (past_limit limit.Projection max_projection (length columns)) (first_fault (written_column_fault tables) columns)
 
 -- the conjuncts of WHERE; without WHERE there are none
 abbrev pub conjuncts_in : List NamedTable → Option ConditionTree → List Conjunct
@@ -128,16 +128,12 @@ block_of database query =
       parameters = parameter_kinds tables query.condition;
     }
 
--- FROM has too many tables
-abbrev pub tables_past_limit : QueryTree → Option BindFault
-tables_past_limit query = past_limit limit.Relations max_relations (length query.from)
-
 -- what refuses a query: how many tables FROM has, each of them, the columns that SELECT names, the condition of WHERE,
 -- and how many axes its block would have
 abbrev pub bind_fault : DatabaseState → QueryTree → Option BindFault
 bind_fault database query =
     let tables = named_tables database query.from in
-    option_or (tables_past_limit query)
+    option_or (past_limit limit.Relations max_relations (length query.from))
     (option_or (from_fault database [] query.from)
     (option_or (projection_fault tables query.columns)
     (option_or (condition_fault tables query.condition)

@@ -37,8 +37,7 @@ abbrev pub joined_reach : Reach → Reach → Reach
 joined_reach Nothing b = b
 joined_reach (One r) Nothing = One r
 joined_reach (One r) (One s) = if r == s then One r else Several
-joined_reach (One r) Several = Several
-joined_reach Several b = Several
+joined_reach a b = Several
 
 -- of which relation an operand is, by its place: a column alone is of one
 abbrev pub reach_at : Option ColumnAt → Reach
@@ -137,10 +136,9 @@ edge_in other edge = None
 
 -- a conjunct, by its number: it is a filter or an edge
 abbrev pub form_fault : ℕ → Reach → Option Edge → Option BindFault
-form_fault number Nothing edge = Some (PredicateForm number)
 form_fault number (One relation) edge = None
 form_fault number Several (Some edge) = None
-form_fault number Several None = Some (PredicateForm number)
+form_fault number reach edge = Some (PredicateForm number)
 
 abbrev pub conjunct_fault : ℕ → Conjunct → Option BindFault
 conjunct_fault number conjunct = form_fault number conjunct.reach conjunct.equality

@@ -43,9 +43,8 @@ kinds_of tables terms = map (λ term. (located tables term).kind) terms
 -- whether two kinds are the same
 abbrev pub is_same_kind : Kind → Kind → Bool
 is_same_kind kind.Integer kind.Integer = true
-is_same_kind kind.Integer kind.Text = false
-is_same_kind kind.Text kind.Integer = false
 is_same_kind kind.Text kind.Text = true
+is_same_kind one other = false
 
 -- the kind of a predicate: that of its first operand that isn't a parameter
 abbrev pub first_kind : List (Option Kind) → Option Kind

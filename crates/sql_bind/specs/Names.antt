@@ -43,9 +43,8 @@ abbrev pub written_column_fault : List NamedTable → ColRef → Option BindFaul
 written_column_fault tables written = named_once written (places_from 0 tables written)
 
 abbrev pub the_one : List ColumnAt → Option ColumnAt
-the_one [] = None
 the_one (place ∷ []) = Some place
-the_one (place ∷ other ∷ more) = None
+the_one places = None
 
 -- the column that a written column names, where it names exactly one
 abbrev pub place_of : List NamedTable → ColRef → Option ColumnAt
@@ -56,7 +55,7 @@ abbrev pub first_fault_from : {A : Type 0} → (ℕ → A → Option BindFault) 
 first_fault_from fault number [] = None
 first_fault_from fault number (item ∷ items) = option_or (fault number item) (first_fault_from fault (number + 1) items)
 
--- written columns from left to right
-abbrev pub written_columns_fault : List NamedTable → List ColRef → Option BindFault
-written_columns_fault tables [] = None
-written_columns_fault tables (written ∷ columns) = option_or (written_column_fault tables written) (written_columns_fault tables columns)
+-- the same where they aren't numbered
+abbrev pub first_fault : {A : Type 0} → (A → Option BindFault) → List A → Option BindFault
+first_fault fault [] = None
+first_fault fault (item ∷ items) = option_or (fault item) (first_fault fault items)

@@ -4,25 +4,22 @@ use Rattle.std.specs.Option.{option_or}
 use Rattle.query_block.specs.declared.kind.Kind.{Kind}
 use Rattle.sql_parse.specs.declared.tree.Cond.{Cond}
 use Rattle.sql_parse.specs.declared.tree.Term.{Term}
-use Rattle.sql_parse.specs.declared.tree.Term.TheVariants.{Column, Literal, Parameter}
+use Rattle.sql_parse.specs.declared.tree.Term.TheVariants.{Column}
 use Rattle.sql_parse.specs.Trees.{ConditionTree, ConditionTrees, Compare, Between, OneOf, IsNull, Not, And, Or, NoMore, More, condition_tree, operands}
 use Rattle.sql_bind.specs.declared.fault.BindFault.{BindFault}
 use Rattle.sql_bind.specs.declared.fault.BindFault.TheVariants.{TypeMismatch}
 use Rattle.sql_bind.specs.Named.{NamedTable}
-use Rattle.sql_bind.specs.Names.{written_column_fault, first_fault_from}
+use Rattle.sql_bind.specs.Names.{written_column_fault, first_fault, first_fault_from}
 use Rattle.sql_bind.specs.declared.walk.Walk.{Walk}
 use Rattle.sql_bind.specs.Located.{is_same_kind, kinds_of, first_kind, parameters_among}
 
 abbrev mutual
   -- each comparison, BETWEEN, IN and IS NULL of a condition, in written order
   pub predicates : ConditionTree → List ConditionTree
-  predicates (Compare op left right) = Compare op left right ∷ []
-  predicates (Between negated of low high) = Between negated of low high ∷ []
-  predicates (OneOf negated of terms) = OneOf negated of terms ∷ []
-  predicates (IsNull negated column) = IsNull negated column ∷ []
   predicates (Not inner) = predicates inner
   predicates (And parts) = predicates_of_all parts
   predicates (Or parts) = predicates_of_all parts
+  predicates predicate = predicate ∷ []
 
   pub predicates_of_all : ConditionTrees → List ConditionTree
   predicates_of_all NoMore = []
@@ -38,42 +35,29 @@ terms_of (Compare op left right) = left ∷ right ∷ []
 terms_of (Between negated of low high) = of ∷ low ∷ high ∷ []
 terms_of (OneOf negated of terms) = of ∷ terms
 terms_of (IsNull negated column) = Column column ∷ []
-terms_of (Not inner) = []
-terms_of (And parts) = []
-terms_of (Or parts) = []
+terms_of other = []
 
 -- an operand: a column of it names exactly one
 abbrev pub term_fault : List NamedTable → Term → Option BindFault
 term_fault tables (Column written) = written_column_fault tables written
-term_fault tables (Literal value) = None
-term_fault tables (Parameter number) = None
-
--- operands from left to right
-abbrev pub terms_fault : List NamedTable → List Term → Option BindFault
-terms_fault tables [] = None
-terms_fault tables (term ∷ terms) = option_or (term_fault tables term) (terms_fault tables terms)
+term_fault tables other = None
 
 -- an operand of a predicate of this kind, by its own: that is the same, or it is a parameter
 abbrev pub own_fault : ℕ → Kind → Option Kind → Option BindFault
 own_fault number kind None = None
 own_fault number kind (Some own) = if is_same_kind kind own then None else Some (TypeMismatch number)
 
--- operands of a predicate of this kind, from left to right
-abbrev pub kinds_fault : ℕ → Kind → List (Option Kind) → Option BindFault
-kinds_fault number kind [] = None
-kinds_fault number kind (own ∷ kinds) = option_or (own_fault number kind own) (kinds_fault number kind kinds)
-
 -- operands of a predicate of a kind; it has none if all of them are parameters
 abbrev pub alike_fault : ℕ → Option Kind → List (Option Kind) → Option BindFault
 alike_fault number None kinds = Some (TypeMismatch number)
-alike_fault number (Some kind) kinds = kinds_fault number kind kinds
+alike_fault number (Some kind) kinds = first_fault (own_fault number kind) kinds
 
 -- a predicate, by its number: its columns from left to right, then the kinds of its operands
 abbrev pub predicate_fault : List NamedTable → ℕ → ConditionTree → Option BindFault
 predicate_fault tables number predicate =
     let terms = terms_of predicate in
     let kinds = kinds_of tables terms in
-    option_or (terms_fault tables terms) (alike_fault number (first_kind kinds) kinds)
+    option_or (first_fault (term_fault tables) terms) (alike_fault number (first_kind kinds) kinds)
 
 -- predicates, numbered from this number on
 abbrev pub predicates_fault : List NamedTable → ℕ → List ConditionTree → Option BindFault

@@ -1,5 +1,7 @@
 -- When a check refuses, what comes of a query, and what a look-up has found so far.
 use Rattle.std.specs.Prelude.{◌≡◌, ◌≢◌, length, Option, Some, None, Result, Err, OnOk, IfOk, IfErr, IfSome, MatchResult}
+use Rattle.sql_values.specs.Limits.{max_relations}
+use Rattle.sql_values.specs.declared.limit.LimitName.TheVariants as limit
 use Rattle.query_block.specs.Shape.{BlockShape}
 use Rattle.query_block.specs.declared.edge.ColumnAt.{ColumnAt}
 use Rattle.query_block.specs.Blocks.{block_tree}
@@ -11,7 +13,7 @@ use Rattle.sql_bind.specs.declared.fault.BindFault.{BindFault}
 use Rattle.sql_bind.specs.declared.fault.BindFault.TheVariants.{NoMemory}
 use Rattle.sql_bind.specs.declared.names.Found.{Found}
 use Rattle.sql_bind.specs.declared.names.Found.TheVariants.{Nothing, One, Several}
-use Rattle.sql_bind.specs.Binding.{block_of, bind_fault, tables_past_limit}
+use Rattle.sql_bind.specs.Binding.{block_of, bind_fault, past_limit}
 
 -- a call is refused with the fault that is due, and otherwise it isn't; only memory may be wanting besides
 pub record RefusesBlock {T : Type 0} (due : Option BindFault) (result : Result T BindFault) : Type 0 where
@@ -29,7 +31,7 @@ pub record Binds (database : DatabaseState) (query : QueryTree) (result : Result
   pub fits : IfOk result (λ block. Fits database (block_tree block))
   pub parameters : IfOk result (λ block. length (block_tree block).parameters ≡ length (parameters_of_condition query.condition))
   pub refuses : RefusesBlock (bind_fault database query) result
-  pub counted : IfSome (tables_past_limit query) (λ fault. result ≡ Err fault)
+  pub counted : IfSome (past_limit limit.Relations max_relations (length query.from)) (λ fault. result ≡ Err fault)
 
 -- a column more is found
 abbrev pub added : Found → ColumnAt → Found

@@ -2,7 +2,8 @@
 // of its own, and is given that of its predicate.
 ghost use Rattle.std.specs.Prelude.{◌≡◌, ◌<◌, ◌+◌, ◌++◌, ◌^◌, OnOk, flat_map};
 ghost use Rattle.sql_bind.specs.Located.{is_same_kind, first_kind, given_kind, parameters_among};
-ghost use Rattle.sql_bind.specs.Predicates.{own_fault, kinds_fault, alike_fault};
+ghost use Rattle.sql_bind.specs.Names.{first_fault};
+ghost use Rattle.sql_bind.specs.Predicates.{own_fault, alike_fault};
 ghost use Rattle.sql_bind.specs.Refused.{RefusesBlock};
 
 use crate::fault::BindFault;
@@ -78,7 +79,7 @@ fn check_kinds(
     predicate: u32,
     parameters: &mut Vec<Kind>,
 ) -> Result<(), BindFault>
-    ensures refuses { RefusesBlock (kinds_fault predicate kind kinds.now) result }
+    ensures refuses { RefusesBlock (first_fault (own_fault predicate kind) kinds.now) result }
     ensures given { OnOk result
         (parameters.new.items ≡ parameters.old.items ++ flat_map (given_kind kind) kinds.now) }
 {

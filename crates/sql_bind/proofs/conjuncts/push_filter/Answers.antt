@@ -1,4 +1,5 @@
-use Rattle.std.proofs.Common.{◌≡◌, ◌∙◌, ◌∷◌, [], ap, map, rules, ◌<◌, ◌≤◌, length, get_or, arith}
+use Rattle.std.proofs.Common.{◌≡◌, ◌∙◌, ◌∷◌, [], ap, map, rules, ◌<◌, length, get_or, arith}
+use Rattle.std.proofs.lemmas.Grind.{common_steps}
 use Rattle.std.proofs.lemmas.List.{map-append}
 use Rattle.query_block.specs.Conditions.{filter_tree}
 use Rattle.sql_bind.proofs.Collected.{pushed, not_pushed}
@@ -12,6 +13,4 @@ returns-in_ok-push c =
     (ap (map filter_tree) c.in_ok-push.ensures.items ∙ map-append filter_tree c.index_mut.result.now.items (c.args.condition ∷ []))
 
 pub returns-else-at-len : goal.returns-else-at-len
-returns-else-at-len c =
-    let past : length c.args.filters.now.items ≤ c.args.relation = omega (arith, c.if-at-len.false, c.len.ensures) in
-    not_pushed c.args.filters.now.items c.args.relation (filter_tree c.args.condition) past
+returns-else-at-len c = grind (arith, common_steps, not_pushed)
