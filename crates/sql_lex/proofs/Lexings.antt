@@ -9,8 +9,9 @@ use Rattle.std.proofs.lemmas.List.{append-nil, get_or_past, drop_more, drop_all,
 use Rattle.std.proofs.lemmas.List.Edits.{length-between}
 use Rattle.std.proofs.lemmas.List.Elements.{All-nil, All-cons, All-head, All-tail}
 use Rattle.std.proofs.lemmas.List.Folds.{drop_split}
-use Rattle.sql_lex.specs.Bytes.{is_white, is_comment_byte, starts_word, is_word_byte, is_sign, starts_comparison, is_second}
-use Rattle.sql_lex.specs.Run.{IsRun}
+use Rattle.sql_lex.specs.Bytes.{is_white, starts_word, is_word_byte, is_sign, starts_comparison, is_second}
+use Rattle.sql_lex.specs.declared.byte.Run.TheVariants.{Comment}
+use Rattle.sql_lex.specs.Run.{belongs, IsRun}
 use Rattle.sql_lex.specs.Gap.{gap_begins, IsGap, comment_begins}
 use Rattle.sql_lex.specs.Gap.IsGap.{nothing, white, comment}
 use Rattle.sql_lex.specs.Values.{doubled, number_value_of, text_value_of}
@@ -188,7 +189,7 @@ gap_once s from p q (white _ _ _ one) (white _ _ _ other) a b = gap_once s (from
 gap_once s from p q (white _ _ space _) (comment _ _ _ begins line _) a b = absurd (white_no_comment (get_or s from 0) (get_or s (from + 1) 0) space begins)
 gap_once s from p q (comment _ _ _ begins line _) (white _ _ space _) a b = absurd (white_no_comment (get_or s from 0) (get_or s (from + 1) 0) space begins)
 gap_once s from p q (comment _ d _ _ line one) (comment _ e _ _ row other) a b =
-    let ends = run_once is_comment_byte s from d e line row in
+    let ends = run_once (belongs Comment) s from d e line row in
     gap_once s e p q (subst (λ (k : ℕ). IsGap s k p) ends one) other a b
 
 comes_once : (s : List ℕ) (from : ℕ) (one other : Next) → ComesNext s from one → ComesNext s from other → one ≡ other
@@ -312,8 +313,8 @@ some_gap (suc n) s from enough in_script =
           (rest.0, white from rest.0 space rest.1, rest.2, rest.3)
       | inr no_white ↦ elim (cases_Bool (comment_begins s from)) [
         | inl begins ↦
-            let run = some_run is_comment_byte s from in_script in
-            let moves = IsRun-moves is_comment_byte s from run.0 run.1 (grind (arith, nat_tests)) (grind (arith, nat_tests)) in
+            let run = some_run (belongs Comment) s from in_script in
+            let moves = IsRun-moves (belongs Comment) s from run.0 run.1 (grind (arith, nat_tests)) (grind (arith, nat_tests)) in
             let rest = some_gap n s run.0 (omega arith) run.1.in_script in
             (rest.0, comment from run.0 rest.0 begins run.1 rest.1, rest.2, rest.3)
         | inr no_comment ↦ (from, nothing from, in_script, λ _. grind (arith, nat_tests))

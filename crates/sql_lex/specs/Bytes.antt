@@ -1,15 +1,11 @@
 -- The bytes that tokens and comments are made of, as tests.
-use Rattle.std.specs.Prelude.{ℕ, Bool, ◌==◌, ◌||◌, ◌&&◌, not, codes}
+use Rattle.std.specs.Prelude.{ℕ, Bool, ◌==◌, ◌||◌, ◌&&◌, codes}
 use Rattle.std.specs.List.{list_any}
 use Rattle.std.specs.Char.{is_ascii_alphabetic, is_ascii_alphanumeric}
 
 -- space, tab, line feed, carriage return
 abbrev pub is_white : ℕ → Bool
 is_white b = (b == 32) || (b == 9) || (b == 10) || (b == 13)
-
--- what a comment goes on with: any byte but a line feed
-abbrev pub is_comment_byte : ℕ → Bool
-is_comment_byte b = not (b == 10)
 
 -- what a word begins with: a letter
 abbrev pub starts_word : ℕ → Bool

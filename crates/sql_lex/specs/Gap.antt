@@ -1,7 +1,8 @@
 -- White space and comments.
 use Rattle.std.specs.Prelude.{ℕ, ◌+◌, Bool, ◌==◌, ◌&&◌, ◌||◌, List, slice_index, IsTrue}
-use Rattle.sql_lex.specs.Bytes.{is_white, is_comment_byte}
-use Rattle.sql_lex.specs.Run.{IsRun}
+use Rattle.sql_lex.specs.Bytes.{is_white}
+use Rattle.sql_lex.specs.declared.byte.Run.TheVariants.{Comment}
+use Rattle.sql_lex.specs.Run.{belongs, IsRun}
 
 -- two minus signs
 abbrev pub comment_begins : List ℕ → ℕ → Bool
@@ -18,5 +19,5 @@ pub data IsGap (script : List ℕ) : (from end : ℕ) → Type 0 where
   nothing : (place : ℕ) → IsGap script place place
   white : (from end : ℕ) → IsTrue (is_white (slice_index script from))
       → IsGap script (from + 1) end → IsGap script from end
-  comment : (from stop end : ℕ) → IsTrue (comment_begins script from) → IsRun is_comment_byte script from stop
+  comment : (from stop end : ℕ) → IsTrue (comment_begins script from) → IsRun (belongs Comment) script from stop
       → IsGap script stop end → IsGap script from end
