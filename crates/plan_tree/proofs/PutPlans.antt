@@ -12,9 +12,9 @@ use Rattle.query_block.specs.declared.condition.Operand.TheVariants.{Column, Lit
 use Rattle.query_block.specs.Conditions.{FilterTree, Compare, Between, OneOf, IsNull, Not, And, Or}
 use Rattle.query_block.specs.Parameters.{is_parameter, put_operand, put_condition}
 use Rattle.query_block.specs.Blocks.{BlockTree, IsOperand, FitsColumns, relation_at, put_relation, put_of}
-use Rattle.plan_tree.specs.Plans.{PlanTree, Scan, IndexScan, Nest, Hash, Merge, IndexLoop}
+use Rattle.plan_tree.specs.Plans.{PlanTree, Scan, IndexScan, Nest, Hash, Merge, IndexLoop, has_leaf}
 use Rattle.plan_tree.specs.Usable.{is_column, is_value, is_usable, is_fixed_usable}
-use Rattle.plan_tree.specs.Enumerated.{IsIndexed, HasUsable, IsScannable, IsLookUp, IsSubPlan, IsPlan, JoinsAll, has_usable, column_on, edge_at}
+use Rattle.plan_tree.specs.Enumerated.{IsIndexed, HasUsable, IsScannable, IsLookUp, IsSubPlan, IsPlan, has_usable, column_on, edge_at}
 
 module _ (values : List Value) where
   same-column : (column : ℕ) (operand : Operand) → is_column column (put_operand values operand) ≡ is_column column operand
@@ -97,8 +97,8 @@ module _ (values : List Value) where
     put-plan p =
         let nodes = put-sub-plan p in
         let same : length (put_of values block).relations ≡ length block.relations = length-map block.relations (put_relation values) in (
-          λ is. record { nodes = nodes.0 is.nodes; whole = subst (JoinsAll p) same is.whole },
-          λ is. record { nodes = nodes.1 is.nodes; whole = subst (JoinsAll p) (sym same) is.whole },
+          λ is. record { nodes = nodes.0 is.nodes; whole = subst (λ (count : ℕ). (r : ℕ) → r < count → IsTrue (has_leaf p r)) same is.whole },
+          λ is. record { nodes = nodes.1 is.nodes; whole = subst (λ (count : ℕ). (r : ℕ) → r < count → IsTrue (has_leaf p r)) (sym same) is.whole },
         )
 
 -- a condition without parameters isn't open where an index can use it

@@ -61,11 +61,7 @@ IsSubPlan block (Merge edge left right) =
     IsSubPlan block left × IsSubPlan block right × AreApart left right × Crosses block.edges edge left right
 IsSubPlan block (IndexLoop edge left relation) = IsSubPlan block left × IsLookUp block edge left relation
 
--- it joins each of so many relations
-abbrev pub JoinsAll : PlanTree → (count : ℕ) → Type 0
-JoinsAll p count = (relation : ℕ) → relation < count → IsTrue (has_leaf p relation)
-
 -- a plan of the block: it joins all of its relations
 pub record IsPlan (block : BlockTree) (p : PlanTree) : Type 0 where
   pub nodes : IsSubPlan block p
-  pub whole : JoinsAll p (length block.relations)
+  pub whole : (relation : ℕ) → relation < length block.relations → IsTrue (has_leaf p relation)

@@ -4,7 +4,7 @@ ghost use Rattle.std.specs.Prelude.{ℕ, ◌≡◌, ◌↔◌, ◌<◌, ◌≤�
 ghost use Rattle.sql_values.specs.declared.value.Value.{Value};
 ghost use Rattle.query_block.specs.Blocks.{BlockTree, block_tree, put_of, relation_at};
 ghost use Rattle.plan_tree.specs.Plans.{PlanTree, plan_tree, has_leaf};
-ghost use Rattle.plan_tree.specs.Enumerated.{AreApart, Crosses, IsIndexed, HasUsable, IsLookUp, IsScannable, IsSubPlan, IsPlan, JoinsAll};
+ghost use Rattle.plan_tree.specs.Enumerated.{AreApart, Crosses, IsIndexed, HasUsable, IsLookUp, IsScannable, IsSubPlan, IsPlan};
 ghost use Rattle.plan_tree.specs.Sets.{is_between};
 
 use crate::leaves::{has_leaf, share_leaf};
@@ -109,7 +109,8 @@ fn is_sub_plan(block: &Block, p: &Plan) -> bool
 // Whether a tree joins all relations of which there are so many.
 fn joins_all(p: &Plan, relations: usize) -> bool
     requires { relations ≤ 8 }
-    ensures { IsTrue result ↔ JoinsAll (plan_tree p.now) relations }
+    ensures { IsTrue result ↔
+        ((relation : ℕ) → relation < relations → IsTrue (has_leaf (plan_tree p.now) relation)) }
 {
     for relation in 0..relations {
         if !has_leaf(p, relation as u8) {
