@@ -10,7 +10,7 @@ use Rattle.sql_parse.specs.declared.tree.Term.TheVariants as term
 use Rattle.sql_parse.specs.Lexemes.{Lexeme, mark}
 use Rattle.sql_parse.specs.Trees.{Compare, Between, OneOf, IsNull, Not, And, Or}
 use Rattle.sql_parse.specs.Grammar.{Rule, written_if, Separated, InParentheses, IsColumnName, IsColRef, IsInteger, IsLiteral, IsTerm, IsPredicate, IsItem, IsSelection}
-use Rattle.sql_parse.specs.Canonical.{Part, Fixed, part_lexeme, listed, in_parentheses, kept_if, column_name_parts, column_parts, integer_parts, value_parts, operand_parts, condition_parts, item_parts, selection_parts}
+use Rattle.sql_parse.specs.Canonical.{Part, Fixed, part_lexeme, listed, in_parentheses, kept_if, column_parts, integer_parts, value_parts, operand_parts, condition_parts, item_parts, selection_parts}
 
 abbrev pub tokens_of : List Part → List Lexeme
 tokens_of parts = map part_lexeme parts
@@ -48,7 +48,7 @@ pub in_parentheses-printed : {A : Type 0} (IsInside : Rule A) (parts : A → Lis
 in_parentheses-printed IsInside parts printed tokens x form =
     (tokens_of (parts x), ap (λ ts. mark m.OpenParen ∷ ts) (tokens-append (parts x) (Fixed m.CloseParen ∷ [])), printed form.0 x form.2)
 
-column_name-printed : (alias : Option (List ℕ)) → IsPrintedBy (IsColumnName alias) (column_name_parts alias)
+column_name-printed : (alias : Option (List ℕ)) → IsPrintedBy (IsColumnName alias) (λ column. column_parts (record { alias = alias; column = column }))
 column_name-printed None tokens column form = (refl, form.1)
 column_name-printed (Some alias) tokens column form = (refl, form.1, form.2)
 

@@ -10,7 +10,7 @@ use Rattle.sql_parse.specs.Limits.{nesting_limit}
 use Rattle.sql_parse.specs.Lexemes.{Lexeme, Word, mark}
 use Rattle.sql_parse.specs.Trees.{ConditionTree, Compare, Between, OneOf, IsNull, Not, And, Or, operands}
 use Rattle.sql_parse.specs.Grammar.{Rule, Separated, InParentheses, IsColumnName, IsColRef, IsInteger, IsLiteral, IsTerm, IsPredicate, IsFactor, IsConjunction, IsDisjunction, IsGroup, IsItem, IsSelection, IsWhere, IsSelect}
-use Rattle.sql_parse.specs.Canonical.{Part, Fixed, Name, listed, in_parentheses, kept_if, column_name_parts, column_parts, integer_parts, value_parts, operand_parts, is_or, is_chain, grouped_if, condition_parts, chain_parts, item_parts, selection_parts, where_parts, query_parts}
+use Rattle.sql_parse.specs.Canonical.{Part, Fixed, Name, listed, in_parentheses, kept_if, column_parts, integer_parts, value_parts, operand_parts, is_or, is_chain, grouped_if, condition_parts, chain_parts, item_parts, selection_parts, where_parts, query_parts}
 use Rattle.sql_parse.proofs.Sound.{IsSound, EachSound, mark-sound}
 use Rattle.sql_parse.proofs.WrittenParts.{Follows, Writable, writable-append}
 
@@ -43,7 +43,7 @@ pub in_parentheses-writable : {A : Type 0} (IsInside : Rule A) (parts : A → Li
 in_parentheses-writable IsInside parts writable tokens x sound form =
     grind (arith, common_steps, group-writable, sound-front)
 
-column_name-writable : (alias : Option (List ℕ)) → IsWritable (IsColumnName alias) (column_name_parts alias)
+column_name-writable : (alias : Option (List ℕ)) → IsWritable (IsColumnName alias) (λ column. column_parts (record { alias = alias; column = column }))
 column_name-writable None tokens column sound form = let all = subst EachSound form.0 sound in (all.0, tt, tt)
 column_name-writable (Some alias) tokens column sound form =
     let all = subst EachSound form.0 sound in (all.0, tt, (mark-sound m.Dot, tt, (all.1.1.0, tt, tt)))

@@ -1,5 +1,6 @@
 -- The canonical text of a statement: the one text in which it is written.
 use Rattle.std.specs.Prelude.{ℕ, ℤ, pos, int_lt, unsigned_abs, Bool, true, false, ◌||◌, List, [], ◌∷◌, ◌++◌, map, flat_map, codes, bytes_eq, decimal, Option, Some, None, if◌then◌else◌}
+use Rattle.std.specs.Option.{option_map_or}
 use Rattle.sql_lex.specs.Values.{quoted, comparison_text}
 use Rattle.sql_lex.specs.Written.{Written, written_text}
 use Rattle.sql_values.specs.declared.op.Op.{Op}
@@ -85,12 +86,9 @@ abbrev pub kept_if : Bool → List Mark → List Part
 kept_if false marks = []
 kept_if true marks = map Fixed marks
 
-abbrev pub column_name_parts : (alias : Option (List ℕ)) (column : List ℕ) → List Part
-column_name_parts None column = Name column ∷ []
-column_name_parts (Some alias) column = Name alias ∷ Fixed m.Dot ∷ Name column ∷ []
-
 abbrev pub column_parts : ColRef → List Part
-column_parts column = column_name_parts column.alias column.column
+column_parts column =
+    option_map_or (λ alias. Name alias ∷ Fixed m.Dot ∷ Name column.column ∷ []) column.alias (Name column.column ∷ [])
 
 -- no plus sign is written, nor a minus sign before 0
 abbrev pub integer_parts : ℤ → List Part

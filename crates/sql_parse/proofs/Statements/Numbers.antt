@@ -4,10 +4,15 @@ use Rattle.std.proofs.lemmas.Slice.Eq.{bytes_eq-Decides}
 use Rattle.sql_parse.proofs.Productions.{Lexeme, Word, Separated, after_word, after_mark, number_at, list_at, either_word, Reads, number-reads, list-reads, IsReadAgain, list-again, tokens_of, IsPrintedBy, separated-printed, EachSound, IsWritable, listed-writable, Holds, no_terms, hold-none, hold-after}
 use Rattle.sql_parse.specs.declared.mark.Mark.TheVariants as m
 use Rattle.sql_parse.specs.Canonical.{Number, listed}
-use Rattle.sql_parse.specs.Statements.Numbers.{IsNumber, IsNumbers, numbers_at, numbers_parts}
+use Rattle.sql_parse.specs.Grammar.{Rule}
+use Rattle.sql_parse.specs.Lexemes.{Number as NumberToken}
+use Rattle.sql_parse.specs.Statements.Numbers.{IsNumbers, numbers_at, numbers_parts}
 use Rattle.sql_parse.proofs.Read.{IsRead, found_weaker}
 use Rattle.sql_parse.proofs.Sound.{IsSound}
 use Rattle.sql_parse.proofs.Operands.{list-held}
+
+abbrev IsNumber : Rule ℕ
+IsNumber tokens n = tokens ≡ NumberToken n ∷ []
 
 number-again : IsReadAgain IsNumber number_at (λ rest. Unit {0})
 unfolding number_at

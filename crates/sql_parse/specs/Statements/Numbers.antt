@@ -4,14 +4,10 @@ use Rattle.sql_parse.specs.Productions.{Word, Rule, After, Separated, after_word
 use Rattle.sql_parse.specs.declared.mark.Mark.TheVariants as m
 use Rattle.sql_parse.specs.Lexemes.{Number as NumberToken}
 
--- a number
-abbrev pub IsNumber : Rule ℕ
-IsNumber tokens n = tokens ≡ NumberToken n ∷ []
-
 -- [ word number { "," number } ]
 abbrev pub IsNumbers : (word : List ℕ) → Rule (List ℕ)
 IsNumbers word tokens [] = tokens ≡ []
-IsNumbers word tokens (n ∷ ns) = After (Word word) (Separated m.Comma IsNumber) tokens (n ∷ ns)
+IsNumbers word tokens (n ∷ ns) = After (Word word) (Separated m.Comma (λ number n. number ≡ NumberToken n ∷ [])) tokens (n ∷ ns)
 
 -- the numbers, where the word stands
 unfoldable pub numbers_at : (word : List ℕ) → Reader (List ℕ)
