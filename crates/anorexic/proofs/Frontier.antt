@@ -7,7 +7,6 @@ use Rattle.std.specs.Prelude.{Contains, slice_index_or}
 use Rattle.plan_tree.specs.declared.plan.Plan.{Plan}
 use Rattle.plan_tree.specs.declared.plan.Plan.TheVariants as plan
 use Rattle.plan_tree.specs.Plans.{Scan, plan_tree, FitsSet}
-use Rattle.plan_tree.specs.Enumerated.{IsPlan}
 use Rattle.cost_model.specs.Costing.{CostingTree, IsCosting}
 use Rattle.cost_model.specs.Best.{IsBest}
 use Rattle.cost_model.specs.Optimal.{best_plan}
@@ -21,12 +20,10 @@ use Rattle.plan_space.specs.declared.outlook.FrontierPlans.{FrontierPlans}
 use Rattle.plan_space.specs.declared.surface.SurfacePoint.{SurfacePoint}
 use Rattle.plan_space.specs.SurfacePoints.{IsSurfacePoint, surface_points}
 use Rattle.plan_space.specs.FrontierPlans.{AreFrontierPlans, HoldsBest, IsBestAmong, nth_point}
-use Rattle.anorexic.specs.Points.{without_plan}
 
--- the plans are plans of the block, so the sets of their relations fit
-pub plans-are : (costing : CostingTree) (points : List (List ℕ)) (plans : List Plan) (end : ℕ) → HoldsBest costing points end plans → All (λ p. IsPlan costing.block (plan_tree p)) plans
-plans-are costing points plans end held =
-    All-weaker (λ p. IsBestAmong costing points (plan_tree p)) (λ p. IsPlan costing.block (plan_tree p)) (λ p ok. ok.best.cheapest.plan) plans held.each
+-- a point without its plan
+abbrev pub without_plan : FrontierPoint → SurfacePoint
+without_plan at = record { point = at.point; cost = at.cost }
 
 pub plans-fit : (costing : CostingTree) (points : List (List ℕ)) (plans : List Plan) (end : ℕ) → IsCosting costing → HoldsBest costing points end plans → All (λ p. FitsSet (plan_tree p)) plans
 plans-fit costing points plans end is held =

@@ -1,5 +1,5 @@
 -- The steps of the loops: candidates are gathered, the first of them is sought, and turns follow one another.
-use Rattle.std.proofs.Common.{◌≡◌, ℕ, zero, suc, ◌+◌, ◌-◌, ◌*◌, ◌<◌, ◌≤◌, List, [], ◌∷◌, ◌++◌, All, length, map, refl, sym, ap, ◌∙◌, subst, arith}
+use Rattle.std.proofs.Common.{◌≡◌, ℕ, suc, ◌+◌, ◌-◌, ◌*◌, ◌<◌, ◌≤◌, List, [], ◌∷◌, ◌++◌, All, length, map, refl, sym, ap, ◌∙◌, subst, arith, map-id}
 use Rattle.std.specs.Prelude.{Bool, true, false, not, count_by, filter, slice_index_or}
 use Rattle.std.specs.List.{range_with_len}
 use Rattle.std.specs.Ordering.{is_gt, ordering_reverse}
@@ -11,7 +11,7 @@ use Rattle.std.proofs.lemmas.Bool.{true≢false}
 use Rattle.std.proofs.lemmas.Cmp.{upto, tied_itself, nat_cmp_total, on_total, then_total, back_total}
 use Rattle.std.proofs.lemmas.List.{get_or-map, get_or-drop, length-map, map-append, append_assoc}
 use Rattle.std.proofs.lemmas.List.Filters.{FiltersInPlace}
-use Rattle.std.proofs.lemmas.List.FromFn.{fill_by_all, get_or-range_with_len, length-range_with_len}
+use Rattle.std.proofs.lemmas.List.FromFn.{fill_by_all, get_or-range_with_len, length-range_with_len, map-range_with_len_more}
 use Rattle.plan_tree.specs.declared.plan.Plan.{Plan}
 use Rattle.plan_tree.specs.declared.plan.Plan.TheVariants as plan
 use Rattle.plan_tree.specs.Plans.{PlanTree, Scan, plan_tree}
@@ -21,9 +21,10 @@ use Rattle.cost_model.specs.Costing.{CostingTree}
 use Rattle.cost_model.specs.Greedy.{greedy_turns, greedy}
 use Rattle.cost_model.specs.Optimal.{best_plan}
 use Rattle.cost_model.proofs.BestPlans.{best-only}
+use Rattle.cost_model.proofs.Covers.{greedy-same}
 use Rattle.plan_space.specs.FrontierPlans.{HoldsBest, nth_point}
 use Rattle.anorexic.specs.Turns.{IsCoverTable, is_marked, cover_order, plan_at, turn_order}
-use Rattle.anorexic.proofs.Turns.{one-turn, same-turns}
+use Rattle.anorexic.proofs.Turns.{one-turn}
 
 -- ---- the first candidate
 
@@ -87,17 +88,8 @@ row-there table width test xs ys kept i place rows is below at =
 pub all-points : (points : List (List ℕ)) → map (nth_point points) (range_with_len 0 (length points)) ≡ points
 all-points points = sym (fill_by_all (nth_point points) points (length points) [] refl (λ k less. refl))
 
-range-more : (a n : ℕ) → range_with_len a (suc n) ≡ range_with_len a n ++ (a + n) ∷ []
-range-more a zero = let none : a ≡ a + 0 = omega arith in ap (λ k. k ∷ []) none
-range-more a (suc n) =
-    let next : a + 1 + n ≡ a + suc n = omega arith in
-    ap (λ ks. a ∷ ks) (range-more (a + 1) n ∙ ap (λ k. range_with_len (a + 1) n ++ k ∷ []) next)
-
 pub places-more : (count : ℕ) → range_with_len 0 (count + 1) ≡ range_with_len 0 count ++ count ∷ []
-places-more count =
-    let one : count + 1 ≡ suc count = omega arith in
-    let none : 0 + count ≡ count = omega arith in
-    ap (range_with_len 0) one ∙ range-more 0 count ∙ ap (λ k. range_with_len 0 count ++ k ∷ []) none
+places-more count = simp map-id at (map-range_with_len_more (λ (i : ℕ). i) 0 count count (omega arith))
 
 pub places-within : (count : ℕ) → All (λ place. place < count) (range_with_len 0 count)
 places-within count k d less =
@@ -149,4 +141,4 @@ all-turns costing threshold points count plans long held =
     let few : place < length points = omega (arith, below, length-map points (best_plan costing)) in
     subst (λ one. IsIn one trees) (sym (get_or-map (best_plan costing) points place [] p few) ∙ at)
     (in-contained (best_plan costing (nth_point points place)) trees (held.all place (omega (arith, few, long)))) in
-    same-turns costing threshold trees best count points into back ∙ ap (λ n. greedy_turns costing threshold best n points) (sym long)
+    greedy-same costing threshold trees best count points into back ∙ ap (λ n. greedy_turns costing threshold best n points) (sym long)

@@ -11,7 +11,7 @@ use Rattle.plan_tree.proofs.Members.{IsIn, in-contained, contained-in}
 use Rattle.cost_model.specs.Costing.{CostingTree}
 use Rattle.cost_model.specs.Optimal.{first_plan}
 use Rattle.cost_model.specs.Greedy.{covers_at, order_by_cover, greedy_turns}
-use Rattle.cost_model.proofs.BestPlans.{first-only, first-same, by-cover}
+use Rattle.cost_model.proofs.BestPlans.{first-only, by-cover}
 use Rattle.plan_space.specs.FrontierPlans.{nth_point}
 use Rattle.anorexic.specs.Turns.{IsCoverTable, is_marked, plan_at, turn_order}
 use Rattle.anorexic.proofs.Table.{marked-is, count-is, filter-is}
@@ -25,20 +25,6 @@ none-left costing threshold candidates (suc turns) = refl
 pub no-turns : (costing : CostingTree) (threshold : ℕ) (candidates : List PlanTree) (points : List (List ℕ)) → greedy_turns costing threshold candidates 0 points ≡ []
 unfolding greedy_turns
 no-turns costing threshold candidates points = refl
-
--- the same candidates, in any order and however often
-pub same-turns : (costing : CostingTree) (threshold : ℕ) (candidates others : List PlanTree) (turns : ℕ) (points : List (List ℕ))
-    → ((p : PlanTree) → IsIn p candidates → IsIn p others) → ((p : PlanTree) → IsIn p others → IsIn p candidates)
-    → greedy_turns costing threshold candidates turns points ≡ greedy_turns costing threshold others turns points
-unfolding greedy_turns
-same-turns costing threshold candidates others zero points into back = refl
-same-turns costing threshold candidates others (suc turns) [] into back = refl
-same-turns costing threshold candidates others (suc turns) (point ∷ points) into back =
-    let order = order_by_cover costing threshold (point ∷ points) in
-    let rest = λ (p : PlanTree). filter (λ one. not (covers_at costing threshold p one)) (point ∷ points) in
-    let first = first-same order (by-cover costing threshold (point ∷ points)) candidates others into back in
-    let more = same-turns costing threshold candidates others turns (rest (first_plan order candidates)) into back in
-    (λ i. first_plan order candidates ∷ more i) ∙ (λ i. first i ∷ greedy_turns costing threshold others turns (rest (first i)))
 
 -- the candidate that a turn takes, and what it leaves
 turn-takes : (costing : CostingTree) (threshold : ℕ) (candidates : List PlanTree) (turns : ℕ) (points : List (List ℕ)) (p : PlanTree) → 0 < length points

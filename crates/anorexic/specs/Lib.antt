@@ -1,3 +1,1 @@
 pub mod Turns
--- what only proofs need
-pub mod Points

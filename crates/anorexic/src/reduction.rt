@@ -8,7 +8,6 @@ ghost use Rattle.cost_model.specs.Greedy.{greedy};
 ghost use Rattle.cost_model.specs.FrontierPoints.{IsFrontier, frontier_points};
 ghost use Rattle.plan_space.specs.SurfacePoints.{surface_points};
 ghost use Rattle.plan_space.specs.FrontierPlans.{AreFrontierPlans};
-ghost use Rattle.anorexic.specs.Points.{without_plan};
 ghost use Rattle.anorexic.specs.Turns.{AreTaken, plan_at};
 
 use crate::cover::cover_table;
@@ -92,7 +91,8 @@ pub fn reduce_frontier(
 
 // The points of a frontier, and a copy of each of their plans.
 fn taken_apart(alloc: Global, frontier: &[FrontierPoint]) -> Result<FrontierPlans, AllocError>
-    ensures points { IfOk result (λ apart. apart.points.items ≡ map without_plan frontier.now) }
+    ensures points { IfOk result (λ apart.
+        apart.points.items ≡ map (λ at. record { point = at.point; cost = at.cost }) frontier.now) }
     ensures plans { IfOk result (λ apart.
         map plan_tree apart.plans.items ≡ map (λ at. plan_tree at.plan) frontier.now) }
 {

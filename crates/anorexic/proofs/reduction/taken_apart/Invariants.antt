@@ -1,6 +1,6 @@
 use Rattle.std.proofs.Common.{◌≡◌, map, take}
 use Rattle.plan_tree.specs.Plans.{plan_tree}
-use Rattle.anorexic.specs.Points.{without_plan}
+use Rattle.anorexic.proofs.Frontier.{without_plan}
 use Rattle.anorexic.proofs.reduction.taken_apart.Given as goal
 
 abbrev pub invariant-loop-at : goal.invariant-loop-at
