@@ -1,5 +1,6 @@
 -- A statement has at most as many operands, and so at most as many predicates and parameters, as it has tokens.
 use Rattle.std.proofs.Common.{◌≡◌, ◌∙◌, ◌+◌, ◌≤◌, List, [], ◌∷◌, ◌++◌, length, Option, Some, None, refl, ap, length-append, arith}
+use Rattle.std.proofs.lemmas.Grind.{common_steps}
 use Rattle.std.specs.List.{filter_map, cons_option}
 use Rattle.std.proofs.lemmas.List.Elements.{filter_map-append}
 use Rattle.sql_parse.specs.Lexemes.{Lexeme}
@@ -88,8 +89,4 @@ filter_map-length f (x ∷ xs) = omega (arith, cons_option-length (f x) (filter_
 
 pub statement-few : (tokens : List Lexeme) (statement : StatementTree) → IsStatement tokens statement → HasUpTo (length tokens) statement
 statement-few tokens statement form =
-    let held = statement-held tokens statement form in
-    record {
-      predicates = omega (arith, condition-predicates (condition_of statement), held.few);
-      parameters = omega (arith, filter_map-length parameter_of (terms_of statement), held.few, ap length (condition-parameters (condition_of statement)));
-    }
+    grind (arith, common_steps, statement-held, condition-predicates, filter_map-length, terms_of, condition-parameters)

@@ -1,12 +1,13 @@
 -- What is read is written by the grammar.
-use Rattle.std.proofs.Common.{◌≡◌, ℕ, zero, suc, ◌⊎◌, inl, inr, true, false, cond, List, [], ◌∷◌, ◌++◌, Option, Some, None, pos, refl, sym, ap, subst, ◌∙◌, append_assoc}
+use Rattle.std.proofs.Common.{◌≡◌, ℕ, zero, suc, ◌⊎◌, inl, inr, true, false, cond, List, [], ◌∷◌, ◌++◌, Option, Some, None, pos, refl, sym, ap, subst, ◌∙◌, append_assoc, arith}
+use Rattle.std.proofs.lemmas.Grind.{common_steps}
 use Rattle.std.proofs.lemmas.Slice.Eq.{bytes_eq-Decides}
 use Rattle.sql_values.specs.declared.value.Value.TheVariants as value
 use Rattle.sql_lex.specs.declared.token.TokenKind.{TokenKind}
 use Rattle.sql_lex.specs.declared.token.TokenKind.TheVariants as kinds
 use Rattle.sql_parse.specs.declared.mark.Mark.{Mark}
 use Rattle.sql_parse.specs.declared.mark.Mark.TheVariants as m
-use Rattle.sql_parse.specs.Lexemes.{Lexeme, Word, Number, Text, Sign, Parameter, mark, is_reserved}
+use Rattle.sql_parse.specs.Lexemes.{Lexeme, Word, Number, Text, Sign, Parameter, mark}
 use Rattle.sql_parse.specs.Trees.{StatementTree}
 use Rattle.sql_parse.specs.Grammar.{Rule, IsNameToken, Separated, InParentheses, IsColRef, IsInteger, IsLiteral, IsTerm}
 use Rattle.sql_parse.specs.Reading.{Reader, ◌>>=◌, choose, same, after_mark, after_word, name_at, number_at, text_token_at, more_at, list_with_first, list_at, in_parentheses_at, colref_at, unsigned_at, integer_at, parameter_at, token_kind_at, literal_of_kind, literal_at, operand_of_kind, operand_at}
@@ -95,11 +96,7 @@ either_word word tokens P otherwise f none next =
 name_each : (tokens : List Lexeme) → IfFound (IsRead IsNameToken tokens) (name_at tokens)
 unfolding name_at
 name_each [] = tt
-name_each (Word word ∷ rest) =
-    elim (is_reserved word) as (λ b. is_reserved word ≡ b → IfFound (IsRead IsNameToken (Word word ∷ rest)) (cond b None (Some (word, rest)))) [
-      | true ↦ λ reserved. tt
-      | false ↦ λ free. (Word word ∷ [], refl, (refl, free))
-    ] refl
+name_each (Word word ∷ rest) = grind (arith, common_steps)
 name_each (other ∷ rest) = tt
 
 number_each : (tokens : List Lexeme) → IfFound (IsRead (λ tokens n. tokens ≡ Number n ∷ []) tokens) (number_at tokens)
@@ -183,11 +180,7 @@ operand_each other tokens = then_read literal-reads tokens _ _ (λ literal form.
 
 pub operand-reads : Reads IsTerm operand_at
 unfolding operand_at
-operand-reads = record {
-  each = λ tokens.
-      either_found (IsRead (λ tokens number. tokens ≡ Parameter number ∷ []) tokens) _ (parameter_at tokens) _ _ (parameter_each tokens)
-      (operand_each (token_kind_at tokens) tokens) (λ parameter form. form);
-}
+operand-reads = grind (arith, common_steps, either_found, parameter_each, operand_each)
 
 -- the further parts of a list
 more-reads : {A : Type 0} {IsPart : Rule A} {part : Reader A} → Reads IsPart part → (separator : Mark) (most : ℕ) (tokens front later : List Lexeme) (x : A)

@@ -1,5 +1,6 @@
 -- The statements of pieces, one after another.
 use Rattle.std.proofs.Common.{◌≡◌, ℕ, zero, suc, ◌+◌, ◌<◌, List, [], ◌∷◌, ◌++◌, length, take, drop, get_or, Option, Some, None, Result, Ok, Err, option_map, refl, sym, ap, subst, ◌∙◌, append_assoc, arith}
+use Rattle.std.proofs.lemmas.Grind.{common_steps}
 use Rattle.std.specs.List.{All}
 use Rattle.std.proofs.lemmas.List.{drop-drop}
 use Rattle.sql_lex.specs.declared.token.Token.{Token}
@@ -37,10 +38,7 @@ pieces-next script rest end is =
 pub read_so_far-empty : (script : List ℕ) (tokens rest : List Token) (end : ℕ) (trees : List StatementTree) → end ≡ 0
     → split script rest ≡ take end rest ∷ split_after script (drop end rest)
     → AreReadSoFar script tokens rest trees → AreReadSoFar script tokens (drop (end + 1) rest) trees
-read_so_far-empty script tokens rest end trees none is so_far =
-    let later = split script (drop (end + 1) rest) in
-    let next = pieces-next script rest end is ∙ ap (λ n. not_empty (take n rest ∷ later)) none in
-    (so_far.0, so_far.1 ∙ ap (λ all. so_far.0 ++ all) next, so_far.2)
+read_so_far-empty script tokens rest end trees none is so_far = grind (arith, common_steps, pieces-next)
 
 AreStatementsOf-push : (script : List ℕ) (before : List (List Token)) (trees : List StatementTree) (piece : List Token) (tree : StatementTree)
     → AreStatementsOf script before trees → IsStatement (lexemes script piece) tree → AreStatementsOf script (before ++ piece ∷ []) (trees ++ tree ∷ [])
@@ -81,18 +79,7 @@ pub first_refused : (script : List ℕ) (tokens rest : List Token) (end : ℕ) (
     → split script rest ≡ take end rest ∷ split_after script (drop end rest) → statement_of (lexemes script (take end rest)) ≡ None
     → AreReadSoFar script tokens rest trees → IsFirstRefused script tokens (get_or rest 0 other).start
 first_refused script tokens rest end trees other some there is none so_far =
-    let front = front_piece script rest end some there is in
-    let refused : statement_of (lexemes script (front.0 ∷ front.1)) ≡ None = ap (λ all. statement_of (lexemes script all)) (sym front.2) ∙ none in (
-      so_far.0,
-      pieces script (drop (end + 1) rest),
-      trees,
-      front.0,
-      front.1,
-      so_far.1 ∙ ap (λ all. so_far.0 ++ all) front.4,
-      so_far.2,
-      (λ tree form. no_statement (lexemes script (front.0 ∷ front.1)) tree refused form),
-      first_start rest front.0 other there front.3,
-    )
+    grind (arith, common_steps, front_piece, no_statement, first_start)
 
 -- what an added statement is
 pub added : (trees new : List StatementTree) (found : Option StatementTree) → option_map (λ tree. trees ++ tree ∷ []) found ≡ Some new
@@ -124,9 +111,7 @@ has_statement script (other ∷ before) others piece [] all = absurd all
 has_statement script (other ∷ before) others piece (tree ∷ trees) all = has_statement script before others piece trees all.1
 
 never_both : (script : List ℕ) (tokens : List Token) (trees : List StatementTree) (place : ℕ) → AreStatements script tokens trees → IsFirstRefused script tokens place → ⊥
-never_both script tokens trees place all first =
-    let one = has_statement script first.0 first.1 (first.3 ∷ first.4) trees (subst (λ (some : List (List Token)). AreStatementsOf script some trees) first.5 all) in
-    first.7 one.0 one.1
+never_both script tokens trees place all first = grind (arith, common_steps, has_statement)
 
 -- no piece is a statement
 abbrev IsNone : List ℕ → List Token → Type 0
@@ -139,12 +124,10 @@ one_first : (script : List ℕ) (before others after after_others : List (List T
 one_first script [] [] after after_others trees more piece another is all none rest neither = cc
 one_first script [] (other ∷ others) after after_others trees [] piece another is all none rest neither = absurd rest
 one_first script [] (other ∷ others) after after_others trees (tree ∷ more) piece another is all none rest neither =
-    let same : other ≡ piece = cc in
-    absurd (none tree (subst (λ (p : List Token). IsStatement (lexemes script p) tree) same rest.0))
+    grind (arith, common_steps)
 one_first script (first ∷ before) [] after after_others [] more piece another is all none rest neither = absurd all
 one_first script (first ∷ before) [] after after_others (tree ∷ trees) more piece another is all none rest neither =
-    let same : first ≡ another = cc in
-    absurd (neither tree (subst (λ (p : List Token). IsStatement (lexemes script p) tree) same all.0))
+    grind (arith, common_steps)
 one_first script (first ∷ before) (other ∷ others) after after_others [] more piece another is all none rest neither = absurd all
 one_first script (first ∷ before) (other ∷ others) after after_others (tree ∷ trees) [] piece another is all none rest neither = absurd rest
 one_first script (first ∷ before) (other ∷ others) after after_others (tree ∷ trees) (next ∷ more) piece another is all none rest neither =
@@ -152,11 +135,7 @@ one_first script (first ∷ before) (other ∷ others) after after_others (tree 
     one_first script before others after after_others trees more piece another same all.1 none rest.1 neither
 
 one_place : (script : List ℕ) (tokens : List Token) (place other : ℕ) → IsFirstRefused script tokens place → IsFirstRefused script tokens other → place ≡ other
-one_place script tokens place other one two =
-    let pieces_same : one.3 ∷ one.4 ≡ two.3 ∷ two.4 =
-    one_first script one.0 two.0 one.1 two.1 one.2 two.2 (one.3 ∷ one.4) (two.3 ∷ two.4) (sym one.5 ∙ two.5) one.6 one.7 two.6 two.7 in
-    let first_same : one.3 ≡ two.3 = cc in
-    one.8 ∙ (ap (λ token. token.start) first_same ∙ sym two.8)
+one_place script tokens place other one two = grind (arith, common_steps, one_first)
 
 -- what pieces are read as
 abbrev IsParsingOf : List ℕ → List (List Token) → Result (List StatementTree) ℕ → Type 0

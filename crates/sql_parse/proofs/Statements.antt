@@ -11,7 +11,8 @@ pub mod OpenFile
 pub mod SaveFile
 pub mod Turns
 pub mod Using
-use Rattle.std.proofs.Common.{ℕ, codes, ◌≡◌, cond, eqb, List, [], ◌∷◌, ◌++◌, length, Option, Some, None, refl, sym, ap, subst, ◌∙◌}
+use Rattle.std.proofs.Common.{ℕ, codes, ◌≡◌, cond, eqb, List, [], ◌∷◌, ◌++◌, length, Option, Some, None, refl, sym, ap, subst, ◌∙◌, arith}
+use Rattle.std.proofs.lemmas.Grind.{common_steps}
 use Rattle.std.proofs.Math.Dec.{eqb-suc-zero}
 use Rattle.std.proofs.lemmas.List.{append-nil}
 use Rattle.sql_parse.specs.declared.mark.Mark.{Mark}
@@ -78,18 +79,7 @@ made-reads word make reads is = record { each = λ tokens. then_read reads token
 
 each-read : AreRead productions
 each-read =
-    create-reads
-    & load-reads
-    & compile-reads
-    & made-reads (codes "RUN") tree.Run bouquet_use-reads (λ tokens run form. (tokens, refl, form))
-    & made-reads (codes "EXPLAIN") tree.Explain name-reads (λ tokens name form. (tokens, refl, form))
-    & save_file-reads
-    & open_file-reads
-    & audit-reads
-    & made-reads (codes "CHECK") tree.Check name-reads (λ tokens name form. (tokens, refl, form))
-    & made-reads (codes "LEARN") tree.Learn bouquet_use-reads (λ tokens run form. (tokens, refl, form))
-    & turns-reads
-    & tt
+    grind (arith, common_steps, create-reads, load-reads, compile-reads, made-reads, bouquet_use-reads, name-reads, save_file-reads, open_file-reads, audit-reads, turns-reads)
 
 after_keyword : (word : List ℕ) (tokens rest : List Lexeme) (read : Option (StatementTree × List Lexeme)) → tokens ≡ Word word ∷ rest
     → IfFound (IsRead (IsAfter (Word word ∷ [])) rest) read → IfFound (IsRead IsStatement tokens) read
@@ -174,9 +164,7 @@ name-writable tokens name sound form = let all : EachSound (Word name ∷ []) = 
 
 after-writable : {A : Type 0} {IsForm : Rule A} (parts : A → List Part) (word : List ℕ) → IsSound (Word word) → IsWritable IsForm parts
     → IsWritable (After (Word word) IsForm) (λ x. Keyword word ∷ parts x)
-after-writable parts word is writable tokens x sound form =
-    let all : EachSound (Word word ∷ form.0) = subst EachSound form.1 sound in
-    (is, tt, writable form.0 x all.1 form.2)
+after-writable parts word is writable tokens x sound form = grind (arith, common_steps)
 
 pub statement-writable : IsWritable IsStatement statement_parts
 statement-writable tokens (tree.CreateTable table) sound form = create_table-writable tokens table sound form

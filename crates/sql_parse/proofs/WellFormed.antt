@@ -1,5 +1,6 @@
 -- What the layers above rely on in the statements of a script.
 use Rattle.std.proofs.Common.{ℕ, ◌<◌, ◌^◌, List, length, map, subst, arith}
+use Rattle.std.proofs.lemmas.Grind.{common_steps}
 use Rattle.std.specs.List.{All}
 use Rattle.sql_lex.specs.Tokens.{IsToken}
 use Rattle.sql_lex.specs.declared.token.Token.{Token}
@@ -19,10 +20,7 @@ use Rattle.sql_parse.proofs.Statements.{statement-well_formed}
 
 piece-counted : (script : List ℕ) (most : ℕ) (piece : List Token) (statement : StatementTree) → IsPieceOf script most piece → IsStatement (lexemes script piece) statement
     → HasUpTo most statement
-piece-counted script most piece statement of form =
-    let few = statement-few (lexemes script piece) statement form in
-    let same = numbered_length script 0 piece in
-    record { predicates = omega (arith, few.predicates, same, of.0); parameters = omega (arith, few.parameters, same, of.0) }
+piece-counted script most piece statement of form = grind (arith, common_steps, statement-few, numbered_length)
 
 pub each-counted : (script : List ℕ) (tokens : List Token) (statements : List Statement) → All (IsToken script) tokens
     → AreStatements script tokens (map statement_tree statements) → HaveUpTo (length tokens) statements

@@ -1,6 +1,7 @@
 -- What is written by the grammar for AUDIT, what is read and what is printed are the same.
-use Rattle.std.proofs.Common.{codes, ◌≡◌, List, [], ◌∷◌, ◌++◌, Some, refl, ap, subst}
-use Rattle.sql_parse.proofs.Productions.{Lexeme, Word, after_word, after_mark, name_at, statement_at, IsAfter, Reads, then_read, also, name-reads, tokens_of, tokens-append, IsPrintedBy, word-sound, EachSound, IsWritable, sound-front, writable-append, Holds, no_terms, hold-after}
+use Rattle.std.proofs.Common.{codes, ◌≡◌, List, [], ◌∷◌, ◌++◌, Some, refl, ap, arith}
+use Rattle.std.proofs.lemmas.Grind.{common_steps}
+use Rattle.sql_parse.proofs.Productions.{Lexeme, Word, after_word, after_mark, name_at, statement_at, IsAfter, Reads, then_read, also, name-reads, tokens_of, tokens-append, IsPrintedBy, word-sound, IsWritable, sound-front, writable-append, Holds, no_terms, hold-after}
 use Rattle.sql_parse.specs.declared.tree.AuditDef.{AuditDef}
 use Rattle.sql_parse.specs.Trees.{Audit}
 use Rattle.sql_parse.specs.Statements.{statement_parts}
@@ -24,9 +25,7 @@ audit-reads = record {
 
 pub audit-again : (tokens : List Lexeme) (audit : AuditDef) → IsAudit tokens audit → statement_at tokens ≡ Some (Audit audit, [])
 unfolding statement_at audit_at name_at after_mark after_word
-audit-again tokens audit form =
-    let levels = numbers-again (codes "AT") form.0 audit.levels form.1 form.4 (using-begins form.1 audit.values form.5) in
-    rw (form.2, form.3, levels, using-again form.1 audit.values form.5) refl
+audit-again tokens audit form = grind (arith, common_steps, numbers-again, using-begins, using-again)
 
 pub audit-printed : IsPrintedBy IsAudit (λ audit. statement_parts (Audit audit))
 audit-printed tokens audit form = (
@@ -40,17 +39,7 @@ audit-printed tokens audit form = (
 
 pub audit-writable : IsWritable IsAudit (λ audit. statement_parts (Audit audit))
 audit-writable tokens audit sound form =
-    let all : EachSound (Word (codes "AUDIT") ∷ Word audit.name ∷ (form.0 ++ form.1)) = subst EachSound form.2 sound in (
-      word-sound (codes "AUDIT") refl refl refl refl,
-      tt,
-      (
-        all.1.0,
-        tt,
-        writable-append (numbers_parts (codes "AT") audit.levels) (using_parts audit.values)
-            (numbers-writable (codes "AT") (word-sound (codes "AT") refl refl refl refl) form.0 audit.levels (sound-front form.0 form.1 all.1.1) form.4)
-            (using-writable form.1 audit.values (sound-back form.0 form.1 all.1.1) form.5),
-      ),
-    )
+    grind (arith, common_steps, word-sound, writable-append, numbers-writable, sound-front, using-writable, sound-back)
 
 pub audit-held : Holds IsAudit no_terms
 audit-held tokens audit form =

@@ -1,6 +1,7 @@
 -- What is written by the grammar for a bouquet and its values, what is read and what is printed are the same.
-use Rattle.std.proofs.Common.{◌≡◌, List, [], ◌∷◌, ◌++◌, Some, None, refl, subst}
-use Rattle.sql_parse.proofs.Productions.{Lexeme, Word, after_mark, name_at, IsReadAgain, read_to_end, Reads, then_read, also, name-reads, tokens_of, IsPrintedBy, EachSound, IsWritable, Holds, no_terms, hold-after}
+use Rattle.std.proofs.Common.{◌≡◌, List, [], ◌++◌, Some, None, refl, arith}
+use Rattle.std.proofs.lemmas.Grind.{common_steps}
+use Rattle.sql_parse.proofs.Productions.{Lexeme, Word, after_mark, name_at, IsReadAgain, read_to_end, Reads, then_read, also, name-reads, tokens_of, IsPrintedBy, IsWritable, Holds, no_terms, hold-after}
 use Rattle.sql_parse.specs.declared.mark.Mark.TheVariants as m
 use Rattle.sql_parse.specs.declared.tree.RunDef.{RunDef}
 use Rattle.sql_parse.specs.Statements.Using.{using_parts}
@@ -29,9 +30,7 @@ pub bouquet_use-printed : IsPrintedBy IsBouquetUse bouquet_use_parts
 bouquet_use-printed tokens run form = (tokens_of (using_parts run.values), refl, form.2, using-printed form.0 run.values form.3)
 
 pub bouquet_use-writable : IsWritable IsBouquetUse bouquet_use_parts
-bouquet_use-writable tokens run sound form =
-    let all : EachSound (Word run.name ∷ form.0) = subst EachSound form.1 sound in
-    (all.0, tt, using-writable form.0 run.values all.1 form.3)
+bouquet_use-writable tokens run sound form = grind (arith, common_steps, using-writable)
 
 pub bouquet_use-held : Holds IsBouquetUse no_terms
 bouquet_use-held tokens run form =

@@ -1,5 +1,6 @@
 -- What is written by the grammar for COMPILE, what is read and what is printed are the same.
-use Rattle.std.proofs.Common.{codes, ◌≡◌, ◌∙◌, ℕ, List, [], ◌∷◌, ◌++◌, Some, None, refl, ap, subst, Option}
+use Rattle.std.proofs.Common.{codes, ◌≡◌, ◌∙◌, ℕ, List, [], ◌∷◌, ◌++◌, Some, None, refl, ap, subst, Option, arith}
+use Rattle.std.proofs.lemmas.Grind.{common_steps}
 use Rattle.sql_parse.proofs.Productions.{IsUtf8, Lexeme, Word, mark, after_word, after_mark, name_at, number_at, statement_at, either_word, IsAfter, Reads, then_read, also, then_after, name-reads, number-reads, select-reads, select-again, tokens_of, tokens-append, IsPrintedBy, select-printed, word-sound, EachSound, mark-sound, IsWritable, sound-front, select-writable, Writable, writable-append, Holds, hold-none, hold-after, select-held, query-utf8, AreNumbered, query-well_formed}
 use Rattle.sql_parse.specs.declared.mark.Mark.TheVariants as m
 use Rattle.sql_parse.specs.Trees.{QueryTree, Compile}
@@ -67,22 +68,7 @@ threshold-writable (Some n) sound = (word-sound (codes "THRESHOLD") refl refl re
 
 pub compile-writable : (name : List ℕ) (levels threshold : Option ℕ) → IsWritable (IsCompile name levels threshold) (λ query. statement_parts (Compile name levels threshold query))
 compile-writable name levels threshold tokens query sound form =
-    let rest = option_of (codes "THRESHOLD") threshold ++ mark m.As ∷ form.0 in
-    let all : EachSound (Word (codes "COMPILE") ∷ Word name ∷ (option_of (codes "LEVELS") levels ++ rest)) = subst EachSound form.1 sound in
-    let later : EachSound rest = sound-back (option_of (codes "LEVELS") levels) rest all.1.1 in
-    let last : EachSound (mark m.As ∷ form.0) = sound-back (option_of (codes "THRESHOLD") threshold) (mark m.As ∷ form.0) later in (
-      word-sound (codes "COMPILE") refl refl refl refl,
-      tt,
-      (
-        all.1.0,
-        tt,
-        writable-append (option_parts (codes "LEVELS") levels) (option_parts (codes "THRESHOLD") threshold ++ Fixed m.As ∷ query_parts query)
-            (levels-writable levels (sound-front (option_of (codes "LEVELS") levels) rest all.1.1))
-            (writable-append (option_parts (codes "THRESHOLD") threshold) (Fixed m.As ∷ query_parts query)
-            (threshold-writable threshold (sound-front (option_of (codes "THRESHOLD") threshold) (mark m.As ∷ form.0) later))
-            (mark-sound m.As, tt, select-writable form.0 query last.1 form.3)),
-      ),
-    )
+    grind (arith, common_steps, sound-back, word-sound, writable-append, levels-writable, sound-front, threshold-writable, mark-sound, select-writable)
 
 option-numbers : (keyword : List ℕ) (number : Option ℕ) → numbers_in (option_of keyword number) ≡ []
 option-numbers keyword None = refl

@@ -1,10 +1,10 @@
 -- What is written by the grammar for CREATE INDEX, what is read and what is printed are the same.
-use Rattle.std.proofs.Common.{codes, ◌≡◌, ◌∙◌, ℕ, List, [], ◌∷◌, ◌++◌, Some, refl, ap, subst}
-use Rattle.sql_parse.proofs.Productions.{Lexeme, Word, mark, IsName, after_word, after_mark, name_at, in_parentheses_at, create_at, statement_at, IsAfter, Reads, then_read, also, then_after, name-reads, in_parentheses-reads, IsPrintedBy, word-sound, EachSound, mark-sound, IsWritable, Holds, no_terms, hold-none}
+use Rattle.std.proofs.Common.{codes, ◌≡◌, ◌∙◌, ℕ, List, [], ◌∷◌, ◌++◌, Some, refl, ap, arith}
+use Rattle.std.proofs.lemmas.Grind.{common_steps}
+use Rattle.sql_parse.proofs.Productions.{Lexeme, Word, mark, IsName, after_word, after_mark, name_at, in_parentheses_at, create_at, statement_at, IsAfter, Reads, then_read, also, then_after, name-reads, in_parentheses-reads, IsPrintedBy, word-sound, mark-sound, IsWritable, Holds, no_terms, hold-none}
 use Rattle.sql_parse.specs.declared.mark.Mark.TheVariants as m
 use Rattle.sql_parse.specs.declared.tree.IndexDef.{IndexDef}
 use Rattle.sql_parse.specs.Trees.{CreateIndex}
-use Rattle.sql_parse.specs.Canonical.{Name}
 use Rattle.sql_parse.specs.Statements.{statement_parts}
 use Rattle.sql_parse.specs.Statements.CreateIndex.{IsCreateIndex, create_index_at}
 use Rattle.sql_parse.proofs.SoundForms.{group-writable}
@@ -37,9 +37,7 @@ pub create_index-printed : IsPrintedBy IsCreateIndex (λ index. statement_parts 
 create_index-printed tokens index form = (refl, form.1, form.2, form.3)
 
 pub create_index-writable : IsWritable IsCreateIndex (λ index. statement_parts (CreateIndex index))
-create_index-writable tokens index sound form =
-    let all = subst EachSound form.0 sound in
-    (word-sound (codes "CREATE") refl refl refl refl, tt, (word-sound (codes "INDEX") refl refl refl refl, tt, (all.1.1.0, tt, (mark-sound m.On, tt, (all.1.1.1.1.0, tt, group-writable (Name index.column ∷ []) (all.1.1.1.1.1.1.0, tt, tt))))))
+create_index-writable tokens index sound form = grind (arith, common_steps, word-sound, mark-sound, group-writable)
 
 pub create_index-held : Holds IsCreateIndex no_terms
 create_index-held tokens index form = hold-none tokens (rw form.0 refl)

@@ -1,5 +1,6 @@
 -- What is written by the grammar for CREATE TABLE, what is read and what is printed are the same.
-use Rattle.std.proofs.Common.{codes, ◌≡◌, ◌∙◌, ℕ, List, [], ◌∷◌, ◌++◌, length, Some, None, refl, ap, subst, ◌<◌, inl, inr, Bool, true, false, append_assoc}
+use Rattle.std.proofs.Common.{codes, ◌≡◌, ◌∙◌, ℕ, List, [], ◌∷◌, ◌++◌, length, Some, None, refl, ap, subst, ◌<◌, inl, inr, Bool, true, false, append_assoc, arith}
+use Rattle.std.proofs.lemmas.Grind.{common_steps}
 use Rattle.sql_parse.proofs.Productions.{Lexeme, Word, mark, IsName, Separated, after_word, after_mark, name_at, number_at, list_at, in_parentheses_at, create_at, statement_at, IsAfter, Reads, then_read, also, then_after, name-reads, number-reads, list-reads, in_parentheses-reads, IsReadAgain, list-again, read_to_end, tokens_of, tokens-append, IsPrintedBy, separated-printed, word-sound, EachSound, mark-sound, IsWritable, sound-front, listed-writable, Writable, writable-append, Holds, no_terms, hold-none, hold-after}
 use Rattle.std.proofs.lemmas.List.{append-nil}
 use Rattle.sql_values.specs.declared.column.ColumnType.{ColumnType}
@@ -116,9 +117,7 @@ create_table-printed tokens table form = (
 
 type-writable : IsWritable IsColumnType type_parts
 type-writable tokens types.Integer sound form = (mark-sound m.Integer, tt, tt)
-type-writable tokens (types.Varchar n) sound form =
-    let all = subst EachSound form sound in
-    (mark-sound m.Varchar, tt, (mark-sound m.OpenParen, tt, (all.1.1.0, tt, (mark-sound m.CloseParen, tt, tt))))
+type-writable tokens (types.Varchar n) sound form = grind (arith, common_steps, mark-sound)
 
 nulls-writable : (kept : Bool) → Writable (kept_if kept (m.Not ∷ m.Null ∷ []))
 nulls-writable false = tt
@@ -126,13 +125,7 @@ nulls-writable true = (mark-sound m.Not, tt, (mark-sound m.Null, tt, tt))
 
 definition-writable : IsWritable IsColumn definition_parts
 definition-writable tokens column sound form =
-    let nulls = written_if column.not_null (m.Not ∷ m.Null ∷ []) in
-    let all : EachSound (Word column.name ∷ (form.0 ++ nulls)) = subst EachSound form.1 sound in (
-      all.0,
-      tt,
-      writable-append (type_parts column.kind) (kept_if column.not_null (m.Not ∷ m.Null ∷ []))
-          (type-writable form.0 column.kind (sound-front form.0 nulls all.1) form.3) (nulls-writable column.not_null),
-    )
+    grind (arith, common_steps, writable-append, type-writable, sound-front, nulls-writable)
 
 pub create_table-writable : IsWritable IsCreateTable (λ table. statement_parts (CreateTable table))
 create_table-writable tokens table sound form =

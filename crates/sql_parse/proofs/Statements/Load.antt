@@ -1,5 +1,6 @@
 -- What is written by the grammar for LOAD, what is read and what is printed are the same.
-use Rattle.std.proofs.Common.{codes, ◌≡◌, ◌∙◌, List, [], ◌∷◌, ◌++◌, Some, refl, ap, subst}
+use Rattle.std.proofs.Common.{codes, ◌≡◌, ◌∙◌, List, [], ◌∷◌, ◌++◌, Some, refl, ap, subst, arith}
+use Rattle.std.proofs.lemmas.Grind.{common_steps}
 use Rattle.sql_parse.proofs.Productions.{IsUtf8, Word, Lexeme, mark, after_word, after_mark, name_at, text_token_at, statement_at, IsAfter, Reads, then_read, also, then_after, name-reads, text-reads, IsPrintedBy, word-sound, EachSound, mark-sound, IsWritable, Holds, no_terms, hold-none}
 use Rattle.sql_parse.specs.declared.mark.Mark.TheVariants as m
 use Rattle.sql_parse.specs.declared.tree.LoadDef.{LoadDef}
@@ -25,9 +26,7 @@ pub load-printed : IsPrintedBy IsLoad (λ load. statement_parts (Load load))
 load-printed tokens load form = (refl, form.1)
 
 pub load-writable : IsWritable IsLoad (λ load. statement_parts (Load load))
-load-writable tokens load sound form =
-    let all = subst EachSound form.0 sound in
-    (word-sound (codes "LOAD") refl refl refl refl, tt, (all.1.0, tt, (mark-sound m.Into, tt, (all.1.1.1.0, tt, tt))))
+load-writable tokens load sound form = grind (arith, common_steps, word-sound, mark-sound)
 
 pub load-utf8 : (tokens : List Lexeme) (load : LoadDef) → EachSound tokens → IsLoad tokens load → IsUtf8 load.file
 load-utf8 tokens load sound form = (subst EachSound form.0 sound).1.0

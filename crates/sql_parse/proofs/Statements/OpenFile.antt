@@ -1,5 +1,6 @@
 -- What is written by the grammar for OPEN, what is read and what is printed are the same.
-use Rattle.std.proofs.Common.{codes, ◌≡◌, ◌∙◌, ℕ, List, [], ◌∷◌, ◌++◌, Some, refl, ap, subst}
+use Rattle.std.proofs.Common.{codes, ◌≡◌, ◌∙◌, ℕ, List, [], ◌∷◌, ◌++◌, Some, refl, ap, subst, arith}
+use Rattle.std.proofs.lemmas.Grind.{common_steps}
 use Rattle.sql_parse.proofs.Productions.{IsUtf8, Lexeme, Word, mark, after_word, after_mark, name_at, text_token_at, statement_at, IsAfter, Reads, then_read, also, then_after, name-reads, text-reads, select-reads, select-again, tokens_of, IsPrintedBy, select-printed, word-sound, EachSound, mark-sound, IsWritable, select-writable, Holds, hold-after, select-held, query-utf8, AreNumbered, query-well_formed}
 use Rattle.sql_parse.specs.declared.mark.Mark.TheVariants as m
 use Rattle.sql_parse.specs.Lexemes.{Text as TextToken}
@@ -35,8 +36,7 @@ open_file-printed name file tokens query form = (tokens_of (query_parts query), 
 
 pub open_file-writable : (name file : List ℕ) → IsWritable (IsOpenFile name file) (λ query. statement_parts (OpenFile name file query))
 open_file-writable name file tokens query sound form =
-    let all : EachSound (Word (codes "OPEN") ∷ Word name ∷ mark m.From ∷ TextToken file ∷ mark m.As ∷ form.0) = subst EachSound form.1 sound in
-    (word-sound (codes "OPEN") refl refl refl refl, tt, (all.1.0, tt, (mark-sound m.From, tt, (all.1.1.1.0, tt, (mark-sound m.As, tt, select-writable form.0 query all.1.1.1.1.1 form.3)))))
+    grind (arith, common_steps, word-sound, mark-sound, select-writable)
 
 pub open_file-held : (name file : List ℕ) → Holds (IsOpenFile name file) (λ query. terms_of_condition query.condition)
 open_file-held name file tokens query form =

@@ -1,5 +1,6 @@
 -- What is written by the grammar for SAVE, what is read and what is printed are the same.
-use Rattle.std.proofs.Common.{codes, ◌≡◌, ◌∙◌, List, [], ◌∷◌, ◌++◌, Some, refl, ap, subst}
+use Rattle.std.proofs.Common.{codes, ◌≡◌, ◌∙◌, List, [], ◌∷◌, ◌++◌, Some, refl, ap, subst, arith}
+use Rattle.std.proofs.lemmas.Grind.{common_steps}
 use Rattle.sql_parse.proofs.Productions.{IsUtf8, Word, Lexeme, mark, after_word, after_mark, name_at, text_token_at, statement_at, IsAfter, Reads, then_read, also, then_after, name-reads, text-reads, IsPrintedBy, word-sound, EachSound, mark-sound, IsWritable, Holds, no_terms, hold-none}
 use Rattle.sql_parse.specs.declared.mark.Mark.TheVariants as m
 use Rattle.sql_parse.specs.declared.tree.FileDef.{FileDef}
@@ -25,9 +26,7 @@ pub save_file-printed : IsPrintedBy IsSaveFile (λ save. statement_parts (SaveFi
 save_file-printed tokens save form = (refl, form.1)
 
 pub save_file-writable : IsWritable IsSaveFile (λ save. statement_parts (SaveFile save))
-save_file-writable tokens save sound form =
-    let all = subst EachSound form.0 sound in
-    (word-sound (codes "SAVE") refl refl refl refl, tt, (all.1.0, tt, (mark-sound m.To, tt, (all.1.1.1.0, tt, tt))))
+save_file-writable tokens save sound form = grind (arith, common_steps, word-sound, mark-sound)
 
 pub save_file-utf8 : (tokens : List Lexeme) (save : FileDef) → EachSound tokens → IsSaveFile tokens save → IsUtf8 save.file
 save_file-utf8 tokens save sound form = (subst EachSound form.0 sound).1.1.1.0
