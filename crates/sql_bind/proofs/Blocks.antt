@@ -32,7 +32,7 @@ use Rattle.db_catalog.specs.Database.{DatabaseState}
 use Rattle.sql_bind.specs.declared.reach.Reach.{Reach}
 use Rattle.sql_bind.specs.declared.reach.Reach.TheVariants.{Nothing, One, Several}
 use Rattle.sql_bind.specs.Named.{NamedTable, IsNamed}
-use Rattle.sql_bind.specs.Names.{places_among, places_from, named_once, the_one, written_column_fault, place_of, first_fault, first_fault_from}
+use Rattle.sql_bind.specs.Names.{places_among, places_from, named_once, the_one, written_column_fault, place_of, first_fault_among, first_fault_from}
 use Rattle.sql_bind.specs.Located.{kind_in, kind_if, located, located_at, kinds_of, first_kind, given_kind, parameters_among}
 use Rattle.sql_bind.specs.Predicates.{predicates, predicates_of_all, term_fault, own_fault, alike_fault, predicate_fault, predicates_fault, parameters_of}
 use Rattle.sql_bind.specs.Conjuncts.{Conjunct, conjuncts, conjuncts_of_all, conjunct_of, conjunct_fault, joined_reach, reach_at, reach_of_term, reach_of_terms, reach_of, reach_of_all, edge_between, equality_between, equality_of, is_filter_of, edge_in, negated_if, is_null_at, bound_condition, bound_conditions}
@@ -198,31 +198,31 @@ column-good tables number of None there none = absurd there
 column-good tables number of (Some place) there none = (there, kind-is number of (holds_texts (kind_in tables place)) none)
 
 module _ (tables : List NamedTable) (parameters : List Kind) where
-  terms-good : (number : ℕ) (of : Kind) (terms : List Term) → first_fault (term_fault tables) terms ≡ None → first_fault (own_fault number of) (kinds_of tables terms) ≡ None → AreNotNull terms
+  terms-good : (number : ℕ) (of : Kind) (terms : List Term) → first_fault_among (term_fault tables) terms ≡ None → first_fault_among (own_fault number of) (kinds_of tables terms) ≡ None → AreNotNull terms
       → HaveKinds parameters (filter_map parameter_of terms) (flat_map (given_kind of) (kinds_of tables terms)) → AllByRecursion (IsGood tables parameters of) terms
   terms-good number of [] none alike null have = tt
   terms-good number of (term.Column written ∷ terms) none alike null have =
-      let columns = neither (term_fault tables (term.Column written)) (first_fault (term_fault tables) terms) none in
-      let own = neither (own_fault number of (located tables (term.Column written)).kind) (first_fault (own_fault number of) (kinds_of tables terms)) alike in
+      let columns = neither (term_fault tables (term.Column written)) (first_fault_among (term_fault tables) terms) none in
+      let own = neither (own_fault number of (located tables (term.Column written)).kind) (first_fault_among (own_fault number of) (kinds_of tables terms)) alike in
       let kinds = flat_map (given_kind of) (kinds_of tables terms) in (
         column-good tables number of (place_of tables written) (column-there tables written columns.0) own.0,
         terms-good number of terms columns.1 own.1 null.1
             (subst (HaveKinds parameters (filter_map parameter_of terms)) (column-count tables of (place_of tables written) kinds) have),
       )
   terms-good number of (term.Literal literal ∷ terms) none alike null have =
-      let own = neither (own_fault number of (located tables (term.Literal literal)).kind) (first_fault (own_fault number of) (kinds_of tables terms)) alike in
+      let own = neither (own_fault number of (located tables (term.Literal literal)).kind) (first_fault_among (own_fault number of) (kinds_of tables terms)) alike in
       ((null.0, kind-is number of _ own.0), terms-good number of terms none own.1 null.1 have)
   terms-good number of (term.Parameter n ∷ terms) none alike null have = (have.0, terms-good number of terms none alike null.1 have.1)
 
-  operands-good : (number : ℕ) (terms : List Term) → option_or (option_or (first_fault (term_fault tables) terms) (alike_fault number (first_kind (kinds_of tables terms)) (kinds_of tables terms))) None ≡ None
+  operands-good : (number : ℕ) (terms : List Term) → option_or (option_or (first_fault_among (term_fault tables) terms) (alike_fault number (first_kind (kinds_of tables terms)) (kinds_of tables terms))) None ≡ None
       → AreNotNull terms → HaveKinds parameters (filter_map parameter_of terms) (parameters_among (kinds_of tables terms) ++ []) → AreGood tables parameters terms
   operands-good number terms none null have =
       let kinds = kinds_of tables terms in
-      let one = neither (option_or (first_fault (term_fault tables) terms) (alike_fault number (first_kind kinds) kinds)) None none in
-      let both = neither (first_fault (term_fault tables) terms) (alike_fault number (first_kind kinds) kinds) one.0 in
+      let one = neither (option_or (first_fault_among (term_fault tables) terms) (alike_fault number (first_kind kinds) kinds)) None none in
+      let both = neither (first_fault_among (term_fault tables) terms) (alike_fault number (first_kind kinds) kinds) one.0 in
       by (first_kind kinds) both.0 both.1 (subst (HaveKinds parameters (filter_map parameter_of terms)) (append-nil (parameters_among kinds)) have)
     where
-      by : (of : Option Kind) → first_fault (term_fault tables) terms ≡ None → alike_fault number of (kinds_of tables terms) ≡ None
+      by : (of : Option Kind) → first_fault_among (term_fault tables) terms ≡ None → alike_fault number of (kinds_of tables terms) ≡ None
           → HaveKinds parameters (filter_map parameter_of terms) (flat_map (given_kind (unwrap_or of kind.Integer)) (kinds_of tables terms)) → AreGood tables parameters terms
       by None columns alike have = cc
       by (Some of) columns alike have = record { of = of; all = terms-good number of terms columns alike null have }
@@ -490,11 +490,11 @@ with-place : (tables : List NamedTable) (conjuncts : List Conjunct) (place : Opt
 with-place tables conjuncts None places there h = h
 with-place tables conjuncts (Some place) places there h = All-cons (IsPlace (relations_from conjuncts 0 tables)) place places (place-sound tables conjuncts place there) h
 
-columns-sound : (tables : List NamedTable) (conjuncts : List Conjunct) (columns : List ColRef) → first_fault (written_column_fault tables) columns ≡ None
+columns-sound : (tables : List NamedTable) (conjuncts : List Conjunct) (columns : List ColRef) → first_fault_among (written_column_fault tables) columns ≡ None
     → All (IsPlace (relations_from conjuncts 0 tables)) (filter_map (place_of tables) columns)
 columns-sound tables conjuncts [] none = All-nil (IsPlace (relations_from conjuncts 0 tables))
 columns-sound tables conjuncts (written ∷ columns) none =
-    let both = neither (written_column_fault tables written) (first_fault (written_column_fault tables) columns) none in
+    let both = neither (written_column_fault tables written) (first_fault_among (written_column_fault tables) columns) none in
     with-place tables conjuncts (place_of tables written) (filter_map (place_of tables) columns) (column-there tables written both.0) (columns-sound tables conjuncts columns both.1)
 
 projection-sound : (tables : List NamedTable) (conjuncts : List Conjunct) (columns : Option (List ColRef)) → projection_fault tables columns ≡ None
@@ -503,7 +503,7 @@ projection-sound tables conjuncts None none =
     All-weaker (IsFrom 0 tables) (IsPlace (relations_from conjuncts 0 tables))
     (λ place h. place-sound tables conjuncts place (from-there tables place h)) (every_column 0 tables) (every-from 0 tables)
 projection-sound tables conjuncts (Some columns) none =
-    columns-sound tables conjuncts columns (neither (past_limit limit.Projection max_projection (length columns)) (first_fault (written_column_fault tables) columns) none).1
+    columns-sound tables conjuncts columns (neither (past_limit limit.Projection max_projection (length columns)) (first_fault_among (written_column_fault tables) columns) none).1
 
 -- what holds of a query that nothing refuses
 record IsFree (database : DatabaseState) (query : QueryTree) : Type 0 where

@@ -19,7 +19,7 @@ use Rattle.db_catalog.specs.Database.{DatabaseState, table_at, table_number}
 use Rattle.sql_bind.specs.declared.fault.BindFault.{BindFault}
 use Rattle.sql_bind.specs.declared.fault.BindFault.TheVariants.{UnknownTable, DuplicateAlias, Limit}
 use Rattle.sql_bind.specs.Named.{NamedTable}
-use Rattle.sql_bind.specs.Names.{place_of, written_column_fault, first_fault, first_fault_from}
+use Rattle.sql_bind.specs.Names.{place_of, written_column_fault, first_fault_among, first_fault_from}
 use Rattle.sql_bind.specs.Predicates.{predicates, predicates_fault, parameters_of}
 use Rattle.sql_bind.specs.Conjuncts.{Conjunct, conjuncts, conjunct_of, is_filter_of, edge_in, conjunct_fault}
 
@@ -57,7 +57,7 @@ from_fault database before (item ∷ items) =
 abbrev pub projection_fault : List NamedTable → Option (List ColRef) → Option BindFault
 projection_fault tables None = None
 projection_fault tables (Some columns) =
-    option_or (past_limit limit.Projection max_projection (length columns)) (first_fault (written_column_fault tables) columns)
+    option_or (past_limit limit.Projection max_projection (length columns)) (first_fault_among (written_column_fault tables) columns)
 
 -- the conjuncts of WHERE; without WHERE there are none
 abbrev pub conjuncts_in : List NamedTable → Option ConditionTree → List Conjunct

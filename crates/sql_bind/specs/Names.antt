@@ -56,6 +56,6 @@ first_fault_from fault number [] = None
 first_fault_from fault number (item ∷ items) = option_or (fault number item) (first_fault_from fault (number + 1) items)
 
 -- the same where they aren't numbered
-abbrev pub first_fault : {A : Type 0} → (A → Option BindFault) → List A → Option BindFault
-first_fault fault [] = None
-first_fault fault (item ∷ items) = option_or (fault item) (first_fault fault items)
+abbrev pub first_fault_among : {A : Type 0} → (A → Option BindFault) → List A → Option BindFault
+first_fault_among fault [] = None
+first_fault_among fault (item ∷ items) = option_or (fault item) (first_fault_among fault items)

@@ -9,7 +9,7 @@ use Rattle.sql_parse.specs.Trees.{ConditionTree, ConditionTrees, Compare, Betwee
 use Rattle.sql_bind.specs.declared.fault.BindFault.{BindFault}
 use Rattle.sql_bind.specs.declared.fault.BindFault.TheVariants.{TypeMismatch}
 use Rattle.sql_bind.specs.Named.{NamedTable}
-use Rattle.sql_bind.specs.Names.{written_column_fault, first_fault, first_fault_from}
+use Rattle.sql_bind.specs.Names.{written_column_fault, first_fault_among, first_fault_from}
 use Rattle.sql_bind.specs.declared.walk.Walk.{Walk}
 use Rattle.sql_bind.specs.Located.{is_same_kind, kinds_of, first_kind, parameters_among}
 
@@ -50,14 +50,14 @@ own_fault number kind (Some own) = if is_same_kind kind own then None else Some 
 -- operands of a predicate of a kind; it has none if all of them are parameters
 abbrev pub alike_fault : ℕ → Option Kind → List (Option Kind) → Option BindFault
 alike_fault number None kinds = Some (TypeMismatch number)
-alike_fault number (Some kind) kinds = first_fault (own_fault number kind) kinds
+alike_fault number (Some kind) kinds = first_fault_among (own_fault number kind) kinds
 
 -- a predicate, by its number: its columns from left to right, then the kinds of its operands
 abbrev pub predicate_fault : List NamedTable → ℕ → ConditionTree → Option BindFault
 predicate_fault tables number predicate =
     let terms = terms_of predicate in
     let kinds = kinds_of tables terms in
-    option_or (first_fault (term_fault tables) terms) (alike_fault number (first_kind kinds) kinds)
+    option_or (first_fault_among (term_fault tables) terms) (alike_fault number (first_kind kinds) kinds)
 
 -- predicates, numbered from this number on
 abbrev pub predicates_fault : List NamedTable → ℕ → List ConditionTree → Option BindFault

@@ -3,7 +3,7 @@ ghost use Rattle.std.specs.Prelude.{◌≡◌, ◌∷◌, IfOk, None, map};
 ghost use Rattle.query_block.specs.Blocks.{is_text};
 ghost use Rattle.sql_parse.specs.declared.tree.Term.TheVariants.{Column};
 ghost use Rattle.sql_bind.specs.Located.{kind_in, kind_if, kinds_of, located};
-ghost use Rattle.sql_bind.specs.Names.{written_column_fault, first_fault};
+ghost use Rattle.sql_bind.specs.Names.{written_column_fault, first_fault_among};
 ghost use Rattle.sql_bind.specs.Predicates.{term_fault};
 ghost use Rattle.sql_bind.specs.Refused.{RefusesBlock};
 ghost use Rattle.sql_bind.specs.Conjuncts.{reach_of_terms};
@@ -112,7 +112,7 @@ pub(crate) fn locate_list(
     first: Option<Kind>,
     terms: &[Term],
 ) -> Result<Listed, BindFault>
-    ensures refuses { RefusesBlock (first_fault (term_fault scope.now) terms.now) result }
+    ensures refuses { RefusesBlock (first_fault_among (term_fault scope.now) terms.now) result }
     ensures operands { IfOk result (λ listed.
         listed.operands.items ≡ map (λ term. (located scope.now term).operand) terms.now) }
     ensures kinds { IfOk result (λ listed.

@@ -2,7 +2,7 @@
 ghost use Rattle.std.specs.Prelude.{◌≡◌, ◌≤◌, ◌++◌, IfOk, OnOk, length};
 ghost use Rattle.std.specs.List.{filter_map};
 ghost use Rattle.sql_values.specs.Limits.{max_columns};
-ghost use Rattle.sql_bind.specs.Names.{first_fault, written_column_fault, place_of};
+ghost use Rattle.sql_bind.specs.Names.{first_fault_among, written_column_fault, place_of};
 ghost use Rattle.sql_bind.specs.Binding.{projection_fault, projection_of, columns_from, every_column};
 ghost use Rattle.sql_bind.specs.Refused.{RefusesBlock};
 
@@ -17,7 +17,7 @@ use std::alloc::AllocError;
 
 // The columns that written columns name.
 fn places_of(scope: &Scope<'_>, columns: &[ColRef]) -> Result<Vec<ColumnAt>, BindFault>
-    ensures refuses { RefusesBlock (first_fault (written_column_fault scope.now) columns.now) result }
+    ensures refuses { RefusesBlock (first_fault_among (written_column_fault scope.now) columns.now) result }
     ensures places { IfOk result
         (λ places. places.items ≡ filter_map (place_of scope.now) columns.now) }
 {

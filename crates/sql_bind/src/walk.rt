@@ -2,7 +2,7 @@
 // of its own, and is given that of its predicate.
 ghost use Rattle.std.specs.Prelude.{◌≡◌, ◌<◌, ◌+◌, ◌++◌, ◌^◌, OnOk, flat_map};
 ghost use Rattle.sql_bind.specs.Located.{is_same_kind, first_kind, given_kind, parameters_among};
-ghost use Rattle.sql_bind.specs.Names.{first_fault};
+ghost use Rattle.sql_bind.specs.Names.{first_fault_among};
 ghost use Rattle.sql_bind.specs.Predicates.{own_fault, alike_fault};
 ghost use Rattle.sql_bind.specs.Refused.{RefusesBlock};
 
@@ -79,7 +79,7 @@ fn check_kinds(
     predicate: u32,
     parameters: &mut Vec<Kind>,
 ) -> Result<(), BindFault>
-    ensures refuses { RefusesBlock (first_fault (own_fault predicate kind) kinds.now) result }
+    ensures refuses { RefusesBlock (first_fault_among (own_fault predicate kind) kinds.now) result }
     ensures given { OnOk result
         (parameters.new.items ≡ parameters.old.items ++ flat_map (given_kind kind) kinds.now) }
 {
