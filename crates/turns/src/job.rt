@@ -27,33 +27,44 @@ use row_stack::{RowStack, Space};
 use std::alloc::{AllocError, Global};
 use std::marker::Model;
 
-// Executes a plan over what a job holds, as the execution of this number.
+// What a job lends its executions, besides its rows.
+#[derive(Drop)]
+struct Executor<'e, 'd> {
+    block: &'e Block,
+    most: u64,
+    meter: &'e mut Metered<'d>,
+    known: &'e mut KnownRows,
+}
+
+// Executes a plan over what a job lends, as the execution of this number.
 fn execute_over(
     alloc: Global,
-    block: &Block,
+    executor: &mut Executor<'_, '_>,
+    space: &mut Space,
     attempt: Attempt<'_>,
     runs: u32,
-    meter: &mut Metered<'_>,
-    space: &mut Space,
-    known: &mut KnownRows,
-    max_work: u64,
 ) -> Result<Option<Report>, RunFault>
-    requires runs { MayRun meter.old block.now attempt.plan.now space.old }
-    requires known { Knows meter.old block.now known.old }
-    requires left { meter.old.account.spent ≤ max_work }
-    ensures tells { TellsStep meter.old.database (block_tree block.now) max_work
-        (coming max_work meter.old.account.spent runs
-        (plan_work meter.old block.now attempt.entry.plan.now) (attempt_tree attempt.entry))
-        meter.new.account.spent space.new.result.rows result }
-    ensures leaves { OnlyRunsWithin max_work meter.old meter.new space.old space.new }
-    ensures known { Knows meter.old block.now known.new }
+    requires runs { MayRun executor.old.meter.now executor.old.block.now attempt.plan.now space.old }
+    requires known { Knows executor.old.meter.now executor.old.block.now executor.old.known.now }
+    requires left { executor.old.meter.now.account.spent ≤ executor.old.most }
+    ensures tells { TellsStep executor.old.meter.now.database (block_tree executor.old.block.now)
+        executor.old.most
+        (coming executor.old.most executor.old.meter.now.account.spent runs
+        (plan_work executor.old.meter.now executor.old.block.now attempt.entry.plan.now)
+        (attempt_tree attempt.entry))
+        executor.new.meter.now.account.spent space.new.result.rows result }
+    ensures leaves { OnlyRunsWithin executor.old.most executor.old.meter.now executor.new.meter.now
+        space.old space.new }
+    ensures known { Knows executor.old.meter.now executor.old.block.now executor.new.known.now }
+    ensures lent { (executor.new.meter.ghost_name ≡ executor.old.meter.ghost_name)
+        × (executor.new.known.ghost_name ≡ executor.old.known.ghost_name) }
 {
     let mut engine = Engine {
-        block,
-        meter,
+        block: executor.block,
+        meter: executor.meter,
         space,
-        known,
-        max_work,
+        known: executor.known,
+        max_work: executor.most,
     };
     execute(alloc, &mut engine, attempt, runs)
 }
@@ -196,16 +207,13 @@ impl<'d> Job<'d> {
         self.schedule.next(alloc)?;
         let attempt = self.schedule.attempt();
         let contour = attempt.contour;
-        let made = execute_over(
-            alloc,
-            self.block,
-            attempt,
-            place + 1,
-            &mut self.meter,
-            &mut self.space,
-            &mut self.known,
-            self.max_work,
-        );
+        let mut executor = Executor {
+            block: self.block,
+            most: self.max_work,
+            meter: &mut self.meter,
+            known: &mut self.known,
+        };
+        let made = execute_over(alloc, &mut executor, &mut self.space, attempt, place + 1);
         self.progress = progress_by(made, place + 1);
         if let Progress::Broken = self.progress {
             return Err(AllocError);

@@ -26,11 +26,11 @@ invariant_of-self-2 c =
     let block = block_tree old.block.now in
     let schedule = schedule_of ladder_of old.schedule in
     let next = schedule_of ladder_of c.next.new.self in
-    let after = c.execute_over-made.new.meter in
+    let after = c.execute_over-made.new.executor.meter.now in
     let last = c.execute_over-made.new.space in
     let is = subst (IsJobOf (task_at old.meter.database schedule block old.max_work) old.meter schedule old.space) (ap (λ (job : JobShape). job.progress) c.self.view_is ∙ c.requires) c.self.invariant.0 in
     let job = is-job old.meter schedule old.space block old.max_work c.args.place next (attempt_tree c.attempt-attempt.result) is c.in_ok-next.ensures.goes_on c.attempt-attempt.ensures.step
     after last c.execute_over-made.ensures.leaves c.execute_over-made.result c.execute_over-made.ensures.tells in (
       subst (λ (progress : Progress). IsJobOf (task_at after.database next block old.max_work) after next last progress) (sym c.progress_by.ensures) job,
-      subst (λ (database : DatabaseState). AreKnown database.tables block c.execute_over-made.new.known) (sym c.execute_over-made.ensures.leaves.leaves.database) c.execute_over-made.ensures.known,
+      subst (λ (database : DatabaseState). AreKnown database.tables block c.execute_over-made.new.executor.known.now) (sym c.execute_over-made.ensures.leaves.leaves.database) c.execute_over-made.ensures.known,
     )
