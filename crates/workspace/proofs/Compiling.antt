@@ -15,7 +15,7 @@ use Rattle.workspace.specs.Outcome.{Outcome, Refuses, outcome_of}
 use Rattle.workspace.specs.Stop.{StopsAt, StopsWhere}
 use Rattle.workspace.specs.declared.refusal.Refusal.{Refusal}
 use Rattle.workspace.specs.declared.stop.Stop.{Stop}
-use Rattle.workspace.specs.World.{World, named_in, with_bouquet}
+use Rattle.workspace.specs.World.{World, named_in}
 use Rattle.workspace.proofs.Stopping.{stops_so}
 
 -- its query's bouquet is kept, where that is due
@@ -37,7 +37,7 @@ stops world name query due why none = stops_so (λ found. due ≡ Err found) (λ
 
 -- the state with a bouquet more
 pub world_kept : (database : DatabaseState) (old new : List NamedShape) (kept : NamedShape) → new ≡ old ++ kept ∷ []
-    → with_bouquet (world_of (record { database = database; bouquets = old })) (named_of kept) ≡ world_of (record { database = database; bouquets = new })
+    → record { database = database; bouquets = map named_of old ++ named_of kept ∷ [] } ≡ world_of (record { database = database; bouquets = new })
 world_kept database old new kept is =
     let bouquets : map named_of new ≡ map named_of old ++ named_of kept ∷ [] = ap (map named_of) is ∙ map-append named_of old (kept ∷ []) in
     ap (λ named. record { database = database; bouquets = named }) (sym bouquets)

@@ -1,5 +1,5 @@
 -- The bouquet of a query.
-use Rattle.std.specs.Prelude.{◌≡◌, ℕ, ◌^◌, ◌≤◌, nat_lt, List, length, Option, Some, None, IfSome, option_map, Result, Ok, Err, if◌then◌else◌}
+use Rattle.std.specs.Prelude.{◌≡◌, ℕ, ◌^◌, ◌≤◌, nat_lt, List, [], ◌∷◌, ◌++◌, length, Option, Some, None, IfSome, option_map, Result, Ok, Err, if◌then◌else◌}
 use Rattle.std.specs.Option.{option_or}
 use Rattle.sql_values.specs.Limits.{min_levels, max_levels, max_points, max_script_bytes}
 use Rattle.sql_values.specs.declared.limit.LimitName.TheVariants as limit
@@ -26,7 +26,7 @@ use Rattle.workspace.specs.declared.refusal.Refusal.TheVariants as refusal
 use Rattle.workspace.specs.declared.stop.Stop.{Stop}
 use Rattle.workspace.specs.Outcome.{Outcome, Prints, unless}
 use Rattle.workspace.specs.Stop.{StopsWhere}
-use Rattle.workspace.specs.World.{World, with_bouquet}
+use Rattle.workspace.specs.World.{World}
 
 -- a query as a script may have it: of the grammar's form, with no more predicates, and no more parameters, than a script may have
 -- bytes
@@ -97,4 +97,4 @@ GivesDue seen due (Err why) = StopsWhere (λ found. due ≡ Err found) why
 -- a bouquet is kept under a name, with the text of its query, and its size is printed behind a label
 abbrev pub kept_as : (label : List ℕ) → World → (name text : List ℕ) → BouquetTree → Outcome
 kept_as label world name text bouquet =
-    Prints (size_line label bouquet) 0 (with_bouquet world (record { name = name; query = text; bouquet = bouquet }))
+    Prints (size_line label bouquet) 0 (record world { bouquets = world.bouquets ++ record { name = name; query = text; bouquet = bouquet } ∷ [] })

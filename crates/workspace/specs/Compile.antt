@@ -22,12 +22,6 @@ abbrev pub threshold_refusal : (threshold : Option ℕ) → Option Refusal
 threshold_refusal None = None
 threshold_refusal (Some given) = if nat_lt max_threshold given then Some (refusal.PastLimit limit.Threshold given) else None
 
--- nothing speaks against it, and this comes of it
-abbrev pub unless_refused : Option Refusal → Outcome → Outcome
-unless_refused found due = outcome_of do
-  unless (λ why. why) found
-  pure due
-
 -- the bouquet that is due is kept under a free name, with the canonical text of its query
 abbrev pub compile_outcome : World → (name : List ℕ) → (levels threshold : Option ℕ) → QueryTree → Outcome
 compile_outcome world name levels threshold query = outcome_of do

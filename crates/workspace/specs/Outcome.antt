@@ -17,14 +17,10 @@ abbrev pub refused_work : Refusal → ℕ
 refused_work (refusal.PastWork spent true) = spent
 refused_work why = 0
 
--- a refusal that was found, and costs nothing
-abbrev pub RefusesFree : Option Refusal → Refusal → Type 0
-RefusesFree found why = (found ≡ Some why) × (refused_work why ≡ 0)
-
--- a call is refused so, and only then
+-- a call is refused so, which costs nothing, and only then
 pub record RefusesFound {T : Type 0} (found : Option Refusal) (result : Result T Refusal) : Type 0 where
   pub answered : OnOk result (found ≡ None)
-  pub refused : IfErr result (RefusesFree found)
+  pub refused : IfErr result (λ why. (found ≡ Some why) × (refused_work why ≡ 0))
 
 -- nothing speaks against it; or it is refused, as a fault is told
 abbrev pub unless : {Fault : Type 0} → (Fault → Refusal) → Option Fault → Checked Refusal ⊤

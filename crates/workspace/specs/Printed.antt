@@ -19,14 +19,10 @@ abbrev pub header_of : DatabaseState → BlockTree → List (List ℕ)
 header_of database block = map (column_name database block.relations) block.projection
 
 -- the levels of a point, a comma before each but the first; a dash where there is no axis
-abbrev pub levels_text : List ℕ → List ℕ
-levels_text [] = []
-levels_text (level ∷ []) = decimal level
-levels_text (level ∷ other ∷ more) = decimal level ++ (codes "," ++ levels_text (other ∷ more))
-
 abbrev pub point_text : List ℕ → List ℕ
 point_text [] = codes "-"
-point_text (level ∷ more) = levels_text (level ∷ more)
+point_text (level ∷ []) = decimal level
+point_text (level ∷ other ∷ more) = decimal level ++ (codes "," ++ point_text (other ∷ more))
 
 -- what a load prints
 abbrev pub load_line : ℕ → List ℕ

@@ -1,5 +1,5 @@
 -- The state of a script.
-use Rattle.std.specs.Prelude.{ℕ, List, [], ◌∷◌, ◌++◌, Option, Some, None, option_map, if◌then◌else◌}
+use Rattle.std.specs.Prelude.{ℕ, List, [], ◌∷◌, Option, Some, None, option_map, if◌then◌else◌}
 use Rattle.std.specs.Str.{bytes_eq}
 use Rattle.db_catalog.specs.Database.{DatabaseState}
 use Rattle.bouquet_type.specs.Trees.{BouquetTree}
@@ -18,10 +18,6 @@ pub record World : Type 0 where
 -- the same with this database
 abbrev pub with_database : World → DatabaseState → World
 with_database world database = record world { database = database }
-
--- the same with a bouquet more
-abbrev pub with_bouquet : World → NamedBouquet → World
-with_bouquet world named = record world { bouquets = world.bouquets ++ named ∷ [] }
 
 -- before the first statement there is nothing
 abbrev pub nothing_made : World

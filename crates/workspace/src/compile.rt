@@ -12,6 +12,7 @@ ghost use Rattle.workspace.specs.States.{world_of};
 
 use crate::bouquets::{block_of, compiled_of};
 use crate::named::taken;
+use crate::named_bouquets::KeptBouquet;
 use crate::refusal::Refusal;
 use crate::stop::Stop;
 use crate::workspace::Workspace;
@@ -64,6 +65,7 @@ impl Workspace {
         let block = block_of(alloc, &self.database, &compile.query)?;
         let bouquet = compiled_of(alloc, &self.database, block, compile.levels, threshold)?;
         let query = print_query(alloc, &compile.query)?;
-        self.keep(alloc, "-- compile points=", &compile.name, query, bouquet)
+        let kept = KeptBouquet { query, bouquet };
+        self.keep(alloc, "-- compile points=", &compile.name, kept)
     }
 }

@@ -15,33 +15,31 @@ use crate::lines;
 use crate::named_bouquets::KeptBouquet;
 use crate::stop::Stop;
 use crate::workspace::Workspace;
-use bouquet_type::Bouquet;
 use sql_parse::Name;
 use std::alloc::Global;
 
 impl Workspace {
-    /// Keeps a bouquet under a name that none has, with the text of its query, and returns its size behind a label.
+    /// Keeps a bouquet, with the text of its query, under a name that none has, and returns its size behind a label.
     pub(crate) fn keep(
         &mut self,
         alloc: Global,
         label: &str,
         name: &Name,
-        query: Vec<u8>,
-        bouquet: Bouquet,
+        kept: KeptBouquet,
     ) -> Result<Vec<u8>, Stop>
         requires free { named_in name.now (world_of self.old).bouquets ≡ None }
-        requires fits { Fits self.old.database (block_tree bouquet.block) }
-        requires counts { HasCountsOf self.old.database.tables (bouquet_tree bouquet) }
-        requires text { IsUtf8 query.items }
-        requires parameters { length bouquet.block.parameters ≤ max_parameters }
+        requires fits { Fits self.old.database (block_tree kept.bouquet.block) }
+        requires counts { HasCountsOf self.old.database.tables (bouquet_tree kept.bouquet) }
+        requires text { IsUtf8 kept.query.items }
+        requires parameters { length kept.bouquet.block.parameters ≤ max_parameters }
         ensures kept { ReturnsFree
-            (kept_as label.now (world_of self.old) name.now query.items (bouquet_tree bouquet))
+            (kept_as label.now (world_of self.old) name.now kept.query.items (bouquet_tree kept.bouquet))
             result (world_of self.new) }
         ensures unchanged { OnErr result (self.new ≡ self.old) }
     {
-        let text = lines::size_line(alloc, label, &bouquet)?;
+        let text = lines::size_line(alloc, label, &kept.bouquet)?;
         let name = Vec::from_slice(alloc, name.bytes())?;
-        self.bouquets.add(name, KeptBouquet { query, bouquet })?;
+        self.bouquets.add(name, kept)?;
         Ok(text)
     }
 }

@@ -12,6 +12,7 @@ ghost use Rattle.workspace.specs.States.{world_of};
 use crate::begun::{Asked, Begun, Opening, Pending};
 use crate::bouquets::block_of;
 use crate::named::taken;
+use crate::named_bouquets::KeptBouquet;
 use crate::stop::Stop;
 use crate::workspace::Workspace;
 use bouquet_file::from_bytes;
@@ -68,6 +69,11 @@ impl Workspace {
             stats,
         } = opening;
         let bouquet = from_bytes(alloc, bytes, &query, block, stats)?;
-        self.keep(alloc, "-- open points=", &name, query, bouquet)
+        self.keep(
+            alloc,
+            "-- open points=",
+            &name,
+            KeptBouquet { query, bouquet },
+        )
     }
 }

@@ -32,10 +32,11 @@ impl From<AllocError> for Stop {
 }
 
 impl From<DbFault> for Stop {
-    ghost use Rattle.std.specs.Prelude.{◌≡◌};
-    ghost use Rattle.workspace.specs.Stop.{stop_of_change};
+    ghost use Rattle.workspace.specs.Stop.{TellsFault};
+    ghost use Rattle.db_catalog.specs.declared.fault.DbFault.TheVariants as change;
+    ghost use Rattle.workspace.specs.declared.refusal.Refusal.TheVariants as refusal;
 
-    ghost from_gives = { λ fault stop. stop ≡ stop_of_change fault };
+    ghost from_gives = { TellsFault change.NoMemory refusal.NotMade };
 
     fn from(fault: DbFault) -> Stop {
         match fault {

@@ -2,6 +2,7 @@
 use Rattle.std.proofs.Common.{◌≡◌, ◌∙◌, ℕ, List, [], ◌++◌, drop, sym, ap, subst, append_assoc, append-nil, arith}
 use Rattle.std.specs.Prelude.{decimal}
 use Rattle.std.proofs.lemmas.List.{drop_all}
+use Rattle.workspace.specs.Printed.{point_text}
 use Rattle.workspace.proofs.PointTexts.{others_text, point_text-first}
 use Rattle.workspace.proofs.lines.push_point.Goals as goal
 
@@ -16,4 +17,4 @@ returns c =
     ∙ subst (λ (l : List ℕ). c.loop-level.text.items ++ others_text l ≡ c.extend_from_slice-2.new.self.items ++ others_text others) over c.loop-level.invariant
     ∙ ap (λ l. l ++ others_text others) begun
     ∙ append_assoc start (decimal first) (others_text others)
-    ∙ ap (λ l. start ++ l) (sym (point_text-first c.args.levels.now first others c.in-Some.ensures.cases.0))
+    ∙ ap (λ l. start ++ l) (sym (ap point_text c.in-Some.ensures.cases.0 ∙ point_text-first first others))

@@ -1,6 +1,5 @@
 -- A database with an index more is grown; or the fault is told.
-use Rattle.std.proofs.Common.{◌≡◌, ◌≢◌, ◌∙◌, Some, ap, refl, subst, sym}
-use Rattle.std.specs.Prelude.{⊤}
+use Rattle.std.proofs.Common.{◌≡◌, ◌≢◌, ◌∙◌, Some, ap, refl, sym}
 use Rattle.std.proofs.lemmas.Result.{err_from_is_err_and}
 use Rattle.db_catalog.specs.Database.{DatabaseState, table_at, table_number, with_index}
 use Rattle.db_catalog.specs.Refused.{index_fault}
@@ -8,14 +7,14 @@ use Rattle.db_catalog.specs.declared.fault.DbFault.{DbFault}
 use Rattle.db_catalog.specs.declared.fault.DbFault.TheVariants as change
 use Rattle.db_catalog.proofs.Growth.{fits_with_index}
 use Rattle.workspace.specs.CreateIndex.{column_number, create_index_outcome}
-use Rattle.workspace.specs.Outcome.{Outcome, Refuses}
+use Rattle.workspace.specs.Outcome.{Refuses}
 use Rattle.workspace.specs.States.{world_of}
-use Rattle.workspace.specs.Stop.{StopsAt, stop_of_change}
 use Rattle.workspace.specs.World.{World}
 use Rattle.workspace.specs.contracts.workspace.Workspace.{the_view}
 use Rattle.workspace.specs.declared.refusal.Refusal.TheVariants as refusal
 use Rattle.workspace.proofs.Counting.{grows_with_index}
 use Rattle.workspace.proofs.Growing.{is_grown}
+use Rattle.workspace.proofs.Stopping.{told_free}
 use Rattle.workspace.proofs.workspace.Workspace.create_index.Goals as goal
 
 pub invariant_of-self-2 : goal.invariant_of-self-2
@@ -25,21 +24,6 @@ invariant_of-self-2 c =
     let column = c.in-Some-column_of.column in
     is_grown database c.create_index.new.self (with_index database c.bytes-2.result.now table column) c.self.inside.bouquets c.in_ok-create_index.ensures.created.made
     (fits_with_index database c.bytes-2.result.now table column) (grows_with_index database c.bytes-2.result.now table column) c.self.invariant
-
--- want of memory is no other fault
-abbrev TellsOther : DbFault → Type 0
-TellsOther change.NoMemory = ⊥
-TellsOther (change.Limit name value) = ⊤
-TellsOther (change.Duplicate name) = ⊤
-
-other : (fault : DbFault) → TellsOther fault → fault ≢ change.NoMemory
-other fault tells is = subst TellsOther is tells
-
--- a fault other than of memory is what is due
-stops : (due : Outcome) (fault : DbFault) → (fault ≢ change.NoMemory → due ≡ Refuses (refusal.NotMade fault)) → StopsAt due (stop_of_change fault)
-stops due change.NoMemory refused = tt
-stops due (change.Limit name value) refused = (refused (other (change.Limit name value) tt), refl)
-stops due (change.Duplicate name) refused = (refused (other (change.Duplicate name) tt), refl)
 
 pub returns-in_err-create_index-clause-due : goal.returns-in_err-create_index-clause-due
 returns-in_err-create_index-clause-due c =
@@ -56,4 +40,4 @@ returns-in_err-create_index-clause-due c =
     ap (λ name. index_fault database name c.in-Some.table c.in-Some-column_of.column) (sym c.bytes-2.ensures) ∙ c.in_err-create_index.ensures.refuses.refused told in
     rw (table, column, found) refl in
     let stop = err_from_is_err_and c.from_residual.result c.from_residual.ensures.1 in
-    rw (← c.self.view_is, stop.1, stop.2) (stops (create_index_outcome world index) fault refused)
+    rw (← c.self.view_is, stop.1) (told_free (λ found. create_index_outcome world index ≡ Refuses found) change.NoMemory refusal.NotMade fault stop.0 stop.2 refused refl)
