@@ -1,15 +1,11 @@
 -- What comes of AUDIT.
 use Rattle.std.specs.Prelude.{ℕ, ◌+◌, List, [], ◌∷◌, Option, Some, None, length, nat_eq, nat_le, nat_lt, false, if◌then◌else◌}
-use Rattle.sql_values.specs.Steps.{pure, check, ◌>>◌}
+use Rattle.sql_values.specs.Steps.{pure, check, ◌>>=◌, ◌>>◌}
 use Rattle.sql_values.specs.Limits.{max_plans}
 use Rattle.sql_values.specs.declared.limit.LimitName.TheVariants as limit
 use Rattle.sql_parse.specs.declared.tree.AuditDef.{AuditDef}
-use Rattle.sql_values.specs.declared.value.Value.{Value}
 use Rattle.ess_grid.specs.Points.{GridShape}
-use Rattle.query_block.specs.Blocks.{put_of}
-use Rattle.query_block.specs.Values.{value_fault}
 use Rattle.plan_tree.specs.AllPlans.{plans_of}
-use Rattle.bouquet_type.specs.Trees.{BouquetTree}
 use Rattle.audit_run.specs.Audits.{audit_of, work_of_all}
 use Rattle.audit_run.specs.declared.told.AuditFault.{AuditFault}
 use Rattle.audit_run.specs.declared.told.AuditFault.TheVariants as audits
@@ -18,8 +14,8 @@ use Rattle.workspace.specs.declared.stop.Stop.TheVariants as stop
 use Rattle.workspace.specs.declared.refusal.Refusal.{Refusal}
 use Rattle.workspace.specs.declared.refusal.Refusal.TheVariants as refusal
 use Rattle.workspace.specs.Outcome.{Outcome, Prints, outcome_of, unless}
-use Rattle.workspace.specs.Present.{at_present}
 use Rattle.workspace.specs.World.{World}
+use Rattle.session.specs.Answered.{used_due}
 use Rattle.session.specs.Printed.{audit_line}
 
 -- the first of these levels that an axis of so many hasn't
@@ -33,22 +29,15 @@ point_refusal grid levels =
     if nat_eq (length levels) grid.axes then level_refusal grid.levels levels
     else Some (refusal.PastLimit limit.Coordinates (length levels))
 
--- what is told at a point of a bouquet whose block has values in place of its parameters: they have to fit, the levels have to be
--- a point of its grid, and the block has to have few enough plans, whose work together may be no more than this. No book takes it in
-abbrev pub bouquet_audit : (max_work : ℕ) → World → List Value → (levels : List ℕ) → BouquetTree → Outcome
-bouquet_audit max_work world values levels bouquet =
-    let block = put_of values bouquet.costing.block in
-    outcome_of do
-      unless refusal.NotFitting (value_fault bouquet.costing.block.parameters values)
-      unless (λ why. why) (point_refusal bouquet.costing.grid levels)
-      check (refusal.PastLimit limit.Plans (max_plans + 1)) (nat_le (length (plans_of block)) max_plans)
-      check (refusal.PastWork max_work false) (nat_le (work_of_all block world.database) max_work)
-      pure (Prints (audit_line (audit_of bouquet block world.database levels)) 0 world)
-
--- the audit of the bouquet of this name with the statement's values, whose counts have to be those of the tables
+-- what is told at a point of the bouquet of this name, with the statement's values: the levels have to be a point of its grid, and the
+-- block has to have few enough plans, whose work together may be no more than this. No book takes it in
 abbrev pub audit_outcome : (max_work : ℕ) → World → AuditDef → Outcome
-audit_outcome max_work world audit =
-    at_present world audit.name (bouquet_audit max_work world audit.values audit.levels)
+audit_outcome max_work world audit = outcome_of do
+  (bouquet, block) ← used_due world audit.name audit.values
+  unless (λ why. why) (point_refusal bouquet.costing.grid audit.levels)
+  check (refusal.PastLimit limit.Plans (max_plans + 1)) (nat_le (length (plans_of block)) max_plans)
+  check (refusal.PastWork max_work false) (nat_le (work_of_all block world.database) max_work)
+  pure (Prints (audit_line (audit_of bouquet block world.database audit.levels)) 0 world)
 
 -- why an audit stops that ends with a fault: its work is in no book
 abbrev pub stop_of_audit : AuditFault → Stop

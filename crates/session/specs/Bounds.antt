@@ -5,6 +5,7 @@ use Rattle.sql_values.specs.Limits.{default_threshold}
 use Rattle.sql_values.specs.declared.value.Value.{Value}
 use Rattle.query_block.specs.Blocks.{put_of}
 use Rattle.sql_parse.specs.Trees.{StatementTree, Select, Run, Check, Learn, Turns}
+use Rattle.sql_parse.specs.declared.tree.RunDef.{RunDef}
 use Rattle.db_catalog.specs.Database.{DatabaseState}
 use Rattle.bouquet_type.specs.Trees.{BouquetTree}
 use Rattle.bouquet_type.specs.Compiled.{IsCompiled}
@@ -33,14 +34,18 @@ pub record LearnsWithinBound (database : DatabaseState) (values : List Value) (b
   pub counts : HasCountsOf database.tables bouquet
   pub bound : let work = works_over database (put_of values bouquet.costing.block) in IsCompiled bouquet → IsWithinBound bouquet work (learned_end bouquet work).total
 
+-- the bouquet of a name is within its bound, with these values
+abbrev pub IsUsedWithin : World → RunDef → Type 0
+IsUsedWithin world run = IfSome (bouquet_in run.name world.bouquets) (RunsWithinBound world.database run.values)
+
 -- so it is for each bouquet by which a query is answered, with the statement's values; that of a SELECT is sound. Of a bouquet that
 -- is checked the verdict holds
 abbrev pub IsAnsweredWithin : World → StatementTree → Type 0
 IsAnsweredWithin world (Select query) =
     IfOk (bouquet_due world.database query None default_threshold) (λ bouquet. IsSound bouquet × RunsWithinBound world.database [] bouquet)
-IsAnsweredWithin world (Run run) = IfSome (bouquet_in run.name world.bouquets) (RunsWithinBound world.database run.values)
+IsAnsweredWithin world (Run run) = IsUsedWithin world run
 IsAnsweredWithin world (Check name) = IfSome (bouquet_in name world.bouquets) VerdictHolds
-IsAnsweredWithin world (Turns turns) = All (λ run. IfSome (bouquet_in run.name world.bouquets) (RunsWithinBound world.database run.values)) turns.uses
+IsAnsweredWithin world (Turns turns) = All (IsUsedWithin world) turns.uses
 IsAnsweredWithin world (Learn run) = IfSome (bouquet_in run.name world.bouquets) (LearnsWithinBound world.database run.values)
 IsAnsweredWithin world other = ⊤
 

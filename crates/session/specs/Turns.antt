@@ -1,37 +1,28 @@
 -- What comes of TURNS.
 use Rattle.std.specs.Prelude.{ℕ, ◌-◌, ◌||◌, nat_eq, nat_lt, Bool, true, false, List, [], ◌∷◌, ◌++◌, length, map, option_map, Option, Some, None, if◌then◌else◌}
-use Rattle.std.specs.List.{flat_map, list_any}
+use Rattle.std.specs.List.{find, flat_map, list_any}
+use Rattle.sql_values.specs.Steps.{Checked, pure, ◌>>=◌, ◌>>◌}
 use Rattle.sql_values.specs.Limits.{max_jobs}
 use Rattle.sql_parse.specs.declared.tree.RunDef.{RunDef}
 use Rattle.sql_parse.specs.declared.tree.TurnsDef.{TurnsDef}
-use Rattle.query_block.specs.Blocks.{BlockTree}
-use Rattle.bouquet_type.specs.Trees.{BouquetTree}
 use Rattle.turns.specs.Standing.{JobTask, Standing, Runs, Ended, Past, Lost, fresh_job}
 use Rattle.turns.specs.Jobs.{JobTree}
 use Rattle.turns.specs.Taking.{jobs_turned, numbers_to_end, turns_told}
 use Rattle.turns.specs.declared.turn.Turn.{Turn}
-use Rattle.workspace.specs.Compile.{unless_refused}
-use Rattle.workspace.specs.Outcome.{Outcome, Prints, Refuses}
+use Rattle.workspace.specs.Outcome.{Outcome, Prints, Refuses, outcome_of, unless}
 use Rattle.workspace.specs.World.{World}
 use Rattle.workspace.specs.declared.refusal.Refusal.{Refusal}
 use Rattle.workspace.specs.declared.refusal.Refusal.TheVariants as refusal
-use Rattle.session.specs.Answered.{at_used}
+use Rattle.session.specs.Answered.{used_due}
 use Rattle.session.specs.Printed.{job_text, turn_line}
 
--- what is asked of the job of a bouquet on a block
-abbrev pub task_on : (max_work : ℕ) → World → BouquetTree → BlockTree → JobTask
-task_on max_work world bouquet block = record { database = world.database; bouquet = bouquet; block = block; most = max_work }
-
--- what comes of the tasks of these bouquets; the first that can't be used with its values refuses all
-abbrev pub at_tasks : (max_work : ℕ) → World → List RunDef → (List JobTask → Outcome) → Outcome
-at_tasks max_work world [] go = go []
-at_tasks max_work world (run ∷ more) go =
-    at_used world run (λ bouquet block. at_tasks max_work world more (λ tasks. go (task_on max_work world bouquet block ∷ tasks)))
-
--- the first of some numbers that isn't one of so many jobs, from 1
-abbrev pub wrong_turn : (count : ℕ) → List ℕ → Option ℕ
-wrong_turn count [] = None
-wrong_turn count (n ∷ ns) = if nat_eq n 0 || nat_lt count n then Some n else wrong_turn count ns
+-- what is asked of the jobs of these bouquets, each on its block; the first that can't be used with its values refuses all
+abbrev pub tasks_due : (max_work : ℕ) → World → List RunDef → Checked Refusal (List JobTask)
+tasks_due max_work world [] = pure []
+tasks_due max_work world (run ∷ more) = do
+  (bouquet, block) ← used_due world run.name run.values
+  tasks ← tasks_due max_work world more
+  pure (record { database = world.database; bouquet = bouquet; block = block; most = max_work } ∷ tasks)
 
 -- jobs before their first turns
 abbrev pub fresh_jobs : List JobTask → List JobTree
@@ -71,15 +62,16 @@ turns_answer max_work world by tasks =
     if list_any is_past jobs then Refuses (refusal.PastWork max_work false)
     else Prints (flat_map (turn_line (map (λ task. task.bouquet) tasks)) (turns_taken tasks by) ++ flat_map job_text jobs) 0 world
 
--- too many bouquets; and a number that isn't that of one of the jobs
+-- too many bouquets; and the first number that isn't that of one of so many jobs, from 1
 abbrev pub jobs_refusal : (count : ℕ) → Option Refusal
 jobs_refusal count = if nat_lt max_jobs count then Some (refusal.TooManyJobs count) else None
 
 abbrev pub turn_refusal : (count : ℕ) → (by : List ℕ) → Option Refusal
-turn_refusal count by = option_map (λ number. refusal.NoTurn number) (wrong_turn count by)
+turn_refusal count by = option_map (λ number. refusal.NoTurn number) (find (λ number. nat_eq number 0 || nat_lt count number) by)
 
 abbrev pub turns_outcome : (max_work : ℕ) → World → TurnsDef → Outcome
-turns_outcome max_work world turns =
-    let count = length turns.uses in
-    unless_refused (jobs_refusal count)
-    (at_tasks max_work world turns.uses (λ tasks. unless_refused (turn_refusal count turns.by) (turns_answer max_work world turns.by tasks)))
+turns_outcome max_work world turns = outcome_of do
+  unless (λ why. why) (jobs_refusal (length turns.uses))
+  tasks ← tasks_due max_work world turns.uses
+  unless (λ why. why) (turn_refusal (length turns.uses) turns.by)
+  pure (turns_answer max_work world turns.by tasks)

@@ -1,17 +1,14 @@
 -- Bouquets that take turns, each with the block that is executed.
 use Rattle.std.specs.Prelude.{◌≡◌, ◌<◌, ◌≤◌, ℕ, All, List, IfSome, length, map}
-use Rattle.query_block.specs.Blocks.{BlockTree, IsPutOf, block_tree}
+use Rattle.query_block.specs.Blocks.{IsPutOf, block_tree}
 use Rattle.sql_parse.specs.declared.tree.RunDef.{RunDef}
 use Rattle.db_catalog.specs.Database.{DatabaseState}
 use Rattle.db_catalog.specs.Fits.{Fits}
 use Rattle.bouquet_type.specs.Trees.{BouquetTree, bouquet_tree}
 use Rattle.turns.specs.Standing.{JobTask}
 use Rattle.turns.specs.declared.turn.Turn.{Turn}
-use Rattle.workspace.specs.Outcome.{Outcome}
 use Rattle.workspace.specs.World.{World, bouquet_in}
-use Rattle.session.specs.Answered.{at_used}
-use Rattle.session.specs.Bounds.{LearnsWithinBound, RunsWithinBound}
-use Rattle.session.specs.Turns.{at_tasks}
+use Rattle.session.specs.Bounds.{IsUsedWithin, LearnsWithinBound}
 use Rattle.session.specs.declared.uses.Used.{Used}
 
 -- what is asked of its job
@@ -31,20 +28,14 @@ pub record IsExecutable (database : DatabaseState) (used : Used) : Type 0 where
   pub put : IsPutOf (bouquet_tree used.bouquet.now).costing.block (block_tree used.block)
   pub fits : Fits database (block_tree used.block)
 
--- the bouquet of a name is within its bound, with these values
-abbrev pub IsUsedWithin : World → RunDef → Type 0
-IsUsedWithin world run = IfSome (bouquet_in run.name world.bouquets) (RunsWithinBound world.database run.values)
-
--- it is the one of this name, present, with its values, which fit
+-- it can be executed, and with its values the bouquet of this name is within its bound, in a run that learns too
 pub record IsUsedOf (world : World) (run : RunDef) (used : Used) : Type 0 where
-  pub due : (go : BouquetTree → BlockTree → Outcome) → at_used world run go ≡ go (bouquet_tree used.bouquet.now) (block_tree used.block)
   pub usable : IsExecutable world.database used
   pub within : IsUsedWithin world run
   pub learns : IfSome (bouquet_in run.name world.bouquets) (LearnsWithinBound world.database run.values)
 
--- they are those of these names
+-- they are as many, and each can be executed and is within its bound
 pub record AreUsedOf (world : World) (runs : List RunDef) (all : List Used) : Type 0 where
-  pub due : (max_work : ℕ) (go : List JobTask → Outcome) → at_tasks max_work world runs go ≡ go (map (task_of_use max_work world.database) all)
   pub count : length all ≡ length runs
   pub usable : All (IsExecutable world.database) all
   pub within : All (IsUsedWithin world) runs

@@ -83,12 +83,11 @@ fn push_answer(
     requires job { task_of job.now ≡ task_of_use job.now.most database.now used.now }
     ensures { OnOk result (text.new.items ≡ text.old.items ++ job_text (job_tree job.now)) }
 {
-    let _state = job.state();
+    let rows = job.rows();
     let Some(report) = job.report() else {
         return Ok(());
     };
-    let block = &used.block;
-    let answer = print_answer(alloc, database, block, job.rows(), report)?;
+    let answer = print_answer(alloc, database, &used.block, rows, report)?;
     text.extend_from_slice(&answer)
 }
 

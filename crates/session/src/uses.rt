@@ -1,15 +1,13 @@
 // A bouquet with values: its counts are looked at, then whether the values fit, before a row is read. Of a statement that names
 // several each is looked up before the next.
-ghost use Rattle.std.specs.Prelude.{◌++◌, ◌∷◌, [], IfErr, IfOk, List, OnOk, ℕ, ◌≡◌};
-ghost use Rattle.query_block.specs.Blocks.{BlockTree};
-ghost use Rattle.bouquet_type.specs.Trees.{BouquetTree};
-ghost use Rattle.turns.specs.Standing.{JobTask};
-ghost use Rattle.workspace.specs.Outcome.{Outcome};
+ghost use Rattle.std.specs.Prelude.{◌++◌, ◌∷◌, [], IfOk, OnOk, ℕ, ◌≡◌, map};
+ghost use Rattle.query_block.specs.Blocks.{block_tree};
+ghost use Rattle.bouquet_type.specs.Trees.{bouquet_tree};
+ghost use Rattle.workspace.specs.Bouquets.{GivesDue};
 ghost use Rattle.workspace.specs.States.{world_of};
-ghost use Rattle.workspace.specs.Stop.{StopsAt};
-ghost use Rattle.session.specs.Answered.{at_used};
-ghost use Rattle.session.specs.Turns.{at_tasks};
-ghost use Rattle.session.specs.Uses.{AreUsedOf, IsUsedOf};
+ghost use Rattle.session.specs.Answered.{used_due};
+ghost use Rattle.session.specs.Turns.{tasks_due};
+ghost use Rattle.session.specs.Uses.{AreUsedOf, IsUsedOf, task_of_use};
 
 use crate::session::Session;
 use bouquet_type::Bouquet;
@@ -45,9 +43,9 @@ fn push_used<'s>(all: &mut Vec<Used<'s>>, used: Used<'s>) -> Result<(), AllocErr
 impl Session {
     /// The bouquet of this name, whose counts are those of the tables, with the values of a use, which fit.
     pub(crate) fn used(&self, alloc: Global, run: &RunDef) -> Result<Used<'_>, Stop>
+        ensures due { GivesDue (λ used. (bouquet_tree used.bouquet.now, block_tree used.block))
+            (used_due (world_of self.now) run.now.name run.now.values) result }
         ensures used { IfOk result (IsUsedOf (world_of self.now) run.now) }
-        ensures refused { IfErr result (λ why. (go : BouquetTree → BlockTree → Outcome)
-            → StopsAt (at_used (world_of self.now) run.now go) why) }
     {
         let bouquet = self.workspace.present(&run.name)?;
         let values = run.values.as_slice();
@@ -58,9 +56,10 @@ impl Session {
 
     /// Those of all uses, in order.
     pub(crate) fn all_used(&self, alloc: Global, runs: &[RunDef]) -> Result<Vec<Used<'_>>, Stop>
+        ensures due { (max_work : ℕ) → GivesDue
+            (λ all. map (task_of_use max_work self.now.database) all.items)
+            (tasks_due max_work (world_of self.now) runs.now) result }
         ensures used { IfOk result (λ all. AreUsedOf (world_of self.now) runs.now all.items) }
-        ensures refused { IfErr result (λ why. (max_work : ℕ) (go : List JobTask → Outcome)
-            → StopsAt (at_tasks max_work (world_of self.now) runs.now go) why) }
     {
         let mut all = Vec::new(alloc);
         for run in runs {
