@@ -9,19 +9,20 @@ use Rattle.std.proofs.lemmas.Bool.{leb-true}
 use Rattle.std.proofs.lemmas.Bool.Decides.{nat_tests}
 use Rattle.std.proofs.lemmas.Int.Digits.{digits_value-lt}
 use Rattle.clap.proofs.WalkLemmas.{both}
-use Rattle.command_line.specs.Words.{is_digit, is_number}
+use Rattle.std.specs.Char.{is_ascii_digit}
+use Rattle.command_line.specs.Words.{is_number}
 
-digit_below : (byte : ℕ) → is_digit byte ≡ true → digit_value byte < 10
+digit_below : (byte : ℕ) → is_ascii_digit byte ≡ true → digit_value byte < 10
 digit_below byte e = grind (arith, nat_tests)
 
-all_digits : (text : List ℕ) → list_all is_digit text ≡ true → AllDigits 10 text
+all_digits : (text : List ℕ) → list_all is_ascii_digit text ≡ true → AllDigits 10 text
 all_digits [] e = tt
 all_digits (byte ∷ rest) e = (digit_below byte (both _ _ e).0, all_digits rest (both _ _ e).1)
 
-no_plus : (text : List ℕ) → list_all is_digit text ≡ true → without_leading_plus text ≡ text
+no_plus : (text : List ℕ) → list_all is_ascii_digit text ≡ true → without_leading_plus text ≡ text
 no_plus [] e = refl
 no_plus (byte ∷ rest) e =
-    let digit : is_digit byte ≡ true = (both _ _ e).0 in
+    let digit : is_ascii_digit byte ≡ true = (both _ _ e).0 in
     let other : (byte == 43) ≡ false = grind (arith, nat_tests) in
     rw other refl
 
@@ -30,7 +31,7 @@ pub reads_number : (text : List ℕ) {test : Bool} → test ≡ is_number text �
     → ((IsNumeral 10 (without_leading_plus text) × (digits_value 10 (without_leading_plus text) < 2 ^ 64)) → ⊥) → ⊥
 reads_number text is e fails =
     let whole : is_number text ≡ true = sym is ∙ e in
-    let parts = both (nat_le 1 (length text) && nat_le (length text) 19) (list_all is_digit text) whole in
+    let parts = both (nat_le 1 (length text) && nat_le (length text) 19) (list_all is_ascii_digit text) whole in
     let lengths = both (nat_le 1 (length text)) (nat_le (length text) 19) parts.0 in
     let digits = all_digits text parts.1 in
     let below = digits_value-lt 10 text digits in

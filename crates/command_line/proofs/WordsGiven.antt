@@ -15,7 +15,8 @@ use Rattle.clap.specs.Simple.{built}
 use Rattle.clap.specs.Faults.{check_fault, default_fault, defaults_fault, given_default_fault, settle_fault, walk_fault}
 use Rattle.clap.proofs.FaultLemmas.{leaf_fault}
 use Rattle.clap.proofs.WalkLemmas.{both}
-use Rattle.command_line.specs.Words.{Options, at_most_one_within, is_digit, is_number, number_within, options_of, options_of_numbers, options_of_uses, max_work_name, demo_name, numbers_given}
+use Rattle.std.specs.Char.{is_ascii_digit}
+use Rattle.command_line.specs.Words.{Options, at_most_one_within, is_number, number_within, options_of, options_of_numbers, options_of_uses, max_work_name, demo_name, numbers_given}
 use Rattle.command_line.proofs.ClapLine.{at, line_app, or_else-none, rule, top}
 use Rattle.command_line.proofs.ClapWords.{IsPlain, plain_first}
 use Rattle.command_line.proofs.WordsRead.{Fits, Meaning, Pick, Reads, end_of, faults, has_hyphens, meaning, no_uses, pick, rows_at_end, use_of, uses}
@@ -83,8 +84,8 @@ given_once (pick false demo ∷ pick true work ∷ pick false next ∷ rest) out
 plain_number : (text : Text) → is_number text ≡ true → IsPlain text
 plain_number [] e = (refl, refl, refl)
 plain_number (byte ∷ rest) e =
-    let digits : list_all is_digit (byte ∷ rest) ≡ true = (both (nat_le 1 (length (byte ∷ rest)) && nat_le (length (byte ∷ rest)) 19) _ e).1 in
-    let digit : is_digit byte ≡ true = (both _ (list_all is_digit rest) digits).0 in
+    let digits : list_all is_ascii_digit (byte ∷ rest) ≡ true = (both (nat_le 1 (length (byte ∷ rest)) && nat_le (length (byte ∷ rest)) 19) _ e).1 in
+    let digit : is_ascii_digit byte ≡ true = (both _ (list_all is_ascii_digit rest) digits).0 in
     let other : (byte == 45) ≡ false = grind (arith, nat_tests) in
     plain_first byte rest other
 

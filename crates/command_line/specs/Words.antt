@@ -1,12 +1,12 @@
 -- The arguments of the command line.
-use Rattle.std.specs.Prelude.{◌≡◌, ℕ, ◌==◌, ◌&&◌, ◌||◌, Bool, nat_le, List, [], ◌∷◌, length, map, filter, codes, String, string_bytes}
+use Rattle.std.specs.Prelude.{ℕ, ◌==◌, ◌&&◌, ◌||◌, Bool, nat_le, List, [], ◌∷◌, length, map, filter, codes, String, string_bytes}
 use Rattle.std.specs.Prelude.{Option, Some, None, option_map, option_and_then, unwrap_or, if◌then◌else◌}
 use Rattle.std.specs.List.{list_all, list_any, before_first, after_first}
+use Rattle.std.specs.Char.{is_ascii_digit}
 use Rattle.std.specs.Str.{bytes_eq}
 use Rattle.std.specs.Str.Parse.{digits_value}
 use Rattle.std.specs.declared.alloc.Global.{Global}
 use Rattle.demo_data.specs.Demo.{greatest_demo}
-use Rattle.command_line.specs.declared.words.Options.{Options as OptionsRead}
 use Rattle.command_line.specs.Limits.{max_work}
 
 -- what a command line asks for: the most work of a query, and the number of the demonstration, where it is to be shown
@@ -50,13 +50,9 @@ uses_of_words (word ∷ next ∷ rest) =
     then option_map (λ uses. record { name = word; number = next } ∷ uses) (uses_of_words rest)
     else option_and_then (λ one. option_map (λ uses. one ∷ uses) (uses_of_words (next ∷ rest))) (joined_use word)
 
--- the byte is a decimal digit
-abbrev pub is_digit : ℕ → Bool
-is_digit byte = nat_le 48 byte && nat_le byte 57
-
 -- 1 to 19 decimal digits
 abbrev pub is_number : List ℕ → Bool
-is_number text = nat_le 1 (length text) && nat_le (length text) 19 && list_all is_digit text
+is_number text = nat_le 1 (length text) && nat_le (length text) 19 && list_all is_ascii_digit text
 
 -- the number of 1 to 19 decimal digits, within these bounds
 abbrev pub number_within : (least most : ℕ) → List ℕ → Option ℕ
@@ -91,7 +87,3 @@ options_of words = option_and_then options_of_uses (uses_of_words words)
 -- the bytes of the words
 abbrev pub word_texts : List (String Global) → List (List ℕ)
 word_texts words = map string_bytes words
-
--- what was read of them
-abbrev pub options_value : OptionsRead → Options
-options_value options = record { max_work = options.max_work; demo = options.demo }

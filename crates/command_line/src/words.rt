@@ -3,6 +3,7 @@
 ghost use Rattle.std.specs.Prelude.{◌≡◌, ◌≤◌, Some, None, IfSome, IfOk, IfErr, IsErrOf};
 ghost use Rattle.std.specs.Prelude.{codes, map, option_map};
 ghost use Rattle.std.specs.List.{list_all, list_any};
+ghost use Rattle.std.specs.Char.{is_ascii_digit};
 ghost use Rattle.std.specs.Str.{bytes_eq};
 ghost use Rattle.std.specs.Option.{option_to_list};
 ghost use Rattle.std.specs.String.{string_bytes};
@@ -10,7 +11,7 @@ ghost use Rattle.clap.specs.Words.{first_value, found_of, kind_of};
 ghost use Rattle.command_line.specs.Words as spec;
 ghost use Rattle.demo_data.specs.Demo.{greatest_demo};
 ghost use Rattle.command_line.specs.Limits.{max_work};
-ghost use Rattle.command_line.specs.Words.{options_of, options_of_numbers, options_value, word_texts};
+ghost use Rattle.command_line.specs.Words.{options_of, options_of_numbers, word_texts};
 
 use clap::error::ErrorKind;
 use clap::{Arg, ArgAction, ArgMatches, Command, Error};
@@ -50,7 +51,7 @@ impl From<AllocError> for WordsFault {
 
 // Each byte is a decimal digit.
 fn are_digits(bytes: &[u8]) -> bool
-    ensures { result ≡ list_all spec.is_digit bytes.now }
+    ensures { result ≡ list_all is_ascii_digit bytes.now }
 {
     bytes.iter().all(|byte| byte.is_ascii_digit())
 }
@@ -140,7 +141,8 @@ fn matched<'a>(alloc: Global, words: &'a [String]) -> Result<ArgMatches<'a>, Wor
 /// The options that the words give.
 pub fn read_words(alloc: Global, words: &[String]) -> Result<Options, WordsFault>
     ensures read { IfOk result (λ options.
-        options_of (word_texts words.now) ≡ Some (options_value options)) }
+        options_of (word_texts words.now)
+        ≡ Some (record { max_work = options.max_work; demo = options.demo })) }
     ensures refused { IsErrOf result WordsFault.BadWords →
         options_of (word_texts words.now) ≡ None }
     ensures most { IfOk result (λ options. options.max_work ≤ max_work) }
