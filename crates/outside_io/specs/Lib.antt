@@ -7,3 +7,4 @@ pub mod Files
 pub mod Calls
 pub mod Memory
 pub mod Codes
+pub mod Rights

@@ -7,6 +7,7 @@ ghost use Rattle.outside_io.specs.Files.{IsReadAnswer, KeepsFileLimit, KeepsOthe
 ghost use Rattle.outside_io.specs.Files.{OnlyReads, OnlyWrites, with_file};
 ghost use Rattle.outside_io.specs.Names.{IsInside};
 
+use crate::filled::Moved;
 use crate::folder::check_len;
 use crate::folder_counts::FolderCounts;
 use crate::name::is_inside;
@@ -89,7 +90,7 @@ fn write_named<R: Files + Alloc>(
     process: u32,
     name: &str,
     bytes: &[u8],
-) -> Result<(), FileFault>
+) -> Result<Moved, FileFault>
     ensures kinds { IfErr result (λ e. (e ≡ FileFault.Failed) ⊎ (e ≡ FileFault.NoMemory)) }
     ensures outside { ¬ (IsInside name.now) → IsErrOf result FileFault.Failed }
     ensures no_name { name.now ≡ [] → IsErrOf result FileFault.Failed }
@@ -147,7 +148,10 @@ impl<'a, R: Files + Alloc> Folder for DirFolder<'a, R> {
         ensures outside { ¬ (IsInside name.now) → IsErrOf result FileFault.Failed }
         ensures no_name { name.now ≡ [] → IsErrOf result FileFault.Failed }
     {
-        let outcome = write_named(self.rt, self.process, name, bytes);
+        let outcome = match write_named(self.rt, self.process, name, bytes) {
+            Ok(_moved) => Ok(()),
+            Err(fault) => Err(fault),
+        };
         self.counts.count_write(&outcome);
         outcome
     }

@@ -9,6 +9,7 @@
 mod dir_folder;
 mod failing;
 mod fault;
+mod filled;
 mod folder;
 mod folder_counts;
 mod held_files;

@@ -1,5 +1,8 @@
 // Files in the making. Each lies beside the place that it is to take, under a name that no other
 // file has. Such names can't run out, and what a killed run left under one stays where it is.
+ghost use Rattle.std.specs.Prelude.{◌≡◌, ◌↔◌, ◌-◌, IsTrue, drop, length, take};
+ghost use Rattle.outside_io.specs.Names.{IsPartName};
+
 use std::alloc::AllocError;
 use std::fs::File;
 use std::io;
@@ -12,10 +15,26 @@ const START: &str = "bouquet-";
 
 const END: &str = ".part";
 
+// Whether a text begins so.
+fn begins_so(text: &str, start: &str) -> bool
+    ensures { IsTrue result ↔ (take (length start.now) text.now ≡ start.now) }
+{
+    text.as_bytes().starts_with(start.as_bytes())
+}
+
+// Whether a text ends so.
+fn ends_so(text: &str, end: &str) -> bool
+    ensures { IsTrue result ↔ (drop (length text.now - length end.now) text.now ≡ end.now) }
+{
+    text.as_bytes().ends_with(end.as_bytes())
+}
+
 /// Whether the last component of a name is one that files in the making have.
-pub(crate) fn is_part_name(name: &str) -> bool {
+pub(crate) fn is_part_name(name: &str) -> bool
+    ensures { IsTrue result ↔ IsPartName name.now }
+{
     match Path::new(name).file_name() {
-        Some(last) => last.starts_with(START) && last.ends_with(END),
+        Some(last) => begins_so(last, START) && ends_so(last, END),
         None => false,
     }
 }

@@ -2,15 +2,18 @@
 // fails, and a program that ends in the middle of one, leave the old file whole, as far as the
 // system moves a name as a whole. It never takes the place of a file that is neither empty nor a
 // bouquet's, but for one that another process puts there after the look and before the move.
-ghost use Rattle.std.specs.Prelude.{◌≡◌, ◌⊎◌, IfErr};
+ghost use Rattle.std.specs.Prelude.{◌≡◌, ◌⊎◌, IfErr, IfOk, IfSome, bit_and, option_map, string_bytes};
+ghost use Rattle.std.specs.Fs.{permissions_mode};
+ghost use Rattle.outside_io.specs.Names.{IsPartName};
+ghost use Rattle.outside_io.specs.Rights.{NeverRuns, read_and_write};
 
 use crate::FileFault;
+use crate::filled::{Moved, fill};
 use crate::part::{is_part_name, new_beside};
 use crate::regular::check_regular;
-use crate::signature::check_replaceable;
-use crate::writer_sink::write_whole;
+use crate::signature::{Replaceable, check_replaceable};
 use std::fs::{OpenFile, OpenOptions, Permissions};
-use std::io::{ErrorKind, Write};
+use std::io::ErrorKind;
 use std::os::unix::fs::PermissionsExt;
 use std::path::PathBuf;
 use std::rt::Files;
@@ -26,7 +29,24 @@ struct Part<R: Files + Alloc> {
     file: R::File,
     path: PathBuf<R::A>,
     place: String<R::A>,
-    rights: Option<Permissions>,
+    rights: Option<Rights>,
+}
+
+// The rights of a file that was looked at, and may be replaced.
+#[derive(Drop)]
+struct Rights {
+    permissions: Permissions,
+    checked: Replaceable,
+}
+
+// The permissions of rights, if there are some.
+fn permissions_of(rights: Option<Rights>) -> Option<Permissions>
+    ensures { result ≡ option_map (λ rights. rights.permissions) rights }
+{
+    match rights {
+        Some(rights) => Some(rights.permissions),
+        None => None,
+    }
 }
 
 // Whether a link stands under the name. Where that can't be told, nothing may be put in its place.
@@ -46,18 +66,34 @@ fn place_of<R: Files + Alloc>(rt: &R, name: &str) -> io::Result<String<R::A>> {
     Ok(String::from_str(rt.alloc(), name)?)
 }
 
+// Some rights without those to run a file.
+fn without_running(rights: &Permissions) -> Permissions
+    ensures rights { permissions_mode result ≡ bit_and (permissions_mode rights.now) read_and_write }
+    ensures never { NeverRuns (permissions_mode result) }
+{
+    Permissions::from_mode(rights.mode() & RIGHTS)
+}
+
 // The rights of a regular file, which has to be one that may be read, written and replaced. They
 // are without those to run it.
-fn rights_of<R: Files + Alloc>(rt: &R, name: &str) -> io::Result<Permissions> {
+fn rights_of<R: Files + Alloc>(rt: &R, name: &str) -> io::Result<Rights>
+    ensures { IfOk result (λ rights. NeverRuns (permissions_mode rights.permissions)) }
+{
     let file = OpenOptions::new().read(true).write(true).open(rt, name)?;
     let found = file.metadata()?;
     check_regular(&found)?;
-    check_replaceable(rt.alloc(), file)?;
-    Ok(Permissions::from_mode(found.permissions().mode() & RIGHTS))
+    let checked = check_replaceable(rt.alloc(), file)?;
+    Ok(Rights {
+        permissions: without_running(&found.permissions()),
+        checked,
+    })
 }
 
 // The rights of the file that stands in the place, or none where nothing stands there.
-fn rights_at<R: Files + Alloc>(rt: &R, place: &str) -> io::Result<Option<Permissions>> {
+fn rights_at<R: Files + Alloc>(rt: &R, place: &str) -> io::Result<Option<Rights>>
+    ensures { IfOk result (λ found.
+        IfSome found (λ rights. NeverRuns (permissions_mode rights.permissions))) }
+{
     match fs::metadata(rt, place) {
         Ok(found) => {
             check_regular(&found)?;
@@ -69,7 +105,11 @@ fn rights_at<R: Files + Alloc>(rt: &R, place: &str) -> io::Result<Option<Permiss
 }
 
 // All that is done before a byte is written. Where it fails, no file is there that wasn't before.
-fn begin_part<R: Files + Alloc>(rt: &R, process: u32, name: &str) -> io::Result<Part<R>> {
+fn begin_part<R: Files + Alloc>(rt: &R, process: u32, name: &str) -> io::Result<Part<R>>
+    ensures name { IfOk result (λ part. ¬ (IsPartName (string_bytes part.place))) }
+    ensures rights { IfOk result (λ part.
+        IfSome part.rights (λ rights. NeverRuns (permissions_mode rights.permissions))) }
+{
     let place = place_of(rt, name)?;
     if is_part_name(place.as_str()) {
         return Err(io::Error::from(ErrorKind::InvalidInput));
@@ -84,27 +124,23 @@ fn begin_part<R: Files + Alloc>(rt: &R, process: u32, name: &str) -> io::Result<
     })
 }
 
-// Puts the bytes into a new file, which has its rights before the first of them.
-fn fill<F: OpenFile + Write + Drop>(
-    mut file: F,
-    rights: Option<Permissions>,
-    bytes: &[u8],
-) -> io::Result<()> {
-    if let Some(rights) = rights {
-        file.set_permissions(rights)?;
-    }
-    write_whole(&mut file, bytes)?;
-    file.sync_all()
-}
-
 // Fills the new file and moves it to its place, or removes it.
-fn finish_part<R: Files + Alloc>(rt: &R, part: Part<R>, bytes: &[u8]) -> io::Result<()> {
-    let mut outcome = fill(part.file, part.rights, bytes);
-    if outcome.is_ok() {
-        outcome = fs::rename(rt, part.path.as_str(), part.place.as_str());
-    }
+fn finish_part<R: Files + Alloc>(rt: &R, part: Part<R>, bytes: &[u8]) -> io::Result<Moved>
+    requires name { ¬ (IsPartName (string_bytes part.place)) }
+    requires rights { IfSome part.rights (λ rights. NeverRuns (permissions_mode rights.permissions)) }
+{
+    let Part {
+        file,
+        path,
+        place,
+        rights,
+    } = part;
+    let outcome = match fill(file, permissions_of(rights), bytes) {
+        Ok(filled) => filled.move_to(rt, path.as_str(), place.as_str()),
+        Err(error) => Err(error),
+    };
     if outcome.is_err() {
-        let _ = fs::remove_file(rt, part.path.as_str());
+        let _ = fs::remove_file(rt, path.as_str());
     }
     outcome
 }
@@ -126,7 +162,7 @@ pub(crate) fn replace_file<R: Files + Alloc>(
     process: u32,
     name: &str,
     bytes: &[u8],
-) -> Result<(), FileFault>
+) -> Result<Moved, FileFault>
     ensures { IfErr result (λ e. (e ≡ FileFault.Failed) ⊎ (e ≡ FileFault.NoMemory)) }
 {
     let part = match begin_part(rt, process, name) {
@@ -134,7 +170,7 @@ pub(crate) fn replace_file<R: Files + Alloc>(
         Err(error) => return Err(fault_before(&error)),
     };
     match finish_part(rt, part, bytes) {
-        Ok(()) => Ok(()),
+        Ok(moved) => Ok(moved),
         Err(_) => Err(FileFault::Failed),
     }
 }

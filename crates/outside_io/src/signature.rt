@@ -11,8 +11,15 @@ use std::io::{ErrorKind, Read};
 // How the file of a bouquet begins.
 static SIGNATURE: &str = "{\"bouquet\":";
 
+/// A file that was looked at, and may be replaced. Only `check_replaceable` makes one.
+#[derive(Drop)]
+pub(crate) struct Replaceable(());
+
 /// Refuses a file that is neither empty nor a bouquet's, by an error that isn't 'not found'.
-pub(crate) fn check_replaceable<F: Read + Drop, A: Allocator>(alloc: A, file: F) -> io::Result<()>
+pub(crate) fn check_replaceable<F: Read + Drop, A: Allocator>(
+    alloc: A,
+    file: F,
+) -> io::Result<Replaceable>
     ensures { IfOk result (λ _. IfSome (F.remaining file)
         (λ held. (take 11 held ≡ []) ⊎ (take 11 held ≡ signature))) }
 {
@@ -20,5 +27,5 @@ pub(crate) fn check_replaceable<F: Read + Drop, A: Allocator>(alloc: A, file: F)
     if !start.is_empty() && start.as_slice() != SIGNATURE.as_bytes() {
         return Err(io::Error::from(ErrorKind::InvalidInput));
     }
-    Ok(())
+    Ok(Replaceable(()))
 }
