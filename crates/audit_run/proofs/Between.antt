@@ -12,13 +12,13 @@ use Rattle.plan_tree.specs.AllPlans.{plans_of}
 use Rattle.plan_tree.specs.Work.{work_of}
 use Rattle.db_catalog.specs.Database.{DatabaseState}
 use Rattle.exec_pipe.specs.declared.engine.Engine.{Engine}
-use Rattle.exec_pipe.specs.Engines.{IsEngine, engine_of}
+use Rattle.exec_pipe.specs.Engines.{IsEngine}
 use Rattle.exec_pipe.specs.Scenes.{IsEmptyContext}
 use Rattle.bouquet_type.specs.Trees.{BouquetTree, bouquet_tree}
 use Rattle.audit_run.specs.declared.executions.Audited.{Audited}
 use Rattle.audit_run.specs.declared.figures.Figures.{Figures}
 use Rattle.audit_run.specs.declared.figures.Measured.{Measured}
-use Rattle.audit_run.specs.Measures.{Measure, measure_of, measures_of, worst_of}
+use Rattle.audit_run.specs.Measures.{Measure, measure_of, worst_of}
 use Rattle.audit_run.specs.declared.told.AuditFault.{AuditFault}
 use Rattle.audit_run.specs.declared.told.AuditFault.TheVariants.{PlanLimit, WorkLimit, NoMemory}
 use Rattle.audit_run.specs.Executed.{measure, AreItsPlans, AreWith, HasWork, StopsAudit}
@@ -106,7 +106,7 @@ module _ (bouquet : BouquetTree) (block : BlockTree) (database : DatabaseState) 
         work = spent;
       } ≡ audit_of bouquet block database point
   told plans figures spent most some all few ranks are =
-      let whole = measures_of bouquet block database point in
+      let whole = map (measure_of bouquet block database point) (plans_of block) in
       let none : measures_in (drop (length plans) plans) ≡ [] = ap measures_in (drop_all (length plans) plans (omega arith)) in
       let over : AreFigures (measures_in plans) [] figures spent = subst (λ left. AreFigures (measures_in plans) left figures spent) none are in
       let of : AreFigures whole [] figures spent =
@@ -126,5 +126,5 @@ pub record IsBetween (audited : Audited) (plans : List Plan) (index : ℕ) (figu
   pub block : engine.block.now ≡ audited.block.now
   pub most : engine.max_work ≡ audited.max_work
   pub database : engine.meter.now.database ≡ audited.db.now
-  pub holds : IsEngine (engine_of engine)
+  pub holds : IsEngine engine
   pub context : IsEmptyContext engine.meter.now (block_tree engine.block.now) engine.space.now

@@ -1,5 +1,5 @@
 -- When the works of plans are as their costs say.
-use Rattle.std.proofs.Common.{◌≡◌, ◌∙◌, inl, inr, ℕ, ◌*◌, ◌≤◌, Bool, true, List, [], ◌∷◌, nat_le, sym, ap, arith}
+use Rattle.std.proofs.Common.{◌≡◌, ◌∙◌, inl, inr, ℕ, ◌*◌, ◌≤◌, Bool, true, IsTrue, List, [], ◌∷◌, map, nat_le, sym, ap, arith}
 use Rattle.std.specs.List.{list_all}
 use Rattle.std.proofs.lemmas.Bool.{leb-true}
 use Rattle.sql_values.specs.declared.value.Value.{Value}
@@ -14,8 +14,9 @@ use Rattle.plan_tree.proofs.Enumerated.{in-plans}
 use Rattle.cost_model.specs.Costs.{cost_of}
 use Rattle.db_catalog.specs.Database.{DatabaseState}
 use Rattle.bouquet_type.specs.Trees.{BouquetTree}
-use Rattle.audit_run.specs.Measures.{measure_of, measures_of, worst_of}
-use Rattle.audit_run.specs.Audits.{ShowsPremise, audit_of}
+use Rattle.bouquet_type.specs.Runs.{CostPremise}
+use Rattle.audit_run.specs.Measures.{measure_of, worst_of}
+use Rattle.audit_run.specs.Audits.{audit_of}
 use Rattle.audit_run.proofs.Worst.{worst-some, worst-most}
 use Rattle.audit_run.proofs.Between.{each_measured}
 
@@ -26,10 +27,11 @@ of-all test x (z ∷ zs) all (inl same) = ap test (sym same) ∙ grind (arith, a
 of-all test x (z ∷ zs) all (inr more) = of-all test x zs (grind (arith, all)) more
 
 pub premise : (bouquet : BouquetTree) (values : List Value) (database : DatabaseState) (point : List ℕ)
-    → let block = put_of values bouquet.costing.block in ShowsPremise bouquet block database (audit_of bouquet block database point)
+    → let block = put_of values bouquet.costing.block in
+    let audit = audit_of bouquet block database point in IsTrue audit.below → CostPremise bouquet.costing audit.point audit.a audit.b (work_of database.tables block)
 premise bouquet values database point below =
     let block = put_of values bouquet.costing.block in
-    let measures = measures_of bouquet block database point in
+    let measures = map (measure_of bouquet block database point) (plans_of block) in
     let worst = worst_of measures in
     let are = each_measured bouquet block database point (plans_of block) in
     let among : (p : PlanTree) → IsPlan bouquet.costing.block p → IsIn (measure_of bouquet block database point p) measures =

@@ -1,5 +1,5 @@
 -- What an audit tells, and why it is refused.
-use Rattle.std.specs.Prelude.{◌≡◌, ℕ, ◌<◌, ◌≤◌, Bool, IsTrue, List, length, map, sum_by, ⊤}
+use Rattle.std.specs.Prelude.{◌≡◌, ℕ, ◌<◌, ◌≤◌, Bool, List, length, map, sum_by, ⊤}
 use Rattle.sql_values.specs.Limits.{max_plans}
 use Rattle.query_block.specs.Blocks.{BlockTree}
 use Rattle.plan_tree.specs.AllPlans.{plans_of}
@@ -8,8 +8,7 @@ use Rattle.cost_model.specs.Optimal.{least_of}
 use Rattle.db_catalog.specs.Database.{DatabaseState}
 use Rattle.bouquet_type.specs.Trees.{BouquetTree}
 use Rattle.bouquet_type.specs.Budgets.{most_plans}
-use Rattle.bouquet_type.specs.Runs.{CostPremise}
-use Rattle.audit_run.specs.Measures.{measures_of, are_within, worst_of}
+use Rattle.audit_run.specs.Measures.{measure_of, are_within, worst_of}
 use Rattle.audit_run.specs.declared.told.Audit.{Audit}
 use Rattle.audit_run.specs.declared.told.AuditFault.{AuditFault}
 use Rattle.audit_run.specs.declared.told.AuditFault.TheVariants.{PlanLimit, WorkLimit, NoMemory}
@@ -33,7 +32,7 @@ work_of_all block database = sum_by (work_of database.tables block) (plans_of bl
 -- of a bouquet on a block at a point, over a database
 abbrev pub audit_of : BouquetTree → BlockTree → DatabaseState → (point : List ℕ) → AuditTree
 audit_of bouquet block database point =
-    let measures = measures_of bouquet block database point in
+    let measures = map (measure_of bouquet block database point) (plans_of block) in
     let worst = worst_of measures in
     record {
       point = point;
@@ -45,11 +44,6 @@ audit_of bouquet block database point =
       r = most_plans bouquet.contours;
       work = work_of_all block database;
     }
-
--- where it tells that no work is above its cost, works and costs at its point are as the bound on a run's work asks
-abbrev pub ShowsPremise : BouquetTree → BlockTree → DatabaseState → AuditTree → Type 0
-ShowsPremise bouquet block database audit =
-    IsTrue audit.below → CostPremise bouquet.costing audit.point audit.a audit.b (work_of database.tables block)
 
 -- as it is told
 abbrev pub told_audit : Audit → AuditTree

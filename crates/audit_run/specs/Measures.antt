@@ -1,9 +1,8 @@
 -- What each plan of a block costs and works, and which of them is worst.
-use Rattle.std.specs.Prelude.{ℕ, ◌*◌, Bool, List, [], ◌∷◌, map, nat_le, nat_lt, if◌then◌else◌}
+use Rattle.std.specs.Prelude.{ℕ, ◌*◌, Bool, List, [], ◌∷◌, nat_le, nat_lt, if◌then◌else◌}
 use Rattle.std.specs.List.{list_all}
 use Rattle.query_block.specs.Blocks.{BlockTree}
 use Rattle.plan_tree.specs.Plans.{PlanTree}
-use Rattle.plan_tree.specs.AllPlans.{plans_of}
 use Rattle.plan_tree.specs.Work.{work_of}
 use Rattle.cost_model.specs.Costs.{cost_of}
 use Rattle.db_catalog.specs.Database.{DatabaseState}
@@ -19,10 +18,6 @@ measure_of bouquet block database point p = record {
   cost = cost_of bouquet.costing p point;
   work = work_of database.tables block p;
 }
-
--- of all plans of that block, in plan order
-abbrev pub measures_of : BouquetTree → BlockTree → DatabaseState → (point : List ℕ) → List Measure
-measures_of bouquet block database point = map (measure_of bouquet block database point) (plans_of block)
 
 -- whether no work is above its cost
 abbrev pub are_within : List Measure → Bool

@@ -5,7 +5,7 @@ ghost use Rattle.ess_grid.specs.Points.{IsPoint};
 ghost use Rattle.query_block.specs.Blocks.{block_tree, put_of};
 ghost use Rattle.query_block.specs.Values.{FitValues};
 ghost use Rattle.db_catalog.specs.Fits.{Fits};
-ghost use Rattle.exec_pipe.specs.Engines.{MayExecute, engine_of};
+ghost use Rattle.exec_pipe.specs.Engines.{MayExecute};
 ghost use Rattle.bouquet_type.specs.Trees.{bouquet_tree};
 ghost use Rattle.audit_run.specs.Executed.{AreItsPlans, Audits, MayAudit, MayCost, MeasuresPlan};
 ghost use Rattle.audit_run.specs.Audits.{audit_of, told_audit, RefusesAudit};
@@ -43,7 +43,7 @@ fn measured(
     point: &Point,
     plan: &Plan,
 ) -> Result<Measured, AuditFault>
-    requires executes { MayExecute (engine_of engine.old) plan.now }
+    requires executes { MayExecute engine.old plan.now }
     requires costs { MayCost costing.now point.now plan.now }
     ensures { MeasuresPlan costing.now point.now plan.now engine.old engine.new result }
 {

@@ -6,14 +6,13 @@ use Rattle.bouquet_type.specs.Schedule.{Member}
 use Rattle.bouquet_type.specs.Cursor.{first_attempt, members_behind}
 use Rattle.bouquet_type.specs.Runs.{RunEnd, end_behind, end_of}
 use Rattle.bouquet_run.specs.Coming.{Coming, Passes, Ends, GoesOn, coming}
-use Rattle.bouquet_run.specs.Running.{run_from}
 
 -- what comes of the next one is told of that end: it has more work than the most; it is this one; or it is the end from behind
 abbrev pub LeadsOn : (work : PlanTree → ℕ) → (final : PlanTree) → (most spent runs : ℕ) → List Member → Coming → Type 0
-LeadsOn work final most spent runs members Passes = most < (run_from work final spent runs members).total
-LeadsOn work final most spent runs members (Ends end) = end ≡ run_from work final spent runs members
+LeadsOn work final most spent runs members Passes = most < (end_behind spent runs (end_of work members final)).total
+LeadsOn work final most spent runs members (Ends end) = end ≡ end_behind spent runs (end_of work members final)
 LeadsOn work final most spent runs members (GoesOn spent') =
-    (run_from work final spent runs members ≡ run_from work final spent' (runs + 1) (members_behind members)) × (length (members_behind members) < length members)
+    (end_behind spent runs (end_of work members final) ≡ end_behind spent' (runs + 1) (end_of work (members_behind members) final)) × (length (members_behind members) < length members)
 
 abbrev pub coming_next : (work : PlanTree → ℕ) → (final : PlanTree) → (most spent runs : ℕ) → List Member → Coming
 coming_next work final most spent runs members =

@@ -10,7 +10,7 @@ use Rattle.plan_tree.specs.Enumerated.{IsPlan}
 use Rattle.plan_tree.proofs.PutPlans.{put-plan}
 use Rattle.db_catalog.specs.Database.{DatabaseState}
 use Rattle.db_catalog.specs.Meter.{MeterState}
-use Rattle.exec_pipe.specs.Engines.{KeepsEngine, MayExecute, engine_of}
+use Rattle.exec_pipe.specs.Engines.{KeepsEngine, MayExecute}
 use Rattle.exec_pipe.specs.Runs.{OnlyRuns, OnlyRunsWithin}
 use Rattle.exec_pipe.specs.declared.engine.Engine.{Engine}
 use Rattle.bouquet_type.specs.Trees.{BouquetTree}
@@ -25,7 +25,7 @@ use Rattle.bouquet_type.specs.declared.report.RunFault.TheVariants.{WorkLimit, N
 use Rattle.bouquet_type.proofs.Bound.{bound}
 use Rattle.bouquet_run.specs.Coming.{Coming, Passes, Ends, GoesOn, TellsStep, coming}
 use Rattle.bouquet_run.specs.Outcomes.{works_over}
-use Rattle.bouquet_run.specs.Running.{IsUnderWay, RunState, Steps, run_from, run_state}
+use Rattle.bouquet_run.specs.Running.{IsUnderWay, RunState, Steps, run_state}
 use Rattle.bouquet_run.proofs.Onward.{LeadsOn, leads-on}
 
 -- a plan of a bouquet's block is one of the block with values put in
@@ -61,7 +61,7 @@ begun bouquet block most ending first empty due schedule ends unspent rows whole
     let work = works_over first.database block in
     let final = final_plan bouquet in
     record {
-      end = ends ∙ behind-none (end_of work due final) ∙ ap (λ spent. run_from work final spent 0 due) (sym unspent);
+      end = ends ∙ behind-none (end_of work due final) ∙ ap (λ spent. end_behind spent 0 (end_of work due final)) (sym unspent);
       few = omega (arith, whole.few);
       is = whole.is;
       of = whole.whole;
@@ -164,7 +164,7 @@ module _ (bouquet : BouquetTree) (ending : RunEnd) (first old new : Engine) (due
     (takes : TakesNext schedule next) (at : attempt ≡ attempt_at next) where
   -- its plan may be executed, where there were no work rows
   pub may-execute : (plan : Plan) → IsPutOf bouquet.costing.block (block_tree first.block.now) → IsPlan next.ladder.whole.costing.block (plan_tree plan) → first.space.now.work.rows ≡ []
-      → MayExecute (engine_of old) plan
+      → MayExecute old plan
   may-execute plan put of none =
       let here = subst (λ (whole : BouquetTree). IsPlan whole.costing.block (plan_tree plan)) (takes.whole ∙ is.of) of in
       record {

@@ -1,5 +1,5 @@
 -- What one execution of a run leads to.
-use Rattle.std.specs.Prelude.{◌≡◌, Bool, true, false, ℕ, ℤ, ◌+◌, nat_le, nat_lt, List, [], length, Option, None, Some, Result, Ok, Err, if◌then◌else◌}
+use Rattle.std.specs.Prelude.{◌≡◌, Bool, true, ℕ, ℤ, ◌+◌, nat_le, nat_lt, List, [], length, Option, None, Some, Result, Ok, Err, if◌then◌else◌}
 use Rattle.row_stack.specs.declared.space.Space.{Space}
 use Rattle.query_block.specs.Blocks.{BlockTree}
 use Rattle.query_block.specs.Meaning.{meaning_of}
@@ -24,15 +24,12 @@ abbrev pub is_done : (budget : Option ℕ) → (work : ℕ) → Bool
 is_done None work = true
 is_done (Some budget) work = nat_le work budget
 
--- what comes where what is spent fits, by whether the plan is done
-abbrev pub coming_if : Bool → (spent runs work : ℕ) → AttemptTree → Coming
-coming_if true spent runs work step = Ends (record { plan = step.plan; total = spent + work; runs = runs; contour = step.contour })
-coming_if false spent runs work step = GoesOn (spent + spends step.budget work)
-
 -- what comes of the execution of this number, from 1, of a plan of this work, where so much was spent before
 abbrev pub coming : (most spent runs work : ℕ) → AttemptTree → Coming
 coming most spent runs work step =
-    if nat_lt most (spent + spends step.budget work) then Passes else coming_if (is_done step.budget work) spent runs work step
+    if nat_lt most (spent + spends step.budget work) then Passes
+    else (if is_done step.budget work then Ends (record { plan = step.plan; total = spent + work; runs = runs; contour = step.contour })
+    else GoesOn (spent + spends step.budget work))
 
 -- a step tells what comes: how many rows the block means, which are there, and what all executions paid together; or that the
 -- run goes on, without a row; or why it is refused, without a row. Out of memory nothing is told

@@ -2,7 +2,6 @@
 use Rattle.std.specs.Prelude.{◌≡◌, ℕ, ◌+◌, ◌≤◌, ◌^◌, List, [], length, Option, None, Some, Result, Ok, Err}
 use Rattle.row_stack.specs.declared.space.Space.{Space}
 use Rattle.query_block.specs.Blocks.{BlockTree, block_tree}
-use Rattle.plan_tree.specs.Plans.{PlanTree}
 use Rattle.db_catalog.specs.Meter.{MeterState}
 use Rattle.exec_pipe.specs.Executions.{AreRowsOf}
 use Rattle.exec_pipe.specs.declared.engine.Engine.{Engine}
@@ -17,10 +16,6 @@ use Rattle.bouquet_type.specs.declared.report.Report.{Report}
 use Rattle.bouquet_type.specs.declared.report.RunFault.{RunFault}
 use Rattle.bouquet_run.specs.Coming.{TellsStep, coming}
 use Rattle.bouquet_run.specs.Outcomes.{ReportsRun, RefusesRun, works_over}
-
--- the end of a run of which these executions are due, where so many before spent so much
-abbrev pub run_from : (work : PlanTree → ℕ) → (final : PlanTree) → (spent runs : ℕ) → List Member → RunEnd
-run_from work final spent runs due = end_behind spent runs (end_of work due final)
 
 -- how far a run is: its schedule, its meter and its stacks, and how many executions it made
 pub record RunState : Type 0 where
@@ -43,7 +38,7 @@ TellsExecution old new runs attempt told =
 -- a run that ends so began with this meter and these stacks, and these executions are due: those before weren't done and spent
 -- what the meter says, and no row stands on the stacks
 pub record IsUnderWay (bouquet : BouquetTree) (block : BlockTree) (most : ℕ) (ending : RunEnd) (first : MeterState) (empty : Space) (due : List Member) (run : RunState) : Type 0 where
-  pub end : ending ≡ run_from (works_over first.database block) (final_plan bouquet) run.meter.account.spent run.runs due
+  pub end : ending ≡ end_behind run.meter.account.spent run.runs (end_of (works_over first.database block) due (final_plan bouquet))
   pub few : run.runs + length (members_left run.schedule) ≤ 2 ^ 19
   pub is : IsSchedule run.schedule
   pub of : run.schedule.ladder.whole ≡ bouquet

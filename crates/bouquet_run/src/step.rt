@@ -1,7 +1,7 @@
 // The step. It relies on the execution for rows and work; what it adds is what is told of it.
 ghost use Rattle.std.specs.Prelude.{◌≡◌};
 ghost use Rattle.plan_tree.specs.Plans.{plan_tree};
-ghost use Rattle.exec_pipe.specs.Engines.{KeepsEngine, MayExecute, engine_of};
+ghost use Rattle.exec_pipe.specs.Engines.{KeepsEngine, MayExecute};
 ghost use Rattle.exec_pipe.specs.Runs.{OnlyRuns};
 ghost use Rattle.bouquet_run.specs.Coming.{TellsEnd};
 ghost use Rattle.bouquet_run.specs.Running.{TellsExecution};
@@ -64,7 +64,7 @@ pub fn execute(
     attempt: Attempt<'_>,
     runs: u32,
 ) -> Result<Option<Report>, RunFault>
-    requires { MayExecute (engine_of engine.old) attempt.plan.now }
+    requires { MayExecute engine.old attempt.plan.now }
     ensures tells { TellsExecution engine.old engine.new runs attempt.entry result }
     ensures keeps { KeepsEngine engine.old engine.new }
 {

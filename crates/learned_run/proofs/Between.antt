@@ -22,19 +22,19 @@ use Rattle.bouquet_type.specs.Ladders.{AreTried}
 use Rattle.bouquet_type.specs.Bounded.{IsWithinBound}
 use Rattle.bouquet_type.specs.Cursor.{AttemptTree, IsSchedule, IsWholeSchedule, ScheduleState, StandsAtFirst, TakesNext, attempt_at, attempt_tree, first_attempt, members_behind, members_left}
 use Rattle.bouquet_type.specs.Reports.{told_end}
-use Rattle.bouquet_type.specs.Runs.{RunEnd, end_of}
+use Rattle.bouquet_type.specs.Runs.{RunEnd, end_behind, end_of}
 use Rattle.bouquet_type.specs.Skipping.{without_skipped}
 use Rattle.bouquet_type.specs.declared.schedule.Attempt.{Attempt}
 use Rattle.bouquet_type.specs.declared.report.Report.{Report}
 use Rattle.bouquet_type.specs.declared.report.RunFault.{RunFault}
 use Rattle.bouquet_run.specs.Coming.{is_done}
 use Rattle.bouquet_run.specs.Outcomes.{works_over}
-use Rattle.bouquet_run.specs.Running.{IsUnderWay, Steps, run_from, run_state}
+use Rattle.bouquet_run.specs.Running.{IsUnderWay, Steps, run_state}
 use Rattle.bouquet_run.proofs.Stepping.{EngineTells, begun, engine-steps, engine-tells}
 use Rattle.learned_run.specs.declared.learned.Skip.{Skip}
 use Rattle.learned_run.specs.declared.lesson.Lesson.{Lesson}
 use Rattle.learned_run.specs.Learning.{learned_point}
-use Rattle.learned_run.specs.Skips.{IsSkipOf, covers_above, is_skipped, learned_end, skip_by, skip_of, skip_point, skips_among, skips_of}
+use Rattle.learned_run.specs.Skips.{IsSkipOf, covers_above, is_skipped, learned_end, skip_by, skip_point, skips_among, skips_of}
 use Rattle.learned_run.specs.Outcomes.{AnswersLearned}
 use Rattle.learned_run.specs.Raising.{IsLearned, RulesOut}
 use Rattle.learned_run.specs.Covering.{IsMemberOf, member_of, step_skip}
@@ -141,7 +141,7 @@ skip-by-learned bouquet member (Some learned) point is =
       | inr fails ↦ rw fails at is
     ]
 
-member-skip : (bouquet : BouquetTree) (member : Member) (point : List ℕ) → IsMemberOf bouquet member → IsPoint bouquet.costing.grid point → IsSkipOf bouquet (skip_of member point)
+member-skip : (bouquet : BouquetTree) (member : Member) (point : List ℕ) → IsMemberOf bouquet member → IsPoint bouquet.costing.grid point → IsSkipOf bouquet (record { contour = member.contour; plan = member.place; point = point })
 member-skip bouquet member point is is_point =
     let within : member.place - 1 < length is.contour.plans = slice_get_within is.contour.plans (member.place - 1) member.plan is.plan in
     let place : member.place ≤ length is.contour.plans = omega (arith, within) in
@@ -170,8 +170,9 @@ module _ (bouquet : BouquetTree) (work : PlanTree → ℕ) (exhausted : List Mem
   skips-first learned point (member ∷ more) same of_grid members at skip =
       let skipped : skip_point bouquet.costing bouquet.threshold exhausted member ≡ Some point = sym (skip ∙ skip-first bouquet exhausted member more step learned same at) in
       let by : skip_by bouquet.costing bouquet.threshold member learned ≡ Some point = ap (skip_by bouquet.costing bouquet.threshold member) same ∙ skipped in
-      let told : skip_of (member_of step member.budget) point ≡ skip_of member point = ap (λ (one : Member). skip_of one point) at.1 in
-      let here : skips_due bouquet work exhausted (member ∷ more) ≡ skip_of member point ∷ skips_due bouquet work exhausted more = rw skipped refl in
+      let own : Skip = record { contour = member.contour; plan = member.place; point = point } in
+      let told = ap (λ (one : Member). let skip : Skip = record { contour = one.contour; plan = one.place; point = point } in skip) at.1 in
+      let here : skips_due bouquet work exhausted (member ∷ more) ≡ own ∷ skips_due bouquet work exhausted more = rw skipped refl in
       record {
         due = skipped-first (is_skipped bouquet.costing bouquet.threshold) exhausted member more (ap is_some skipped);
         skips = here ∙ ap (λ (one : Skip). one ∷ skips_due bouquet work exhausted more) (sym told);
@@ -248,7 +249,7 @@ module _ (bouquet : BouquetTree) (first old : Engine) (now next : ScheduleState)
           learned = is.learned;
           running = record {
             end = is.running.end
-                ∙ ap (run_from work (final_plan bouquet) old.meter.now.account.spent runs) (so.due ∙ ap (due_among bouquet is.exhausted) (sym takes.left));
+                ∙ ap (λ due. end_behind old.meter.now.account.spent runs (end_of work due (final_plan bouquet))) (so.due ∙ ap (due_among bouquet is.exhausted) (sym takes.left));
             few = omega (arith, is.running.few, so.fewer, ap length takes.left);
             is = takes.at.is;
             of = takes.whole ∙ is.running.of;

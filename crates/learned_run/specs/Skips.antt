@@ -43,15 +43,11 @@ is_skipped costing threshold exhausted member = is_some (skip_point costing thre
 abbrev pub learned_end : BouquetTree → (work : PlanTree → ℕ) → RunEnd
 learned_end bouquet work = end_of work (without_skipped (is_skipped bouquet.costing bouquet.threshold) [] (schedule bouquet)) (final_plan bouquet)
 
--- the skip of a member, by this point
-abbrev pub skip_of : Member → (point : List ℕ) → Skip
-skip_of member point = record { contour = member.contour; plan = member.place; point = point }
-
 -- the skips among some members, where these were exhausted before, up to the one that is done
 abbrev pub skips_among : CostingTree → (threshold : ℕ) → (work : PlanTree → ℕ) → (exhausted : List Member) → List Member → List Skip
 skips_among costing threshold work exhausted [] = []
 skips_among costing threshold work exhausted (member ∷ more) =
-    option_map_or (λ point. skip_of member point ∷ skips_among costing threshold work exhausted more) (skip_point costing threshold exhausted member)
+    option_map_or (λ point. record { contour = member.contour; plan = member.place; point = point } ∷ skips_among costing threshold work exhausted more) (skip_point costing threshold exhausted member)
     (if nat_le (work member.plan) member.budget then [] else skips_among costing threshold work (exhausted ++ member ∷ []) more)
 
 -- the skips of a run, in order

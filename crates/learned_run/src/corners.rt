@@ -19,7 +19,7 @@ pub(crate) fn even(grid: &Grid, level: u8) -> Point
     ensures levels { result ≡ replicate grid.now.axes level }
     ensures of_grid { IsPoint grid.now result }
 {
-    let _levels = grid.levels();
+    grid.levels();
     let levels = [level; MAX_AXES];
     Point::new(&levels[..grid.axes()])
 }

@@ -162,7 +162,7 @@ impl<'c> Frontiers<'c> {
         let Some(outline) = self.bouquet.outline() else {
             return false;
         };
-        let _contours = self.bouquet.contours();
+        self.bouquet.contours();
         let kept = &outline.frontiers[step.contour as usize - 1];
         let test = CoverTest {
             costing: self.costing,

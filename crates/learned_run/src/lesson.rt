@@ -29,7 +29,7 @@ impl Lesson {
         ensures { IsLearned (costing_tree costing.now) [] result.some result.least }
     {
         let grid = costing.grid();
-        let _levels = grid.levels();
+        grid.levels();
         Lesson {
             some: false,
             least: Some(even(grid, 0)),

@@ -9,7 +9,7 @@ ghost use Rattle.plan_tree.specs.Enumerated.{IsPlan};
 ghost use Rattle.cost_model.specs.Costing.{costing_tree};
 ghost use Rattle.cost_model.specs.Greedy.{covers_at};
 ghost use Rattle.plan_space.specs.Surface.{optimal_costs};
-ghost use Rattle.learned_run.specs.Skips.{covers_above, is_at_or_below};
+ghost use Rattle.learned_run.specs.Skips.{covers_above};
 
 use crate::optima::optimal_at;
 use cost_model::{Costing, is_covered};

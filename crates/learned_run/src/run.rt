@@ -3,7 +3,7 @@
 ghost use Rattle.std.specs.Prelude.{◌≡◌, ◌<◌, ◌≤◌, ◌^◌, ◌++◌, [], ◌∷◌, MatchResult, OnOk, Ok, Err};
 ghost use Rattle.query_block.specs.Blocks.{block_tree, IsPutOf};
 ghost use Rattle.exec_pipe.specs.Scenes.{IsEmptyContext};
-ghost use Rattle.exec_pipe.specs.Engines.{IsEngine, KeepsEngine, engine_of};
+ghost use Rattle.exec_pipe.specs.Engines.{IsEngine, KeepsEngine};
 ghost use Rattle.exec_pipe.specs.Runs.{OnlyRuns};
 ghost use Rattle.bouquet_type.specs.Trees.{bouquet_tree};
 ghost use Rattle.learned_run.specs.Outcomes.{AnswersLearned};
@@ -50,7 +50,7 @@ fn execute_unskipped(
     requires block { IsPutOf (block_tree b.now.block) (block_tree engine.old.block.now) }
     requires frontiers { frontiers.old.bouquet ≡ b.now }
     requires skips { skips.old.items ≡ [] }
-    requires engine { IsEngine (engine_of engine.old) }
+    requires engine { IsEngine engine.old }
     requires context { IsEmptyContext engine.old.meter.now (block_tree engine.old.block.now)
         engine.old.space.now }
     requires unspent { engine.old.meter.now.account.spent ≡ 0 }
@@ -63,7 +63,7 @@ fn execute_unskipped(
         engine.new.space.now.result.rows (Err fault)) }
     ensures keeps { KeepsEngine engine.old engine.new }
 {
-    let _block = b.block();
+    b.block();
     let costing = b.costing();
     let costs = b.optimal_costs();
     let mut lesson = Lesson::new(&costing);

@@ -12,7 +12,7 @@ use Rattle.bouquet_run.proofs.Onward.{LeadsOn, leads-on}
 use Rattle.bouquet_run.specs.Outcomes.{works_over}
 use Rattle.turns.specs.Standing.{JobTask, Standing, Runs, Ended, Past, Lost, next_coming, stands_by, turn_of}
 use Rattle.turns.specs.Jobs.{JobShape, JobTree, job_tree}
-use Rattle.turns.specs.Taking.{HasEnded, StopsAmong, TakesAll, TakesRunning, is_running, job_turned, jobs_turned, named, number_of, running_at, numbers_of_rounds, numbers_running, numbers_to_end, numbers_told, rounds_left, turn_told, turn_told_of, turns_left, turns_told}
+use Rattle.turns.specs.Taking.{StopsAmong, TakesAll, TakesRunning, is_running, job_turned, jobs_turned, named, number_of, running_at, numbers_of_rounds, numbers_running, numbers_to_end, numbers_told, rounds_left, turn_told, turn_told_of, turns_left, turns_told}
 use Rattle.turns.specs.declared.turn.Turn.{Turn}
 use Rattle.turns.proofs.JobsTurned.{turned-at, turned-none, turned-turned, unnamed}
 use Rattle.turns.proofs.TurnsTaken.{job-at, stops-on, takes-none, takes-on}
@@ -212,9 +212,9 @@ idle Past runs = refl
 idle Lost runs = refl
 
 -- none does, where none has turns left
-pub all-ended : (jobs : List JobTree) → rounds_left jobs ≤ 0 → All HasEnded jobs
-all-ended [] none = All-nil HasEnded
-all-ended (job ∷ more) none = All-cons HasEnded job more (ended-by job.standing (omega (arith, none))) (all-ended more (omega (arith, none)))
+pub all-ended : (jobs : List JobTree) → rounds_left jobs ≤ 0 → All (λ job. is_running job.standing ≡ false) jobs
+all-ended [] none = All-nil (λ job. is_running job.standing ≡ false)
+all-ended (job ∷ more) none = All-cons (λ job. is_running job.standing ≡ false) job more (ended-by job.standing (omega (arith, none))) (all-ended more (omega (arith, none)))
   where
     ended-by : (standing : Standing) → turns_left standing ≤ 0 → is_running standing ≡ false
     ended-by (Runs place spent left) none = absurd (omega (arith, none))

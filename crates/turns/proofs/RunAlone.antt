@@ -1,16 +1,16 @@
 -- A job ends as the run of its bouquet does alone.
-use Rattle.std.proofs.Common.{◌≡◌, ◌∙◌, inl, inr, ℕ, zero, suc, ◌+◌, ◌<◌, ◌≤◌, Bool, true, false, List, length, refl, ap, sym, subst, arith}
+use Rattle.std.proofs.Common.{◌≡◌, ◌∙◌, inl, inr, ℕ, zero, suc, ◌+◌, ◌<◌, ◌≤◌, Bool, true, false, if◌then◌else◌, List, length, refl, ap, sym, subst, arith}
 use Rattle.std.specs.Prelude.{Option, Some, None}
 use Rattle.std.proofs.lemmas.Bool.{cases_lt, lt-ltb, le-ltb, leb-true}
 use Rattle.plan_tree.specs.Plans.{PlanTree}
 use Rattle.exec_pipe.specs.Runs.{spends}
 use Rattle.bouquet_type.specs.Schedule.{Member, final_plan, schedule}
-use Rattle.bouquet_type.specs.Cursor.{AttemptTree, members_behind}
+use Rattle.bouquet_type.specs.Cursor.{AttemptTree, first_attempt, members_behind}
 use Rattle.bouquet_type.specs.Runs.{RunEnd, end_behind, end_of, run_end, total_work}
-use Rattle.bouquet_run.specs.Coming.{Coming, Passes, Ends, GoesOn, coming, coming_if, is_done}
+use Rattle.bouquet_run.specs.Coming.{Coming, Passes, Ends, GoesOn, coming, is_done}
 use Rattle.bouquet_run.proofs.Onward.{LeadsOn, leads-on}
 use Rattle.bouquet_run.specs.Outcomes.{works_over}
-use Rattle.turns.specs.Standing.{JobTask, Standing, Runs, Ended, Past, Lost, job_after, next_attempt, next_coming, stands_by, turn_of}
+use Rattle.turns.specs.Standing.{JobTask, Standing, Runs, Ended, Past, Lost, job_after, next_coming, stands_by, turn_of}
 
 -- the total that an execution ends a run with, which is within what may be spent
 abbrev total_in : Coming → ℕ
@@ -23,7 +23,7 @@ fits-done most spent work None done fits = fits
 fits-done most spent work (Some budget) done fits = omega (arith, fits, leb-true work budget done)
 
 fits-if : (most spent runs work : ℕ) (step : AttemptTree) (done : Bool) → is_done step.budget work ≡ done → spent + spends step.budget work ≤ most
-    → total_in (coming_if done spent runs work step) ≤ most
+    → total_in (if done then Ends (record { plan = step.plan; total = spent + work; runs = runs; contour = step.contour }) else GoesOn (spent + spends step.budget work)) ≤ most
 fits-if most spent runs work step true done fits = fits-done most spent work step.budget done fits
 fits-if most spent runs work step false done fits = omega arith
 
@@ -57,7 +57,7 @@ module _ (task : JobTask) where
 
   on-next : (count : ℕ) (standing : Standing) → IsOn count standing → IsOn (count + 1) (turn_of task standing)
   on-next count (Runs place spent left) is =
-      let step = next_attempt task left in
+      let step = first_attempt left final in
       on-by count place spent left (next_coming task place spent left) is (leads-on work final task.most spent place left) (total-fits task.most spent (place + 1) (work step.plan) step)
   on-next count (Ended end) is = is
   on-next count Past is = is

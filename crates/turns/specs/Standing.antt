@@ -4,7 +4,7 @@ use Rattle.query_block.specs.Blocks.{BlockTree}
 use Rattle.db_catalog.specs.Database.{DatabaseState}
 use Rattle.bouquet_type.specs.Trees.{BouquetTree}
 use Rattle.bouquet_type.specs.Schedule.{Member, final_plan, schedule}
-use Rattle.bouquet_type.specs.Cursor.{AttemptTree, first_attempt, members_behind}
+use Rattle.bouquet_type.specs.Cursor.{first_attempt, members_behind}
 use Rattle.bouquet_type.specs.Runs.{RunEnd}
 use Rattle.bouquet_run.specs.Coming.{Coming, Passes, Ends, GoesOn, coming}
 use Rattle.bouquet_run.specs.Outcomes.{works_over}
@@ -24,13 +24,10 @@ pub data Standing : Type 0 where
   Past : Standing
   Lost : Standing
 
--- the execution that comes next, and what comes of it
-abbrev pub next_attempt : JobTask → (left : List Member) → AttemptTree
-next_attempt task left = first_attempt left (final_plan task.bouquet)
-
+-- what comes of the execution that comes next
 abbrev pub next_coming : JobTask → (place spent : ℕ) → (left : List Member) → Coming
 next_coming task place spent left =
-    let attempt = next_attempt task left in
+    let attempt = first_attempt left (final_plan task.bouquet) in
     coming task.most spent (place + 1) (works_over task.database task.block attempt.plan) attempt
 
 -- how a job stands of whose execution this came, the last of so many, with these left behind it

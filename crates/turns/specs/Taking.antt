@@ -1,7 +1,9 @@
 -- The turns of several jobs.
 use Rattle.std.specs.Prelude.{◌≡◌, ◌≢◌, ◌⊎◌, ℕ, zero, suc, ◌+◌, nat_eq, max, Bool, true, false, List, [], ◌∷◌, ◌++◌, All, length, map, set, slice_get, option_to_list, if◌then◌else◌, Option, None, Some, Result, Ok, Err}
+use Rattle.bouquet_type.specs.Schedule.{final_plan}
+use Rattle.bouquet_type.specs.Cursor.{first_attempt}
 use Rattle.bouquet_run.specs.Coming.{Coming, Passes, Ends, GoesOn}
-use Rattle.turns.specs.Standing.{JobTask, Standing, Runs, Ended, Past, Lost, job_after, next_attempt, next_coming, turns_of}
+use Rattle.turns.specs.Standing.{JobTask, Standing, Runs, Ended, Past, Lost, job_after, next_coming, turns_of}
 use Rattle.turns.specs.Jobs.{JobTree}
 use Rattle.turns.specs.declared.turn.Turn.{Turn}
 
@@ -32,7 +34,7 @@ spent_after most (GoesOn spent) = spent
 abbrev pub turn_told : (number : ℕ) → JobTask → Standing → List Turn
 turn_told number task (Runs place spent left) = record {
   job = number;
-  contour = (next_attempt task left).contour;
+  contour = (first_attempt left (final_plan task.bouquet)).contour;
   place = place + 1;
   spent = spent_after task.most (next_coming task place spent left);
 } ∷ []
@@ -106,9 +108,6 @@ turns_left (Runs place spent left) = 1 + length left
 turns_left (Ended end) = 0
 turns_left Past = 0
 turns_left Lost = 0
-
-abbrev pub HasEnded : JobTree → Type 0
-HasEnded job = is_running job.standing ≡ false
 
 -- the most of those
 abbrev pub rounds_left : List JobTree → ℕ

@@ -138,7 +138,7 @@ impl<'d> Job<'d> {
         } }
         ensures fresh { (job_tree result).standing ≡ fresh_job (task_of result) }
     {
-        let _relations = block.relations();
+        block.relations();
         Job {
             block,
             max_work,

@@ -2,7 +2,7 @@
 ghost use Rattle.std.specs.Prelude.{◌≡◌, ◌^◌, ◌<◌, ◌≤◌, ◌++◌, true, false, [], ◌∷◌, All, IfOk, OnErr, OnOk, length, map, option_to_list};
 ghost use Rattle.std.specs.Vec.{vec_capacity};
 ghost use Rattle.turns.specs.Jobs.{job_tree, task_of};
-ghost use Rattle.turns.specs.Taking.{EachStands, HasEnded, NamesNoLost, StopsAmong, TakesAll, TakesRunning};
+ghost use Rattle.turns.specs.Taking.{EachStands, NamesNoLost, StopsAmong, TakesAll, TakesRunning, is_running};
 ghost use Rattle.turns.specs.Taking.{jobs_turned, running_at, numbers_running, numbers_told, numbers_to_end, rounds_left, turns_told};
 
 use crate::job::Job;
@@ -139,7 +139,7 @@ pub fn finish_turns(alloc: Global, jobs: &mut [Job<'_>]) -> Result<Vec<Turn>, Al
         EachStands (numbers_told taken.items) (map job_tree jobs.old) (map job_tree jobs.new)) }
     ensures taken { IfOk result (λ taken. taken.items
         ≡ turns_told (numbers_to_end (map job_tree jobs.old)) (map job_tree jobs.old)) }
-    ensures ended { OnOk result (All HasEnded (map job_tree jobs.new)) }
+    ensures ended { OnOk result (All (λ job. is_running job.standing ≡ false) (map job_tree jobs.new)) }
     ensures stopped { OnErr result (StopsAmong (numbers_to_end (map job_tree jobs.old))
         (map job_tree jobs.old) (map job_tree jobs.new)) }
     ensures whole { map task_of jobs.new ≡ map task_of jobs.old }

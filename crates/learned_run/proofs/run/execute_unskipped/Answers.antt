@@ -96,7 +96,7 @@ returns-in-Ok-Some-clause-answers c =
     learning-answered (bouquet_tree b) c.args.engine.now old (schedule_of ladder_of c.steps.schedule) (schedule_of ladder_of c.next.new.self) c.steps.runs c.steps.skips.items c.steps.lesson step
     c.steps.invariant.learning c.in_ok-next.ensures.goes_on c.attempt-step.ensures.step c.attempt-step.ensures.place c.attempt-step.ensures.cost
     c.point.result c.point.ensures (sym c.in_default.is ∙ c.in_ok-point.ensures.skip ∙ same) c.steps.invariant.keeps c.execute.new.engine c.execute.ensures.keeps
-    c.in-Ok-Some.report c.steps.skips refl c.block-block.ensures.bouquet.costing (plans-of-bouquet b c.block-block.ensures.bouquet)
+    c.in-Ok-Some.report c.steps.skips refl c.block.ensures.bouquet.costing (plans-of-bouquet b c.block.ensures.bouquet)
     (subst (λ (told : Option Report). TellsExecution old c.execute.new.engine (c.steps.runs + 1) step (Ok told)) c.in-Ok-Some.field-0-is c.in-Ok-Some.ensures.tells)
 
 pub steps-preserved : goal.steps-preserved
@@ -111,7 +111,7 @@ steps-preserved c =
       learning = learning-on (bouquet_tree c.args.b.now) c.args.engine.now old (schedule_of ladder_of c.steps.schedule) (schedule_of ladder_of c.next.new.self) c.steps.runs c.steps.skips.items c.steps.lesson step
           c.steps.invariant.learning c.in_ok-next.ensures.goes_on c.attempt-step.ensures.step c.attempt-step.ensures.place c.attempt-step.ensures.cost
           c.point.result c.point.ensures (sym c.in_default.is ∙ c.in_ok-point.ensures.skip ∙ same) c.steps.invariant.keeps c.execute.new.engine c.execute.ensures.keeps
-          lesson c.block-block.ensures.bouquet.costing.grid c.learn.ensures.some ruled of_grid (subst (λ (told : Option Report). TellsExecution old c.execute.new.engine (c.steps.runs + 1) step (Ok told)) c.in-Ok-None.field-0-is c.in-Ok-None.ensures.tells);
+          lesson c.block.ensures.bouquet.costing.grid c.learn.ensures.some ruled of_grid (subst (λ (told : Option Report). TellsExecution old c.execute.new.engine (c.steps.runs + 1) step (Ok told)) c.in-Ok-None.field-0-is c.in-Ok-None.ensures.tells);
       frontiers = c.in_ok-point.ensures.same ∙ c.steps.invariant.frontiers;
       keeps = keeps-on c.args.engine.now old c.execute.new.engine c.steps.invariant.keeps c.execute.ensures.keeps;
     }

@@ -21,7 +21,7 @@ probe_covers-requires-clause-points c =
     c.in-Some.ensures c.requires.some c.requires.there c.index-kept.ensures c.as_slice-2.ensures.value in
     subst (λ (some : List (List ℕ)). All (IsPoint c.self.inside.costing.now.grid) some) (sym points)
     (subst (λ (grid : GridShape). All (IsPoint grid) (frontier (bouquet_tree b).costing (cost_on b number))) (sym (ap (λ (shape : CostingShape). shape.grid) c.self.invariant.0))
-    (frontier-points (bouquet_tree b).costing (cost_on b number) c.contours-contours.ensures.bouquet.costing.grid))
+    (frontier-points (bouquet_tree b).costing (cost_on b number) c.contours.ensures.bouquet.costing.grid))
 
 pub returns : goal.returns
 returns c = λ found.

@@ -10,4 +10,4 @@ pub returns : goal.returns
 returns c =
     let costing = costing_tree c.args.costing.now in
     let same : c.even.result ≡ bottom_of costing.grid = c.even.ensures.levels ∙ ap bottom_of c.grid-grid.ensures in
-    subst (λ (point : List ℕ). IsLearned costing [] false (Some point)) (sym same) (nothing-learned costing (subst IsGrid c.grid-grid.ensures c.levels-levels.ensures.grid))
+    subst (λ (point : List ℕ). IsLearned costing [] false (Some point)) (sym same) (nothing-learned costing (subst IsGrid c.grid-grid.ensures c.levels.ensures.grid))

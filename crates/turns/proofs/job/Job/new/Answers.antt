@@ -15,7 +15,7 @@ use Rattle.turns.proofs.job.Job.new.Goals as goal
 
 pub new-requires-4 : goal.new-requires-4
 new-requires-4 c = record {
-  some_words = omega (arith, c.width.ensures.width, words_some (block_tree c.args.block.now) c.relations-relations.ensures.block);
+  some_words = omega (arith, c.width.ensures.width, words_some (block_tree c.args.block.now) c.relations.ensures.block);
   few_words = search rules;
 }
 
