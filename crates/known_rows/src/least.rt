@@ -49,7 +49,7 @@ fn relations_of(block: &Block, p: &Plan) -> Subset
     requires { IsSubPlan (block_tree block.now) (plan_tree p.now) }
     ensures { result ≡ covers_of (plan_tree p.now) }
 {
-    let _relations = block.relations();
+    block.relations();
     covers(p)
 }
 
