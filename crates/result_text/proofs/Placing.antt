@@ -56,11 +56,6 @@ Contains-text_code most word other =
       | false ↦ λ e. (0, omega arith, refl)
     ] refl
 
--- a text's word is the place of a text
-pub place_of_word : (texts : List (List ℕ)) (word : ℤ) → IsTextWord texts word → word ≢ null_word → (i : ℕ) × (word ≡ pos i) × (i < length texts)
-place_of_word texts (pos i) is other = (i, refl, is)
-place_of_word texts (negsuc n) is other = absurd (other is)
-
 pub IsSome-text_of : (texts : List (List ℕ)) (word : ℤ) → IsTextWord texts word → word ≢ null_word → IsSome (text_of texts word)
 IsSome-text_of texts (pos i) is other = subst IsSome (sym (slice_get-get_or texts i [] is)) refl
 IsSome-text_of texts (negsuc n) is other = absurd (other is)
@@ -149,10 +144,6 @@ first_not_less : (a b : Ordering) → is_lt (ordering_then a b) ≡ false → is
 first_not_less Less b h = h
 first_not_less Equal b h = refl
 first_not_less Greater b h = refl
-
--- sorted texts and codes are sorted texts
-pub texts_sorted : (coded : List CodedText) → IsSorted (λ a b. ordering_then (slice_cmp nat_cmp a.text b.text) (int_cmp a.code b.code)) coded → IsSorted (λ a b. slice_cmp nat_cmp a.text b.text) coded
-texts_sorted coded up k d low below = first_not_less _ _ (up k d low below)
 
 -- a code that has a place is found
 module _ (placed : List Placed) (code : ℤ) (up : IsSorted placed_cmp placed) (there : Contains (codes_of placed) code) where

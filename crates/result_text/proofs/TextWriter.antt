@@ -6,7 +6,7 @@ use Rattle.std.specs.Io.KnownBytes.{Appends}
 use Rattle.csv.specs.Writing.{default_writer, field_text, fields_written, has_written, is_blank, next_sep, row_body, row_text, tail_text, writer_setup}
 use Rattle.csv.specs.declared.writer.QuoteStyle.TheVariants as style
 use Rattle.csv.proofs.WriteFacts.{blank-more, row-final, row-more}
-use Rattle.result_text.specs.TextWriter.{TextWriter, written, HasWritten, WritesFields, EndsRecord, WritesText}
+use Rattle.result_text.specs.TextWriter.{TextWriter, written, HasWritten, WritesFields, WritesText}
 
 -- the count tells small records apart, though it stops at its limit
 counted : (k : ℕ) (fields : List (List ℕ)) (w : TextWriter) → k < 2 ^ 64 - 1 → fields_written w ≡ min (length fields) (2 ^ 64 - 1) → (fields_written w == k) ≡ (length fields == k)
@@ -41,21 +41,20 @@ field_more field old new text same count shows stays = record {
 -- the record's end
 pub record_end : (old new : TextWriter)
     → Appends (Some (written old)) (Some (written new)) (tail_text (writer_setup old) (has_written old) (fields_written old))
-    → fields_written new ≡ 0 → has_written new ≡ false → writer_setup new ≡ writer_setup old → EndsRecord old new
-record_end old new tail none clean same = record {
-  completes = λ front fields h.
-      let blank = rw (← counted 0 fields old (lit< tt) h.count, ← counted 1 fields old (lit< tt) h.count) at h.blank in
-      let bytes = row-final (Some front) (Some (written old)) (Some (written new)) default_writer fields (has_written old) (fields_written old) h.bytes blank (rw h.defaults at tail) in
-      between (front ++ row_text default_writer fields) new bytes (same ∙ h.defaults) none clean;
-}
+    → fields_written new ≡ 0 → has_written new ≡ false → writer_setup new ≡ writer_setup old
+    → (text : List ℕ) (fields : List (List ℕ)) → HasWritten text fields old → HasWritten (text ++ row_text default_writer fields) [] new
+record_end old new tail none clean same front fields h =
+    let blank = rw (← counted 0 fields old (lit< tt) h.count, ← counted 1 fields old (lit< tt) h.count) at h.blank in
+    let bytes = row-final (Some front) (Some (written old)) (Some (written new)) default_writer fields (has_written old) (fields_written old) h.bytes blank (rw h.defaults at tail) in
+    between (front ++ row_text default_writer fields) new bytes (same ∙ h.defaults) none clean
 
 -- some fields and then some more
 pub writes_more : (a b : List (List ℕ)) (w m n : TextWriter) → WritesFields a w m → WritesFields b m n → WritesFields (a ++ b) w n
 writes_more a b w m n first second = record { adds = λ front before h. rw (← append_assoc before a b) (second.adds front (before ++ a) (first.adds front before h)) }
 
 -- the fields of a record and its end
-pub writes_record : (fields : List (List ℕ)) (w m n : TextWriter) → WritesFields fields w m → EndsRecord m n → WritesText (row_text default_writer fields) w n
-writes_record fields w m n first second = record { adds = λ front h. second.completes front fields (first.adds front [] h) }
+pub writes_record : (fields : List (List ℕ)) (w m n : TextWriter) → WritesFields fields w m → ((text : List ℕ) (fields : List (List ℕ)) → HasWritten text fields m → HasWritten (text ++ row_text default_writer fields) [] n) → WritesText (row_text default_writer fields) w n
+writes_record fields w m n first second = record { adds = λ front h. second front fields (first.adds front [] h) }
 
 -- a text and then another
 pub text_more : (a b : List ℕ) (w m n : TextWriter) → WritesText a w m → WritesText b m n → WritesText (a ++ b) w n

@@ -1,8 +1,8 @@
 -- A writer of CSV over a vector, with its defaults.
-use Rattle.std.specs.Prelude.{◌≡◌, ◌==◌, ◌&&◌, ◌||◌, ◌-◌, ◌^◌, not, min, ℕ, List, [], ◌++◌, length, Result, OnOk}
+use Rattle.std.specs.Prelude.{◌≡◌, ◌==◌, ◌&&◌, ◌||◌, ◌-◌, ◌^◌, not, min, ℕ, List, [], ◌++◌, length}
 use Rattle.std.specs.declared.alloc.Global.{Global}
 use Rattle.std.specs.declared.vec.Vec.{Vec}
-use Rattle.csv.specs.Writing.{default_writer, fields_written, has_written, is_blank, row_body, row_text, writer_pending, writer_setup, writer_under}
+use Rattle.csv.specs.Writing.{default_writer, fields_written, has_written, is_blank, row_body, writer_pending, writer_setup, writer_under}
 use Rattle.csv.specs.declared.writer.Writer.{Writer}
 
 abbrev pub TextWriter : Type 0
@@ -25,14 +25,6 @@ pub record HasWritten (text : List ℕ) (fields : List (List ℕ)) (w : TextWrit
 pub record WritesFields (fields : List (List ℕ)) (old new : TextWriter) : Type 0 where
   pub adds : (text : List ℕ) (before : List (List ℕ)) → HasWritten text before old → HasWritten text (before ++ fields) new
 
--- the writer ends the record, whose text is then complete
-pub record EndsRecord (old new : TextWriter) : Type 0 where
-  pub completes : (text : List ℕ) (fields : List (List ℕ)) → HasWritten text fields old → HasWritten (text ++ row_text default_writer fields) [] new
-
 -- the writer, which has begun no record, adds this text and has begun none
 pub record WritesText (text : List ℕ) (old new : TextWriter) : Type 0 where
   pub adds : (before : List ℕ) → HasWritten before [] old → HasWritten (before ++ text) [] new
-
--- the same, unless memory ran out
-abbrev pub Writes : {T E : Type 0} → Result T E → (old new : TextWriter) → List ℕ → Type 0
-Writes result old new text = OnOk result (WritesText text old new)

@@ -1,12 +1,12 @@
 // Prints rows as CSV (RFC 4180), as the csv crate writes it. Each error of the csv crate is out of memory, since nothing
 // else can fail where a vector is written to and each row is as wide as the header.
-ghost use Rattle.std.specs.Prelude.{◌≡◌, [], ◌∷◌, All, IfOk, OnOk};
+ghost use Rattle.std.specs.Prelude.{◌≡◌, ℕ, List, [], ◌∷◌, ◌++◌, All, IfOk, OnOk};
 ghost use Rattle.csv.specs.Writing.{row_text, default_writer};
 ghost use Rattle.sql_values.specs.Words.{value_of, IsWord};
 ghost use Rattle.result_text.specs.Rows.{words_of};
 ghost use Rattle.sql_values.specs.Stored.{AreWordsOf, values_of};
 ghost use Rattle.result_text.specs.Printed.{field_of, record_of, records_of, text_in_turn};
-ghost use Rattle.result_text.specs.TextWriter.{WritesFields, EndsRecord, Writes};
+ghost use Rattle.result_text.specs.TextWriter.{HasWritten, WritesFields, WritesText};
 
 use crate::sort::SortedRow;
 use crate::texts::TextList;
@@ -38,7 +38,9 @@ fn write_field(writer: &mut TextWriter, field: &[u8]) -> Result<(), AllocError>
 }
 
 fn end_record(writer: &mut TextWriter) -> Result<(), AllocError>
-    ensures { OnOk result (EndsRecord writer.old writer.new) }
+    ensures { OnOk result ((text : List ℕ) (fields : List (List ℕ))
+        → HasWritten text fields writer.old
+        → HasWritten (text ++ row_text default_writer fields) [] writer.new) }
 {
     match writer.end_record() {
         Ok(()) => Ok(()),
@@ -47,7 +49,7 @@ fn end_record(writer: &mut TextWriter) -> Result<(), AllocError>
 }
 
 fn write_header(writer: &mut TextWriter, names: &[Text]) -> Result<(), AllocError>
-    ensures { Writes result writer.old writer.new (row_text default_writer names.now) }
+    ensures { OnOk result (WritesText (row_text default_writer names.now) writer.old writer.new) }
 {
     for name in names {
         write_field(writer, name.bytes())?;
@@ -83,8 +85,8 @@ fn write_row<L: TextList>(
     row: &[i64],
 ) -> Result<(), AllocError>
     requires { AreWordsOf (L.texts texts.now) kinds.now row.now }
-    ensures { Writes result writer.old writer.new
-        (record_of (values_of (L.texts texts.now) kinds.now row.now)) }
+    ensures { OnOk result (WritesText
+        (record_of (values_of (L.texts texts.now) kinds.now row.now)) writer.old writer.new) }
 {
     for (place, kind) in kinds.iter().enumerate() {
         write_value(writer, texts, *kind, row[place])?;
@@ -113,8 +115,8 @@ fn write_gathered<L: TextList>(
 ) -> Result<(), AllocError>
     requires allowed { All (AreWordsOf (L.texts texts.now) kinds.now) rows.now }
     requires gathered { words.now ≡ words_of rows.now }
-    ensures { Writes result writer.old writer.new
-        (records_of (L.texts texts.now) kinds.now rows.now) }
+    ensures { OnOk result (WritesText
+        (records_of (L.texts texts.now) kinds.now rows.now) writer.old writer.new) }
 {
     let mut left = words;
     for row in rows {
@@ -134,8 +136,8 @@ fn write_rows<L: TextList>(
     rows: &[SortedRow<'_>],
 ) -> Result<(), AllocError>
     requires { All (AreWordsOf (L.texts texts.now) kinds.now) rows.now }
-    ensures { Writes result writer.old writer.new
-        (records_of (L.texts texts.now) kinds.now rows.now) }
+    ensures { OnOk result (WritesText
+        (records_of (L.texts texts.now) kinds.now rows.now) writer.old writer.new) }
 {
     let mut words = Vec::new(alloc);
     let mut from = 0;
