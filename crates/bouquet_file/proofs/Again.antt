@@ -5,7 +5,7 @@ use Rattle.std.proofs.lemmas.Bool.Decides.{nat_tests}
 use Rattle.std.proofs.lemmas.Slice.Eq.{bytes_eq-Decides}
 use Rattle.std.proofs.lemmas.List.{length-map, map-id}
 use Rattle.std.proofs.lemmas.List.Elements.{All-head, All-tail}
-use Rattle.sql_values.specs.Limits.{max_rows, max_columns, max_points, min_levels, max_levels, max_threshold}
+use Rattle.sql_values.specs.Limits.{max_rows, max_columns, max_points, min_levels, max_levels, max_threshold, max_parameters}
 use Rattle.serde_json.specs.Data.{Data, array, depth, items_depth}
 use Rattle.serde_json.specs.View.{items_of}
 use Rattle.serde_json.specs.Written.{has_float, items_have_float}
@@ -19,7 +19,6 @@ use Rattle.bouquet_file.specs.declared.relations.KeptCounts.{KeptCounts}
 use Rattle.bouquet_file.specs.declared.fault.OpenFault.{OpenFault}
 use Rattle.sql_values.specs.Steps.{Checked, each}
 use Rattle.bouquet_file.specs.Values.{within, list_within}
-use Rattle.sql_values.specs.Limits.{max_parameters}
 use Rattle.bouquet_file.specs.Written.{plan_value, contour_value, relation_value, file_with, file_value}
 use Rattle.bouquet_file.specs.Checks.{FileContour, head_of, levels_within, counts_at, plan_fits, contour_fits, changed_counts, plan_here, contour_at}
 use Rattle.bouquet_file.specs.Parts.{counts_in, contours_in, parts_of}

@@ -8,7 +8,7 @@ use Rattle.std.proofs.lemmas.Bool.Decides.{nat_tests}
 use Rattle.std.proofs.lemmas.List.Elements.{All-nil, All-cons, All-head, All-tail, All-map, All-weaker, All-contains}
 use Rattle.std.proofs.lemmas.Slice.Zip.{AllZip-long}
 use Rattle.std.proofs.lemmas.Map.Steps.{length-le_from_distinct_below}
-use Rattle.sql_values.specs.Limits.{max_points}
+use Rattle.sql_values.specs.Limits.{max_points, max_parameters}
 use Rattle.ess_grid.specs.Points.{GridShape, IsGrid}
 use Rattle.serde_json.specs.Read.{read}
 use Rattle.query_block.specs.Shape.{BlockShape}
@@ -25,7 +25,6 @@ use Rattle.bouquet_type.specs.declared.contour.Contour.{Contour}
 use Rattle.bouquet_type.specs.Shapes.{BouquetShape}
 use Rattle.bouquet_type.specs.Trees.{IsContour, IsBouquet, contour_tree, bouquet_tree}
 use Rattle.bouquet_file.specs.Written.{file_value}
-use Rattle.sql_values.specs.Limits.{max_parameters}
 use Rattle.bouquet_file.specs.Opened.{file_of, json_value}
 use Rattle.bouquet_file.proofs.Again.{AreFew, IsContourTree, IsWritable, file_again}
 
@@ -92,8 +91,3 @@ pub opened-if : {E : Type 0} (bouquet : BouquetShape) (query : List ℕ) (r : Re
     → IfOk r (λ bytes. file_of (json_value bytes.items) query (block_tree bouquet.block) bouquet.stats ≡ Ok (bouquet_tree bouquet))
 opened-if bouquet query (Ok bytes) is few utf8 reads = opened bouquet query bytes.items is few utf8 reads
 opened-if bouquet query (Err why) is few utf8 reads = tt
-
--- parts that fit are those of a bouquet
-pub is-costing : (block : BlockShape) (stats : Stats) (grid : GridShape) → IsBlock (block_tree block) → FitsBlock (block_tree block) stats → IsGrid grid → grid.axes ≡ axes_of (block_tree block)
-    → IsCosting (costing_tree (record { block = block; stats = stats; grid = grid }))
-is-costing block stats grid is_block fits is_grid axes = record { block = is_block; grid = is_grid; stats = fits; axes = axes }

@@ -22,12 +22,6 @@ pub one_more : {A B : Type 0} (see : A → B) (xs : List A) (i : ℕ) (x : A) �
 one_more see xs i x there is =
     ap (map see) (take_more xs i x there) ∙ map_push see (take i xs) (get_or xs i x) ∙ ap (λ one. map see (take i xs) ++ see one ∷ []) (sym is)
 
--- one more is written
-pub write_more : {A : Type 0} (write : A → Data) (values : List Value) (value : Value) (xs : List A) (i : ℕ) (x : A) → i < length xs → x ≡ get_or xs i x
-    → view value ≡ write x → map view values ≡ map write (take i xs) → map view (values ++ value ∷ []) ≡ map write (take (i + 1) xs)
-write_more write values value xs i x there is same before =
-    map_push view values value ∙ ap₂ (λ some one. some ++ one ∷ []) before same ∙ sym (one_more write xs i x there is)
-
 -- the keys of a map are those of its members
 pub keys_seen : (kind : ObjectKind) (entries : List Entry) → has_only kind (members_view entries) ≡ list_all (λ key. is_key kind (string_bytes key)) (keys_of entries)
 keys_seen kind [] = refl

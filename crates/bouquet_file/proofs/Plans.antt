@@ -14,7 +14,7 @@ use Rattle.plan_tree.proofs.LeafSets.{apart-sets, alone, size_of, size-few, leaf
 use Rattle.plan_tree.proofs.Members.{IsIn, contained-in, of-any}
 use Rattle.plan_tree.proofs.Enumerated.{in-plans, of-plans}
 use Rattle.plan_tree.proofs.Reader.{text_is_read}
-use Rattle.bouquet_file.specs.Checks.{first_with_text}
+use Rattle.std.specs.List.{find}
 
 -- ---- each plan of a block has a text that is read
 
@@ -70,16 +70,19 @@ one-plan p q text has has' = ap (first-of p) (sym (text_is_read p text has) ∙ 
 
 -- ---- the plan of the block that has a text
 
+abbrev has_text : (text : List ℕ) → PlanTree → Bool
+has_text text p = bytes_eq (plan_text_of p) text
+
 -- of some plans the one that has it, where no other one has it
 first-is : (text : List ℕ) (p : PlanTree) (plans : List PlanTree) → ((q : PlanTree) → IsIn q plans → plan_text_of q ≡ text → q ≡ p) → plan_text_of p ≡ text → IsIn p plans
-    → first_with_text text plans ≡ Some p
+    → find (has_text text) plans ≡ Some p
 first-is text p [] only is there = absurd there
 first-is text p (q ∷ plans) only is there = by (first-is text p plans (λ r in_rest. only r (inr in_rest)) is) (bytes_eq (plan_text_of q) text) refl
   where
     same : plan_text_of q ≡ text → bytes_eq (plan_text_of q) text ≡ true
     same = (bytes_eq-Decides (plan_text_of q) text).1
 
-    by : (IsIn p plans → first_with_text text plans ≡ Some p) → (b : Bool) → bytes_eq (plan_text_of q) text ≡ b → cond b (Some q) (first_with_text text plans) ≡ Some p
+    by : (IsIn p plans → find (has_text text) plans ≡ Some p) → (b : Bool) → bytes_eq (plan_text_of q) text ≡ b → cond b (Some q) (find (has_text text) plans) ≡ Some p
     by behind true e = ap Some (only q (inl refl) ((bytes_eq-Decides (plan_text_of q) text).0 e))
     by behind false e = elim there [
       | inl it ↦ absurd (grind (arith, e, same (ap plan_text_of it ∙ is)))
@@ -87,28 +90,28 @@ first-is text p (q ∷ plans) only is there = by (first-is text p plans (λ r in
     ]
 
 -- none, where none has it
-first-none : (text : List ℕ) (plans : List PlanTree) → ((q : PlanTree) → IsIn q plans → plan_text_of q ≡ text → ⊥) → first_with_text text plans ≡ None
+first-none : (text : List ℕ) (plans : List PlanTree) → ((q : PlanTree) → IsIn q plans → plan_text_of q ≡ text → ⊥) → find (has_text text) plans ≡ None
 first-none text [] none = refl
 first-none text (q ∷ plans) none = by (first-none text plans (λ r in_rest. none r (inr in_rest))) (bytes_eq (plan_text_of q) text) refl
   where
-    by : first_with_text text plans ≡ None → (b : Bool) → bytes_eq (plan_text_of q) text ≡ b → cond b (Some q) (first_with_text text plans) ≡ None
+    by : find (has_text text) plans ≡ None → (b : Bool) → bytes_eq (plan_text_of q) text ≡ b → cond b (Some q) (find (has_text text) plans) ≡ None
     by behind true e = absurd (none q (inl refl) ((bytes_eq-Decides (plan_text_of q) text).0 e))
     by behind false e = behind
 
 -- a plan of the block that has a text is found by it
-pub found-by-text : (block : BlockTree) (p : PlanTree) (text : List ℕ) → IsBlock block → IsPlan block p → HasText p text → first_with_text text (plans_of block) ≡ Some p
+pub found-by-text : (block : BlockTree) (p : PlanTree) (text : List ℕ) → IsBlock block → IsPlan block p → HasText p text → find (has_text text) (plans_of block) ≡ Some p
 found-by-text block p text is plan has =
     first-is text p (plans_of block)
     (λ q there same. one-plan q p text (subst (HasText q) same (plan-has_text block q is (of-plans block q there))) has)
     (sym has.text) (in-plans block p plan)
 
 -- where a tree that is no plan of the block has the text, none is found
-pub not-found : (block : BlockTree) (p : PlanTree) (text : List ℕ) → IsBlock block → HasText p text → (IsPlan block p → ⊥) → first_with_text text (plans_of block) ≡ None
+pub not-found : (block : BlockTree) (p : PlanTree) (text : List ℕ) → IsBlock block → HasText p text → (IsPlan block p → ⊥) → find (has_text text) (plans_of block) ≡ None
 not-found block p text is has not_plan =
     first-none text (plans_of block)
     (λ q there same. not_plan (subst (IsPlan block) (one-plan q p text (subst (HasText q) same (plan-has_text block q is (of-plans block q there))) has) (of-plans block q there)))
 
 -- nor where no tree has it
-pub unread : (block : BlockTree) (text : List ℕ) → IsBlock block → ((p : PlanTree) → HasText p text → ⊥) → first_with_text text (plans_of block) ≡ None
+pub unread : (block : BlockTree) (text : List ℕ) → IsBlock block → ((p : PlanTree) → HasText p text → ⊥) → find (has_text text) (plans_of block) ≡ None
 unread block text is none =
     first-none text (plans_of block) (λ q there same. none q (subst (HasText q) same (plan-has_text block q is (of-plans block q there))))

@@ -1,7 +1,8 @@
 -- The checks of a file's parts, each of which names the first fault.
 use Rattle.std.specs.Prelude.{ℕ, ◌+◌, ◌^◌, ⊤, nat_eq, nat_le, List, [], ◌∷◌, length, Option, Some, None, codes, if◌then◌else◌, option_and_then, bytes_eq, Err}
+use Rattle.std.specs.List.{find}
 use Rattle.std.specs.Option.{option_or}
-use Rattle.sql_values.specs.Limits.{max_rows, max_columns, max_points, min_levels, max_levels, max_contour_cost}
+use Rattle.sql_values.specs.Limits.{max_rows, max_columns, max_points, min_levels, max_levels, max_contour_cost, max_parameters}
 use Rattle.serde_json.specs.Data.{Data, Members}
 use Rattle.serde_json.specs.Find.{get_member, as_object, as_str}
 use Rattle.query_block.specs.Blocks.{BlockTree}
@@ -20,7 +21,6 @@ use Rattle.bouquet_file.specs.declared.relations.KeptCounts.{KeptCounts}
 use Rattle.bouquet_file.specs.declared.values.ObjectKind.TheVariants.{File, Relation, Contour}
 use Rattle.bouquet_file.specs.declared.values.Version.{Version}
 use Rattle.bouquet_file.specs.declared.values.Version.TheVariants.{One, Two}
-use Rattle.sql_values.specs.Limits.{max_parameters}
 use Rattle.sql_values.specs.Steps.{Checked, pure, ◌>>=◌, ◌>>◌, need, check, each}
 use Rattle.bouquet_file.specs.Values.{unsigned, within, string_of, list_within, has_only, object_of, decimal_number}
 
@@ -99,12 +99,8 @@ unless_changed None = pure tt
 unless_changed (Some stale) = Err (fault.Stale stale)
 
 -- the plan of the block that has this text
-abbrev pub first_with_text : (text : List ℕ) → List PlanTree → Option PlanTree
-first_with_text text [] = None
-first_with_text text (p ∷ more) = if bytes_eq (plan_text_of p) text then Some p else first_with_text text more
-
 abbrev pub plan_with_text : BlockTree → (text : List ℕ) → Option PlanTree
-plan_with_text block text = first_with_text text (plans_of block)
+plan_with_text block text = find (λ p. bytes_eq (plan_text_of p) text) (plans_of block)
 
 abbrev pub plan_here : BlockTree → (contour number : ℕ) → (text : List ℕ) → Checked OpenFault PlanTree
 plan_here block contour number text = need (fault.NotAPlan contour number) (plan_with_text block text)
