@@ -1,6 +1,6 @@
 -- The rows of a CSV file, or its first fault.
 use Rattle.std.specs.Prelude.{◌≡◌, ◌≢◌, ℕ, ◌==◌, List, [], ◌∷◌, map, length, Option, Some, None, Result, Ok, Err, IfOk, IfErr, OnErr, IsOkAnd, slice_get, if◌then◌else◌}
-use Rattle.std.specs.Option.{option_or, option_and_then}
+use Rattle.std.specs.Option.{option_map_or, option_or, option_and_then}
 use Rattle.std.specs.List.{zip, enumerate_from, filter_map}
 use Rattle.csv.specs.Reading.{records, strip_bom, default_config}
 use Rattle.sql_values.specs.declared.column.ColumnDef.{ColumnDef}
@@ -52,11 +52,6 @@ abbrev pub file_rows : List ColumnDef → List Entry → List ValueRow
 file_rows columns [] = []
 file_rows columns (header ∷ entries) = map (entry_row columns) entries
 
--- these rows, unless there is a fault
-abbrev pub rows_unless : Option LoadFault → List ValueRow → Result (List ValueRow) LoadFault
-rows_unless None rows = Ok rows
-rows_unless (Some fault) rows = Err fault
-
 -- the entries of a file: RFC 4180, without a byte order mark, as the csv crate reads it
 abbrev pub entries_of : List ℕ → List Entry
 entries_of bytes = records default_config (strip_bom bytes)
@@ -73,7 +68,7 @@ load_due database table bytes =
     let columns = (table_at database table).columns in
     let entries = entries_of bytes in
     let rows = file_rows columns entries in
-    rows_unless (option_or (file_fault columns entries) (option_and_then limit_of (append_fault database table rows))) rows
+    option_map_or (λ fault. Err fault) (option_or (file_fault columns entries) (option_and_then limit_of (append_fault database table rows))) (Ok rows)
 
 -- rows were appended to this table, and they are so many
 pub record Appends (table : ℕ) (old new : DatabaseState) (count : ℕ) (rows : List ValueRow)

@@ -6,8 +6,7 @@ ghost use Rattle.csv.specs.Records.{fields_of};
 ghost use Rattle.db_catalog.specs.Database.{table_at};
 ghost use Rattle.db_catalog.specs.Refused.{append_fault};
 ghost use Rattle.csv_load.specs.Entries.{records_left, GivesEntries};
-ghost use Rattle.csv_load.specs.Load.{entry_fault, entry_row, entries_fault, file_fault, file_rows, entries_of, limit_of};
-ghost use Rattle.csv_load.specs.Load.{Appends, Loads, IsBatchOf};
+ghost use Rattle.csv_load.specs.Load.{entry_fault, entry_row, entries_fault, file_fault, file_rows, entries_of, limit_of, Appends, Loads, IsBatchOf};
 ghost use Rattle.csv_load.specs.Fault.{GivesFault};
 
 use crate::entries::{next_entry, reader_of};
