@@ -13,8 +13,7 @@ use Rattle.sql_values.specs.Stored.{ValueRow}
 use Rattle.bouquet_type.specs.Trees.{bouquet_tree}
 use Rattle.sql_values.specs.Limits.{max_parameters}
 use Rattle.workspace.specs.Counted.{HasCountsOf, IsCountedBefore}
-use Rattle.workspace.specs.States.{NamedShape}
-use Rattle.workspace.specs.States.{IsWorkspace}
+use Rattle.workspace.specs.States.{NamedShape, IsWorkspace}
 use Rattle.workspace.proofs.Counting.{Grows, counted_before, counted_now, grows_with_rows}
 
 -- in a database that all blocks fit that fit the one before, and whose tables have the rows of that one, and maybe more

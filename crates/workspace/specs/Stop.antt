@@ -3,8 +3,6 @@ use Rattle.std.specs.Prelude.{◌≡◌, ◌≢◌, ⊤}
 use Rattle.workspace.specs.declared.stop.Stop.{Stop}
 use Rattle.workspace.specs.declared.stop.Stop.TheVariants as stop
 use Rattle.workspace.specs.declared.refusal.Refusal.{Refusal}
-use Rattle.csv_load.specs.declared.fault.LoadFault.{LoadFault}
-use Rattle.csv_load.specs.declared.fault.LoadFault.TheVariants as load
 use Rattle.ess_grid.specs.declared.fault.GridFault.{GridFault}
 use Rattle.ess_grid.specs.declared.fault.GridFault.TheVariants as grid
 use Rattle.table_stats.specs.declared.fault.StatsFault.{StatsFault}
@@ -26,10 +24,6 @@ StopsAt due why = StopsWhere (λ found. due ≡ Refuses found) why
 pub record TellsFault {F : Type 0} (none : F) (told : F → Refusal) (fault : F) (why : Stop) : Type 0 where
   pub memory : fault ≡ none → why ≡ stop.NoMemory
   pub refused : fault ≢ none → why ≡ stop.Refused (told fault)
-
-abbrev pub stop_of_load : LoadFault → Stop
-stop_of_load load.NoMemory = stop.NoMemory
-stop_of_load fault = stop.Refused (refusal.NotLoaded fault)
 
 abbrev pub stop_of_grid : GridFault → Stop
 stop_of_grid (grid.BadLevels given) = stop.Refused (refusal.PastLimit limit.Levels given)

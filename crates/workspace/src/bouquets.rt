@@ -1,12 +1,11 @@
 // The block of a query, and the compiled bouquet of a block. It reads no row but to count.
 ghost use Rattle.std.specs.Prelude.{◌≡◌, ◌≤◌, IfOk, length};
-ghost use Rattle.sql_values.specs.Limits.{max_threshold};
+ghost use Rattle.sql_values.specs.Limits.{max_threshold, max_parameters};
 ghost use Rattle.query_block.specs.Blocks.{block_tree};
 ghost use Rattle.sql_parse.specs.Trees.{query_tree};
 ghost use Rattle.db_catalog.specs.Fits.{Fits};
 ghost use Rattle.bouquet_type.specs.Trees.{bouquet_tree};
 ghost use Rattle.bouquet_type.specs.Sound.{IsSound};
-ghost use Rattle.sql_values.specs.Limits.{max_parameters};
 ghost use Rattle.workspace.specs.Bouquets.{AreGridLevels, GivesDue, GivesSizes, IsScriptQuery, block_due, compiled_due};
 ghost use Rattle.workspace.specs.Counted.{HasCountsOf};
 

@@ -47,10 +47,11 @@ impl From<DbFault> for Stop {
 }
 
 impl From<LoadFault> for Stop {
-    ghost use Rattle.std.specs.Prelude.{◌≡◌};
-    ghost use Rattle.workspace.specs.Stop.{stop_of_load};
+    ghost use Rattle.workspace.specs.Stop.{TellsFault};
+    ghost use Rattle.csv_load.specs.declared.fault.LoadFault.TheVariants as load;
+    ghost use Rattle.workspace.specs.declared.refusal.Refusal.TheVariants as refusal;
 
-    ghost from_gives = { λ fault stop. stop ≡ stop_of_load fault };
+    ghost from_gives = { TellsFault load.NoMemory refusal.NotLoaded };
 
     fn from(fault: LoadFault) -> Stop {
         match fault {

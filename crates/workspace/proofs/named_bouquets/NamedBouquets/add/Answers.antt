@@ -6,8 +6,7 @@ use Rattle.std.specs.Str.{bytes_eq}
 use Rattle.indexmap.proofs.CallerLemmas.{insert_entry-new}
 use Rattle.workspace.specs.States.{named_of}
 use Rattle.workspace.specs.World.{named_in}
-use Rattle.workspace.proofs.NamedLists.{Entry, is_name, state_of, states_of}
-use Rattle.workspace.proofs.NamedLists.{none_found}
+use Rattle.workspace.proofs.NamedLists.{Entry, is_name, state_of, states_of, none_found}
 use Rattle.workspace.proofs.named_bouquets.NamedBouquets.add.Goals as goal
 
 pub returns-clause-added : goal.returns-clause-added

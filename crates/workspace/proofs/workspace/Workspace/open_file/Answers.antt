@@ -10,8 +10,7 @@ use Rattle.workspace.specs.Open.{block_to_open}
 use Rattle.workspace.specs.States.{world_of}
 use Rattle.workspace.specs.World.{World, NamedBouquet, named_in}
 use Rattle.workspace.proofs.Stopping.{stops_so}
-use Rattle.workspace.proofs.Opening.{open_taken, stops_open}
-use Rattle.workspace.proofs.Opening.{block_opens, open_with_file, product_refused, unbound}
+use Rattle.workspace.proofs.Opening.{open_taken, stops_open, block_opens, open_with_file, product_refused, unbound}
 use Rattle.workspace.proofs.Sizes.{counts_stop, past_product, small_product}
 use Rattle.workspace.proofs.workspace.Workspace.open_file.Goals as goal
 
