@@ -7,9 +7,8 @@ use Rattle.std.proofs.lemmas.Bool.Decides.{nat_tests}
 use Rattle.clap.specs.Words.{Rule, Row, Text, Kinds}
 use Rattle.clap.specs.Kinds.{or_else}
 use Rattle.clap.specs.Lexer.{long_of, short_of}
-use Rattle.clap.specs.Walk.{Held, Walk, walked, option, settled_rows, arg_by_long, takes_values}
+use Rattle.clap.specs.Walk.{Held, Walk, walked, option, settled_rows, arg_by_long, takes_values, Outcome, Waiting, after_flag, after_step, bundle, idle, plain as plain_outcome}
 use Rattle.clap.specs.Faults.{flags_fault, settle_fault, long_fault, bundle_fault, bundle_step_fault, step_fault, option_fault, react_fault}
-use Rattle.clap.specs.Walk.{Outcome, Waiting, after_flag, after_step, bundle, idle, plain as plain_outcome}
 use Rattle.clap.proofs.WalkLemmas.{bundle_ends}
 use Rattle.clap.proofs.FaultLemmas.{fault_ends}
 use Rattle.clap.specs.declared.error.kind.ErrorKind.TheVariants.{TooManyValues, UnknownArgument}

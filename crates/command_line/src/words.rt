@@ -1,7 +1,6 @@
 // The arguments of the command line: which of them are options, each at most once and with a number, by a simple
 // command of `clap`. It takes no abbreviation, no `--` and no help.
-ghost use Rattle.std.specs.Prelude.{◌≡◌, ◌≤◌, Some, None, IfSome, IfOk, IfErr, IsErrOf};
-ghost use Rattle.std.specs.Prelude.{codes, map, option_map};
+ghost use Rattle.std.specs.Prelude.{◌≡◌, ◌≤◌, Some, None, IfSome, IfOk, IfErr, IsErrOf, codes, map, option_map};
 ghost use Rattle.std.specs.List.{list_all, list_any};
 ghost use Rattle.std.specs.Char.{is_ascii_digit};
 ghost use Rattle.std.specs.Str.{bytes_eq};
