@@ -27,11 +27,6 @@ use Rattle.shell.specs.declared.status.Status.{Status}
 use Rattle.shell.specs.declared.status.Status.TheVariants as status
 use Rattle.shell.proofs.Folders.{falls_none, quiet_none, any_given_for}
 
--- a stop is never a text
-pub within_bounds : {P : Type 0} (returned : Result (Vec ℕ Global) Stop) → P → OnOk returned P
-within_bounds (Ok text) holds = holds
-within_bounds (Err why) holds = tt
-
 module _ (max_work : ℕ) (statement : StatementTree) (world next : World) (before : FolderState) (old new : ℕ) where
   -- nothing was asked of the folder
   abbrev any : (file : Option (List ℕ)) × IsGivenFor before.files (Rose before.misses before.misses) statement file

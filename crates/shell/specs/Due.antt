@@ -1,8 +1,9 @@
 -- What a run of statements did, held against what is due to them.
-use Rattle.std.specs.Prelude.{◌≡◌, ◌≢◌, ◌⊎◌, ℕ, ◌+◌, ⊤, false, Result, Ok, Err, IfErr, OnOk, IfSome, List, Option, Some, Vec, []}
+use Rattle.std.specs.Prelude.{◌≡◌, ◌≢◌, ◌⊎◌, ℕ, ◌+◌, ◌≤◌, ⊤, false, Result, Ok, Err, IfErr, OnOk, IfSome, List, Option, Some, Vec, []}
 use Rattle.std.specs.Io.KnownBytes.{Appends}
 use Rattle.outside_io.specs.Count.{Rose, raised}
 use Rattle.outside_io.specs.Files.{FolderState}
+use Rattle.command_line.specs.Limits as limits
 use Rattle.sql_parse.specs.Trees.{StatementTree}
 use Rattle.session.specs.Bounds.{IsAnsweredWithin}
 use Rattle.workspace.specs.Outcome.{Outcome, Refuses, refused_work}
@@ -125,9 +126,15 @@ pub record RunsScript (max_work : ℕ) (source_failed sink_failed : Type 0) (scr
   pub unread : IfSome script (λ bytes. (why : Refusal) → IsScript bytes (Err why) → after ≡ before)
   pub unpaid : IfSome script (λ bytes. (why : Refusal) → IsScript bytes (Err why) → paid ≡ 0)
 
--- it is lent what it was lent, by the same lenders, and a query may cost as much
-pub record KeepsOutlets {F K : Type 0} (old new : Outlets F K) : Type 0 where
+-- nothing was paid, and a query may cost no more than the limit
+pub record IsUnpaid {F K : Type 0} (outlets : Outlets F K) : Type 0 where
+  pub most : outlets.max_work ≤ limits.max_work
+  pub unpaid : outlets.book.now ≡ 0
+
+-- it is lent what it was lent, by the same lenders, and a query may cost as much; no count of faults of the sink falls
+pub record KeepsOutlets {F K : Type 0} (faults : K → ℕ) (old new : Outlets F K) : Type 0 where
   pub most : new.max_work ≡ old.max_work
   pub folder : new.folder.ghost_name ≡ old.folder.ghost_name
   pub sink : new.sink.ghost_name ≡ old.sink.ghost_name
   pub book : new.book.ghost_name ≡ old.book.ghost_name
+  pub never_falls : faults old.sink.now ≤ faults new.sink.now

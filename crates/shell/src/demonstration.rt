@@ -2,8 +2,7 @@
 ghost use Rattle.std.specs.Prelude.{◌≡◌, ◌≢◌, ◌≤◌};
 ghost use Rattle.outside_io.specs.Count.{Rose};
 ghost use Rattle.demo_data.specs.Demo.{greatest_demo};
-ghost use Rattle.command_line.specs.Limits.{max_work};
-ghost use Rattle.shell.specs.Due.{KeepsOutlets};
+ghost use Rattle.shell.specs.Due.{IsUnpaid, KeepsOutlets};
 ghost use Rattle.shell.specs.Serve.{Demonstrates};
 
 use crate::Status;
@@ -20,10 +19,9 @@ pub(crate) fn run_demonstration<F: Folder, K: Sink>(
     number: u32,
     outlets: &mut Outlets<'_, F, K>,
 ) -> Status
-    requires most { outlets.old.max_work ≤ max_work }
     requires least { 1 ≤ number }
     requires greatest { number ≤ greatest_demo }
-    requires unpaid { outlets.old.book.now ≡ 0 }
+    requires fresh { IsUnpaid outlets.old }
     ensures demonstrates { Demonstrates outlets.old.max_work number
         (Rose (K.faults outlets.old.sink.now) (K.faults outlets.new.sink.now)) result
         (K.got outlets.old.sink.now) (K.got outlets.new.sink.now) outlets.new.book.now }
@@ -31,9 +29,8 @@ pub(crate) fn run_demonstration<F: Folder, K: Sink>(
     ensures read_fault { result ≢ Status.ReadFault }
     ensures write_fault { result ≡ Status.WriteFault →
         Rose (K.faults outlets.old.sink.now) (K.faults outlets.new.sink.now) }
-    ensures sink { K.faults outlets.old.sink.now ≤ K.faults outlets.new.sink.now }
     ensures folder { outlets.new.folder ≡ outlets.old.folder }
-    ensures lent { KeepsOutlets outlets.old outlets.new }
+    ensures lent { KeepsOutlets K.faults outlets.old outlets.new }
 {
     let mut folder = match demo_data::folder(alloc, number) {
         Ok(folder) => folder,

@@ -6,7 +6,6 @@ ghost use Rattle.std.specs.Str.{IsUtf8};
 ghost use Rattle.work_ledger.specs.Account.{max_account};
 ghost use Rattle.outside_io.specs.Count.{Rose};
 ghost use Rattle.sql_values.specs.Limits.{max_script_bytes};
-ghost use Rattle.command_line.specs.Limits.{max_work};
 ghost use Rattle.sql_parse.specs.Trees.{statement_tree};
 ghost use Rattle.sql_parse.specs.WellFormed.{IsWellFormed};
 ghost use Rattle.sql_parse.specs.Counts.{HasUpTo, HaveUpTo};
@@ -14,7 +13,7 @@ ghost use Rattle.session.specs.Bounds.{IsAnsweredWithin};
 ghost use Rattle.session.specs.Returns.{PaysAtMost};
 ghost use Rattle.workspace.specs.States.{world_of};
 ghost use Rattle.workspace.specs.World.{nothing_made};
-ghost use Rattle.shell.specs.Due.{GivesFile, IsCarriedOut, CarriesAll, CarriesOne, KeepsOutlets};
+ghost use Rattle.shell.specs.Due.{GivesFile, IsCarriedOut, CarriesAll, CarriesOne, IsUnpaid, KeepsOutlets};
 
 use crate::Status;
 use crate::outlets::Outlets;
@@ -56,7 +55,7 @@ fn carry_out<F: Folder, K: Sink>(
     ensures bounded { IfOk result (λ returned. OnOk returned
         (IsAnsweredWithin (world_of session.old) (statement_tree statement.now))) }
     ensures sink { outlets.new.sink ≡ outlets.old.sink }
-    ensures lent { KeepsOutlets outlets.old outlets.new }
+    ensures lent { KeepsOutlets K.faults outlets.old outlets.new }
     ensures pays { PaysAtMost outlets.old.max_work outlets.old.book.now outlets.new.book.now }
 {
     match session.begin(alloc, outlets.max_work, statement, outlets.book) {
@@ -95,8 +94,7 @@ fn carry_out_one<F: Folder, K: Sink>(
         outlets.old.book.now outlets.new.book.now result (K.got outlets.old.sink.now)
         (K.got outlets.new.sink.now) }
     ensures within { outlets.new.book.now ≤ outlets.old.book.now + outlets.old.max_work }
-    ensures sink { K.faults outlets.old.sink.now ≤ K.faults outlets.new.sink.now }
-    ensures lent { KeepsOutlets outlets.old outlets.new }
+    ensures lent { KeepsOutlets K.faults outlets.old outlets.new }
 {
     match carry_out(alloc, session, statement, outlets) {
         Ok(Ok(text)) => put_text(outlets.sink, &text),
@@ -121,15 +119,13 @@ fn carry_out_each<F: Folder, K: Sink>(
     requires well_formed { All (λ statement.
         IsWellFormed (statement_tree statement)) statements.now }
     requires counted { HaveUpTo max_script_bytes statements.now }
-    requires unpaid { outlets.old.book.now ≡ 0 }
-    requires most { outlets.old.max_work ≤ max_work }
+    requires fresh { IsUnpaid outlets.old }
     ensures carries { CarriesAll outlets.old.max_work
         (Rose (K.faults outlets.old.sink.now) (K.faults outlets.new.sink.now))
         (map statement_tree statements.now) (F.state outlets.old.folder.now)
         (F.state outlets.new.folder.now) result (K.got outlets.old.sink.now)
         (K.got outlets.new.sink.now) outlets.new.book.now }
-    ensures sink { K.faults outlets.old.sink.now ≤ K.faults outlets.new.sink.now }
-    ensures lent { KeepsOutlets outlets.old outlets.new }
+    ensures lent { KeepsOutlets K.faults outlets.old outlets.new }
 {
     for statement in statements {
         match carry_out_one(alloc, session, statement, outlets) {
@@ -150,15 +146,13 @@ pub(crate) fn carry_out_all<F: Folder, K: Sink>(
     requires well_formed { All (λ statement.
         IsWellFormed (statement_tree statement)) statements.now }
     requires counted { HaveUpTo max_script_bytes statements.now }
-    requires unpaid { outlets.old.book.now ≡ 0 }
-    requires most { outlets.old.max_work ≤ max_work }
+    requires fresh { IsUnpaid outlets.old }
     ensures carries { CarriesAll outlets.old.max_work
         (Rose (K.faults outlets.old.sink.now) (K.faults outlets.new.sink.now))
         (map statement_tree statements.now) (F.state outlets.old.folder.now)
         (F.state outlets.new.folder.now) result (K.got outlets.old.sink.now)
         (K.got outlets.new.sink.now) outlets.new.book.now }
-    ensures sink { K.faults outlets.old.sink.now ≤ K.faults outlets.new.sink.now }
-    ensures lent { KeepsOutlets outlets.old outlets.new }
+    ensures lent { KeepsOutlets K.faults outlets.old outlets.new }
 {
     let mut session = Session::new(alloc, key);
     carry_out_each(alloc, &mut session, statements, outlets)

@@ -2,8 +2,7 @@
 ghost use Rattle.std.specs.Prelude.{◌≡◌, ◌+◌, ◌≤◌, [], length, Some, IfSome};
 ghost use Rattle.outside_io.specs.Count.{Rose};
 ghost use Rattle.sql_values.specs.Limits.{max_script_bytes};
-ghost use Rattle.command_line.specs.Limits.{max_work};
-ghost use Rattle.shell.specs.Due.{KeepsOutlets, RunsScript};
+ghost use Rattle.shell.specs.Due.{IsUnpaid, KeepsOutlets, RunsScript};
 ghost use Rattle.shell.specs.Source.{TakesAtMost};
 
 use crate::Status;
@@ -23,15 +22,13 @@ pub(crate) fn carry_out_script<F: Folder, K: Sink>(
     script: &[u8],
     outlets: &mut Outlets<'_, F, K>,
 ) -> Status
-    requires most { outlets.old.max_work ≤ max_work }
-    requires unpaid { outlets.old.book.now ≡ 0 }
+    requires { IsUnpaid outlets.old }
     ensures runs { RunsScript outlets.old.max_work ⊥
         (Rose (K.faults outlets.old.sink.now) (K.faults outlets.new.sink.now)) (Some script.now)
         (F.state outlets.old.folder.now) (F.state outlets.new.folder.now) result
         (K.got outlets.old.sink.now) (K.got outlets.new.sink.now) outlets.new.book.now }
     ensures fits { result ≡ Status.Done → length script.now ≤ max_script_bytes }
-    ensures sink { K.faults outlets.old.sink.now ≤ K.faults outlets.new.sink.now }
-    ensures lent { KeepsOutlets outlets.old outlets.new }
+    ensures lent { KeepsOutlets K.faults outlets.old outlets.new }
 {
     match read_script(alloc, script) {
         Ok(statements) => {
@@ -55,8 +52,7 @@ pub(crate) fn run_source<S: Source, F: Folder, K: Sink>(
     source: &mut S,
     outlets: &mut Outlets<'_, F, K>,
 ) -> Status
-    requires most { outlets.old.max_work ≤ max_work }
-    requires unpaid { outlets.old.book.now ≡ 0 }
+    requires { IsUnpaid outlets.old }
     ensures runs { RunsScript outlets.old.max_work
         (Rose (S.faults source.old) (S.faults source.new))
         (Rose (K.faults outlets.old.sink.now) (K.faults outlets.new.sink.now)) (S.left source.old)
@@ -66,8 +62,7 @@ pub(crate) fn run_source<S: Source, F: Folder, K: Sink>(
         IfSome (S.left source.old) (λ _. S.left source.new ≡ Some []) }
     ensures bounded { IfSome (S.left source.old)
         (TakesAtMost (max_script_bytes + 1) (S.left source.new)) }
-    ensures sink { K.faults outlets.old.sink.now ≤ K.faults outlets.new.sink.now }
-    ensures lent { KeepsOutlets outlets.old outlets.new }
+    ensures lent { KeepsOutlets K.faults outlets.old outlets.new }
 {
     let script = match read_source(alloc, source) {
         Ok(script) => script,

@@ -9,7 +9,6 @@ use Rattle.shell.proofs.fold.carry_out_each.Given as goal
 abbrev pub invariant-loop-statement : goal.invariant-loop-statement
 invariant-loop-statement g l = record {
   carried : IsCarried l.fn.outlets.max_work (map statement_tree l.statements) l.statement-index (g.F.Folder.state l.fn.outlets.folder.now) (g.F.Folder.state l.outlets.folder.now) (world_of l.session) (g.K.Sink.got l.fn.outlets.sink.now) (g.K.Sink.got l.outlets.sink.now) l.outlets.book.now;
-  sink : g.K.Sink.faults l.fn.outlets.sink.now ≤ g.K.Sink.faults l.outlets.sink.now;
   spent : l.outlets.book.now ≤ l.statement-index * max_work;
-  lent : KeepsOutlets l.fn.outlets l.outlets;
+  lent : KeepsOutlets g.K.Sink.faults l.fn.outlets l.outlets;
 }
