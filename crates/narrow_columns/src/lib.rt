@@ -1,0 +1,2 @@
+//! Columns of words, kept narrow.
+#![tactic(auto)]
