@@ -1,1 +1,4 @@
 pub mod Marks
+pub mod Codes
+pub mod Rows
+pub mod Kept
