@@ -1,5 +1,5 @@
 -- Words as numbers: how far a word is above the least one, and the code that a column keeps for it.
-use Rattle.std.specs.Prelude.{◌≡◌, ◌≢◌, ℕ, zero, suc, ℤ, pos, ◌+◌, ◌+ℤ◌, ◌≤ℤ◌, ◌&&◌, Bool, nat_le}
+use Rattle.std.specs.Prelude.{◌≢◌, ℕ, zero, suc, ℤ, pos, ◌+◌, ◌+ℤ◌, ◌≤ℤ◌, ◌&&◌, Bool, nat_le}
 use Rattle.sql_values.specs.Words.{null_word}
 
 -- the word that has so many words below it; that of NULL has none

@@ -47,6 +47,6 @@ column_state base codes room = record {
 }
 
 -- each code stands for a word of 64 bits, and the room is memory that is there
-pub record IsKept (base : ℕ) (codes : Codes) (spare : ℕ) : Type 0 where
+pub record IsNarrow (base : ℕ) (codes : Codes) (spare : ℕ) : Type 0 where
   pub fits : base + top_code codes < 2 ^ 64
   pub room : length (codes_in codes) + spare ≤ codes_held codes

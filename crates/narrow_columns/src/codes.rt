@@ -1,5 +1,5 @@
 // Codes of one width in a vector, and the four widths that there are.
-ghost use Rattle.std.specs.Prelude.{◌≡◌, ℕ, ◌+◌, ◌-◌, ◌<◌, ◌≤◌, ◌^◌, List, [], ◌∷◌, ◌++◌, Some, length, take, drop, map, All, slice_get, OnOk, OnErr, IfOk};
+ghost use Rattle.std.specs.Prelude.{◌≡◌, ℕ, ◌+◌, ◌-◌, ◌<◌, ◌≤◌, ◌^◌, List, [], ◌∷◌, ◌++◌, length, take, drop, map, All, slice_index, OnOk, OnErr, IfOk};
 ghost use Rattle.narrow_columns.specs.Codes.{is_code_among};
 ghost use Rattle.narrow_columns.specs.Marks.{marks_of};
 
@@ -37,7 +37,7 @@ pub(crate) trait CodeList: Drop {
 
     fn code(&self, place: usize) -> u64
         requires { place < length (codes self.now) }
-        ensures code { slice_get (codes self.now) place ≡ Some result }
+        ensures code { result ≡ slice_index (codes self.now) place }
         ensures fits { result ≤ top };
 
     /// Which of 64 codes from place `first` on are in the range.

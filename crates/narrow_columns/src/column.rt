@@ -3,7 +3,7 @@ ghost use Rattle.std.specs.Prelude.{◌≡◌, ℕ, ℤ, ◌+◌, ◌-◌, ◌�
 ghost use Rattle.narrow_columns.specs.Codes.{IsWithin, word_of_code, word_of_rank};
 ghost use Rattle.narrow_columns.specs.Kept.{ColumnState, IsTaken, codes_in, top_code, codes_held};
 ghost use Rattle.narrow_columns.specs.Marks.{is_among, marks_of};
-ghost use Rattle.narrow_columns.specs.Rows.{words_at, HasPlace};
+ghost use Rattle.narrow_columns.specs.Rows.{column_words, IsInRows};
 
 use crate::codes::Codes;
 use crate::extent::Extent;
@@ -24,13 +24,13 @@ pub struct Column {
 }
 
 impl Model for Column {
-    ghost use Rattle.narrow_columns.specs.Kept.{ColumnState, IsKept, column_state};
+    ghost use Rattle.narrow_columns.specs.Kept.{ColumnState, IsNarrow, column_state};
 
     ghost Value = { ColumnState };
 
     ghost view = { λ column. column_state column.base column.codes column.room };
 
-    ghost invariant = { λ column. IsKept column.base column.codes column.room };
+    ghost invariant = { λ column. IsNarrow column.base column.codes column.room };
 }
 
 // The ranks that wider codes have to reach: these, and those of the codes that are there.
@@ -145,11 +145,11 @@ impl Column {
 
     /// Appends the words of one column of some rows. There is room for them, so that it can't fail.
     pub fn push(&mut self, rows: &[i64], at: ColumnPlace)
-        requires there { HasPlace at rows.now }
+        requires there { IsInRows at rows.now }
         requires room { at.count ≤ self.old.room }
-        requires taken { All (IsTaken self.old) (words_at at rows.now) }
+        requires taken { All (IsTaken self.old) (column_words at rows.now) }
         ensures { self.new ≡ record self.old {
-          words = self.old.words ++ words_at at rows.now;
+          words = self.old.words ++ column_words at rows.now;
           room = self.old.room - at.count;
         } }
     {

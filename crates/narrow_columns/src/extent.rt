@@ -2,7 +2,7 @@
 ghost use Rattle.std.specs.Prelude.{◌≡◌, ◌≤ℤ◌, All, fold};
 ghost use Rattle.std.specs.Int.{int_max};
 ghost use Rattle.narrow_columns.specs.Codes.{IsWithin};
-ghost use Rattle.narrow_columns.specs.Rows.{words_at, HasPlace, least_word};
+ghost use Rattle.narrow_columns.specs.Rows.{column_words, IsInRows, least_word};
 
 use crate::rows::ColumnPlace;
 use sql_values::NULL_WORD;
@@ -24,10 +24,10 @@ pub const NO_WORDS: Extent = Extent {
 
 /// The extent of the words that were seen so far and those of a column of some rows more.
 pub fn extent_of(so_far: Extent, rows: &[i64], at: ColumnPlace) -> Extent
-    requires { HasPlace at rows.now }
-    ensures within { All (IsWithin result.least result.greatest) (words_at at rows.now) }
-    ensures least { result.least ≡ fold least_word so_far.least (words_at at rows.now) }
-    ensures greatest { result.greatest ≡ fold int_max so_far.greatest (words_at at rows.now) }
+    requires { IsInRows at rows.now }
+    ensures within { All (IsWithin result.least result.greatest) (column_words at rows.now) }
+    ensures least { result.least ≡ fold least_word so_far.least (column_words at rows.now) }
+    ensures greatest { result.greatest ≡ fold int_max so_far.greatest (column_words at rows.now) }
     ensures wider { (result.least ≤ℤ so_far.least) × (so_far.greatest ≤ℤ result.greatest) }
 {
     let mut extent = so_far;
@@ -44,7 +44,11 @@ fn with_word(so_far: Extent, word: i64) -> Extent
     ensures within { IsWithin result.least result.greatest word }
     ensures wider { (result.least ≤ℤ so_far.least) × (so_far.greatest ≤ℤ result.greatest) }
 {
-    let known = if word == NULL_WORD { so_far.least } else { word };
+    let known = if word == NULL_WORD {
+        so_far.least
+    } else {
+        word
+    };
     Extent {
         least: so_far.least.min(known),
         greatest: so_far.greatest.max(word),

@@ -13,6 +13,15 @@ pub(crate) struct Span {
     pub(crate) greatest: u64,
 }
 
+impl Span {
+    /// Whether the code is one of these.
+    pub(crate) fn contains(self, code: u64) -> bool
+        ensures { result ≡ is_code_among self.least self.greatest code }
+    {
+        self.least <= code && code <= self.greatest
+    }
+}
+
 /// The rank of a word.
 pub(crate) fn rank_of(word: i64) -> u64
     ensures { word_of_rank result ≡ word }
@@ -41,7 +50,11 @@ fn range_above(base: u64, from: u64, to: u64) -> Span
     ensures { (code : ℕ) → is_code_among from to (rank_of_code base code)
         ≡ is_code_among result.least result.greatest code }
 {
-    let least = if from == 0 { 0 } else { from.saturating_sub(base).max(1) };
+    let least = if from == 0 {
+        0
+    } else {
+        from.saturating_sub(base).max(1)
+    };
     Span {
         least,
         greatest: to.saturating_sub(base),

@@ -1,8 +1,8 @@
 // Scans of codes, 64 at a time, and their making.
-ghost use Rattle.std.specs.Prelude.{◌≡◌, ℕ, ◌+◌, ◌*◌, ◌^◌, ◌<◌, ◌≤◌, ◌++◌, length, take, drop, map, count_by, All};
+ghost use Rattle.std.specs.Prelude.{◌≡◌, ℕ, ◌+◌, ◌*◌, ◌%◌, ◌^◌, ◌<◌, ◌≤◌, ◌++◌, length, take, drop, map, count_by, All};
 ghost use Rattle.narrow_columns.specs.Codes.{is_code_among, IsWithin, word_of_code, word_of_rank};
 ghost use Rattle.narrow_columns.specs.Marks.{marks_of};
-ghost use Rattle.narrow_columns.specs.Rows.{words_at, HasPlace};
+ghost use Rattle.narrow_columns.specs.Rows.{column_words, row_word, IsInRows};
 
 use crate::codes::CodeList;
 use crate::ranks::{Span, narrowed, rank_at, rank_of};
@@ -38,17 +38,30 @@ pub(crate) fn mark_codes<C: CodeList>(codes: &C, range: Span, first: usize, coun
     requires there { first + count ≤ length (C.codes codes.now) }
     ensures { result ≡ marks_of (map (is_code_among range.least range.greatest) (take count (drop first (C.codes codes.now)))) }
 {
-    if count < 64 {
+    let len = codes.len();
+    if len - first < 64 {
         return marks_one_by_one(codes, range, first, count);
     }
-    let len = codes.len();
     let range = narrowed(range, C::top_code());
-    codes.block(first, range)
+    first_marks(codes.block(first, range), count)
+}
+
+// The first `count` of 64 marks.
+fn first_marks(marks: u64, count: usize) -> u64
+    requires { count ≤ 64 }
+    ensures { result ≡ marks % 2 ^ count }
+{
+    if count == 64 {
+        marks
+    } else {
+        marks % (1 << count)
+    }
 }
 
 // The same, for few codes.
 fn marks_one_by_one<C: CodeList>(codes: &C, range: Span, first: usize, count: usize) -> u64
     requires few { count ≤ 64 }
+    requires places { first + count < 2 ^ 64 }
     requires there { first + count ≤ length (C.codes codes.now) }
     ensures { result ≡ marks_of (map (is_code_among range.least range.greatest) (take count (drop first (C.codes codes.now)))) }
 {
@@ -57,24 +70,33 @@ fn marks_one_by_one<C: CodeList>(codes: &C, range: Span, first: usize, count: us
     while left > 0 {
         left -= 1;
         let code = codes.code(first + left);
-        marks = 2 * marks + (range.least <= code && code <= range.greatest) as u64;
+        marks = 2 * marks + range.contains(code) as u64;
     }
     marks
 }
 
+// The code of the word of one column in this row.
+fn code_in(rows: &[i64], at: ColumnPlace, row: usize, base: u64) -> u64
+    requires there { IsInRows at rows.now }
+    requires row { row < at.count }
+    ensures { (top : ℕ) → IsWithin (word_of_rank (base + 1)) (word_of_rank (base + top)) (row_word at row rows.now)
+        → (result ≤ top) × (word_of_code base result ≡ row_word at row rows.now) }
+{
+    rank_of(rows[row * at.width + at.place]).saturating_sub(base)
+}
+
 /// Appends the codes of the words at one place of `count` rows of one width.
 pub(crate) fn push_rows<C: CodeList>(codes: &mut C, base: u64, rows: &[i64], at: ColumnPlace)
-    requires there { HasPlace at rows.now }
+    requires there { IsInRows at rows.now }
     requires room { length (C.codes codes.old) + at.count ≤ C.held codes.old }
-    requires taken { All (IsWithin (word_of_rank (base + 1)) (word_of_rank (base + C.top))) (words_at at rows.now) }
+    requires taken { All (IsWithin (word_of_rank (base + 1)) (word_of_rank (base + C.top))) (column_words at rows.now) }
     ensures words { map (word_of_code base) (C.codes codes.new)
-        ≡ map (word_of_code base) (C.codes codes.old) ++ words_at at rows.now }
+        ≡ map (word_of_code base) (C.codes codes.old) ++ column_words at rows.now }
     ensures len { length (C.codes codes.new) ≡ length (C.codes codes.old) + at.count }
     ensures held { C.held codes.new ≡ C.held codes.old }
 {
     for row in 0..at.count {
-        let word = rows[row * at.width + at.place];
-        codes.push(rank_of(word).saturating_sub(base));
+        codes.push(code_in(rows, at, row, base));
     }
 }
 

@@ -3,7 +3,7 @@ ghost use Rattle.std.specs.Prelude.{◌≡◌, ℕ, ◌+◌, ◌≤◌, ◌<◌,
 ghost use Rattle.narrow_columns.specs.Codes.{IsWithin, is_code_among, word_of_code, word_of_rank};
 ghost use Rattle.narrow_columns.specs.Kept.{codes_in, top_code, codes_held};
 ghost use Rattle.narrow_columns.specs.Marks.{marks_of};
-ghost use Rattle.narrow_columns.specs.Rows.{words_at, HasPlace};
+ghost use Rattle.narrow_columns.specs.Rows.{column_words, IsInRows};
 
 use crate::codes::{CodeList, Codes};
 use crate::ranks::Span;
@@ -137,12 +137,12 @@ impl Codes {
 
     /// Appends the codes of the words of one column of some rows.
     pub(crate) fn push(&mut self, base: u64, rows: &[i64], at: ColumnPlace)
-        requires there { HasPlace at rows.now }
+        requires there { IsInRows at rows.now }
         requires room { length (codes_in self.old) + at.count ≤ codes_held self.old }
         requires taken { All (IsWithin (word_of_rank (base + 1)) (word_of_rank (base + top_code self.old)))
-            (words_at at rows.now) }
+            (column_words at rows.now) }
         ensures words { map (word_of_code base) (codes_in self.new)
-            ≡ map (word_of_code base) (codes_in self.old) ++ words_at at rows.now }
+            ≡ map (word_of_code base) (codes_in self.old) ++ column_words at rows.now }
         ensures len { length (codes_in self.new) ≡ length (codes_in self.old) + at.count }
         ensures width { top_code self.new ≡ top_code self.old }
         ensures held { codes_held self.new ≡ codes_held self.old }

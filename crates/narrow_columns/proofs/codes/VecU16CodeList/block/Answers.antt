@@ -1,0 +1,6 @@
+use mir.Syntax.{w16}
+use Rattle.narrow_columns.proofs.BlockMarks.{block-marks}
+use Rattle.narrow_columns.proofs.codes.VecU16CodeList.block.Goals as goal
+
+pub returns : goal.returns
+returns c = block-marks w16 c.args.range.least c.args.range.greatest c.deref.result.now c.args.self.now.items c.args.first c.deref.ensures.value c.requires.there
