@@ -45,7 +45,8 @@ pub(crate) trait CodeList: Drop {
         requires there { first + 64 ≤ length (codes self.now) }
         requires least { range.least ≤ top }
         requires greatest { range.greatest ≤ top }
-        ensures { result ≡ marks_of (map (is_code_among range.least range.greatest) (take 64 (drop first (codes self.now)))) };
+        ensures { result ≡ marks_of (map (is_code_among range.least range.greatest)
+            (take 64 (drop first (codes self.now)))) };
 
     fn push(&mut self, code: u64)
         requires fits { code ≤ top }

@@ -63,10 +63,12 @@ fn remade(
     requires fits { base + top_code codes.now < 2 ^ 64 }
     requires some { 1 ≤ ranks.least }
     requires any { ranks.least ≤ ranks.greatest }
-    ensures words { IfOk result (λ wide. wide.words ≡ map (word_of_code base) (codes_in codes.now)) }
+    ensures words { IfOk result (λ wide. wide.words
+        ≡ map (word_of_code base) (codes_in codes.now)) }
     ensures room { IfOk result (λ wide. n ≤ wide.room) }
     ensures taken { IfOk result (λ wide. (word : ℤ)
-        → IsWithin (word_of_rank ranks.least) (word_of_rank ranks.greatest) word → IsTaken wide word) }
+        → IsWithin (word_of_rank ranks.least) (word_of_rank ranks.greatest) word
+        → IsTaken wide word) }
 {
     let ranks = all_ranks(base, codes, ranks);
     let Some(room) = codes.len().checked_add(n) else {
@@ -119,7 +121,8 @@ impl Column {
     pub fn marks(&self, from: i64, to: i64, first: usize, count: usize) -> u64
         requires few { count ≤ 64 }
         requires there { first + count ≤ length self.now.words }
-        ensures { result ≡ marks_of (map (is_among from to) (take count (drop first self.now.words))) }
+        ensures { result ≡ marks_of (map (is_among from to)
+            (take count (drop first self.now.words))) }
     {
         self.codes
             .marks(code_range(self.base, from, to), first, count)
@@ -130,7 +133,8 @@ impl Column {
     pub fn make_room(&mut self, extent: Extent, n: usize) -> Result<(), AllocError>
         ensures words { self.new.words ≡ self.old.words }
         ensures room { OnOk result (n ≤ self.new.room) }
-        ensures taken { OnOk result ((word : ℤ) → IsWithin extent.least extent.greatest word → IsTaken self.new word) }
+        ensures taken { OnOk result ((word : ℤ) → IsWithin extent.least extent.greatest word
+            → IsTaken self.new word) }
         ensures refused { OnErr result (self.new ≡ self.old) }
     {
         let ranks = ranks_of(extent);

@@ -96,7 +96,8 @@ pub(crate) fn ranks_of(extent: Extent) -> Span
 /// Whether codes above a base, up to `top`, stand for all of these ranks.
 pub(crate) fn reaches(base: u64, top: u64, ranks: Span) -> bool
     requires { base + top < 2 ^ 64 }
-    ensures all { OnTrue result (ranks.least ≤ ranks.greatest → (base < ranks.least) × (ranks.greatest ≤ base + top)) }
+    ensures all { OnTrue result (ranks.least ≤ ranks.greatest
+        → (base < ranks.least) × (ranks.greatest ≤ base + top)) }
     ensures some { OnFalse result (ranks.least ≤ ranks.greatest) }
 {
     ranks.least > ranks.greatest || base < ranks.least && ranks.greatest <= base + top

@@ -36,7 +36,8 @@ fn count_narrowed<C: CodeList>(codes: &C, range: Span, len: usize) -> u64
 pub(crate) fn mark_codes<C: CodeList>(codes: &C, range: Span, first: usize, count: usize) -> u64
     requires few { count ≤ 64 }
     requires there { first + count ≤ length (C.codes codes.now) }
-    ensures { result ≡ marks_of (map (is_code_among range.least range.greatest) (take count (drop first (C.codes codes.now)))) }
+    ensures { result ≡ marks_of (map (is_code_among range.least range.greatest)
+        (take count (drop first (C.codes codes.now)))) }
 {
     let len = codes.len();
     if len - first < 64 {
@@ -63,7 +64,8 @@ fn marks_one_by_one<C: CodeList>(codes: &C, range: Span, first: usize, count: us
     requires few { count ≤ 64 }
     requires places { first + count < 2 ^ 64 }
     requires there { first + count ≤ length (C.codes codes.now) }
-    ensures { result ≡ marks_of (map (is_code_among range.least range.greatest) (take count (drop first (C.codes codes.now)))) }
+    ensures { result ≡ marks_of (map (is_code_among range.least range.greatest)
+        (take count (drop first (C.codes codes.now)))) }
 {
     let mut marks = 0;
     let mut left = count;
@@ -79,7 +81,8 @@ fn marks_one_by_one<C: CodeList>(codes: &C, range: Span, first: usize, count: us
 fn code_in(rows: &[i64], at: ColumnPlace, row: usize, base: u64) -> u64
     requires there { IsInRows at rows.now }
     requires row { row < at.count }
-    ensures { (top : ℕ) → IsWithin (word_of_rank (base + 1)) (word_of_rank (base + top)) (row_word at row rows.now)
+    ensures { (top : ℕ)
+        → IsWithin (word_of_rank (base + 1)) (word_of_rank (base + top)) (row_word at row rows.now)
         → (result ≤ top) × (word_of_code base result ≡ row_word at row rows.now) }
 {
     rank_of(rows[row * at.width + at.place]).saturating_sub(base)
@@ -89,7 +92,8 @@ fn code_in(rows: &[i64], at: ColumnPlace, row: usize, base: u64) -> u64
 pub(crate) fn push_rows<C: CodeList>(codes: &mut C, base: u64, rows: &[i64], at: ColumnPlace)
     requires there { IsInRows at rows.now }
     requires room { length (C.codes codes.old) + at.count ≤ C.held codes.old }
-    requires taken { All (IsWithin (word_of_rank (base + 1)) (word_of_rank (base + C.top))) (column_words at rows.now) }
+    requires taken { All (IsWithin (word_of_rank (base + 1)) (word_of_rank (base + C.top)))
+        (column_words at rows.now) }
     ensures words { map (word_of_code base) (C.codes codes.new)
         ≡ map (word_of_code base) (C.codes codes.old) ++ column_words at rows.now }
     ensures len { length (C.codes codes.new) ≡ length (C.codes codes.old) + at.count }
@@ -107,7 +111,8 @@ pub(crate) fn push_codes<C: CodeList, D: CodeList>(to: &mut C, base: u64, codes:
     requires above { base ≤ old_base }
     requires below { old_base + D.top ≤ base + C.top }
     ensures words { map (word_of_code base) (C.codes to.new)
-        ≡ map (word_of_code base) (C.codes to.old) ++ map (word_of_code old_base) (D.codes codes.now) }
+        ≡ map (word_of_code base) (C.codes to.old)
+        ++ map (word_of_code old_base) (D.codes codes.now) }
     ensures len { length (C.codes to.new) ≡ length (C.codes to.old) + length (D.codes codes.now) }
     ensures held { C.held to.new ≡ C.held to.old }
 {

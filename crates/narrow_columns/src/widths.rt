@@ -18,7 +18,8 @@ fn append_to<C: CodeList>(to: &mut C, base: u64, codes: &Codes, old_base: u64)
     requires above { base ≤ old_base }
     requires below { old_base + top_code codes.now ≤ base + C.top }
     ensures words { map (word_of_code base) (C.codes to.new)
-        ≡ map (word_of_code base) (C.codes to.old) ++ map (word_of_code old_base) (codes_in codes.now) }
+        ≡ map (word_of_code base) (C.codes to.old)
+        ++ map (word_of_code old_base) (codes_in codes.now) }
     ensures len { length (C.codes to.new) ≡ length (C.codes to.old) + length (codes_in codes.now) }
     ensures held { C.held to.new ≡ C.held to.old }
 {
@@ -118,12 +119,15 @@ impl Codes {
     /// Appends codes, above another base, for the words of these codes.
     pub(crate) fn append(&mut self, base: u64, codes: &Codes, old_base: u64)
         requires fits { old_base + top_code codes.now < 2 ^ 64 }
-        requires room { length (codes_in self.old) + length (codes_in codes.now) ≤ codes_held self.old }
+        requires room { length (codes_in self.old) + length (codes_in codes.now)
+            ≤ codes_held self.old }
         requires above { base ≤ old_base }
         requires below { old_base + top_code codes.now ≤ base + top_code self.old }
         ensures words { map (word_of_code base) (codes_in self.new)
-            ≡ map (word_of_code base) (codes_in self.old) ++ map (word_of_code old_base) (codes_in codes.now) }
-        ensures len { length (codes_in self.new) ≡ length (codes_in self.old) + length (codes_in codes.now) }
+            ≡ map (word_of_code base) (codes_in self.old)
+            ++ map (word_of_code old_base) (codes_in codes.now) }
+        ensures len { length (codes_in self.new)
+            ≡ length (codes_in self.old) + length (codes_in codes.now) }
         ensures width { top_code self.new ≡ top_code self.old }
         ensures held { codes_held self.new ≡ codes_held self.old }
     {
