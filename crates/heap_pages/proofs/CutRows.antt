@@ -2,7 +2,7 @@
 use Rattle.std.proofs.Common.{◌≡◌, ℕ, zero, suc, ◌+◌, ◌-◌, ◌*◌, ◌<◌, ◌≤◌, List, [], ◌∷◌, ◌++◌, length, take, drop, Some, refl, sym, ap, ◌∙◌, arith, add-one}
 use Rattle.std.specs.Prelude.{ℤ, slice_get}
 use Rattle.std.proofs.Math.Nat.{mul-le-mul_right}
-use Rattle.std.proofs.lemmas.List.{nil_from_length, take_all, take-append-le, take-take, drop-append-le, drop-drop, drop-take, length-drop}
+use Rattle.std.proofs.lemmas.List.{nil_from_length, take_all, take-append-le, take-take, drop-append-le, drop-drop, drop-take, length-drop, length-take}
 use Rattle.heap_pages.specs.Rows.{cut_rows}
 
 -- there are as many rows as were asked for
@@ -70,3 +70,10 @@ cut_rows-append_all width (suc m) n words more filled =
     ap (λ k. cut_rows width k (words ++ more)) count
     ∙ (λ i. take-append-le width words more enough i ∷ cut_rows width (m + n) (drop-append-le width words more enough i))
     ∙ ap (λ rs. take width words ∷ rs) (cut_rows-append_all width m n (drop width words) more others)
+
+-- each row is as wide as the table
+pub cut_row-wide : (width n i : ℕ) (words row : List ℤ) → length words ≡ n * width → i < n → slice_get (cut_rows width n words) i ≡ Some row → length row ≡ width
+cut_row-wide width n i words row filled below is =
+    let same : Some (take width (drop (i * width) words)) ≡ Some row = sym (slice_get-cut_rows width n i words below) ∙ is in
+    let parts : take width (drop (i * width) words) ≡ row = cc same in
+    sym (ap length parts) ∙ omega (arith, length-take width (drop (i * width) words), length-drop (i * width) words, row_end i n width below, filled)

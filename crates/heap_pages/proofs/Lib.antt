@@ -5,3 +5,4 @@ pub mod Reciprocal
 pub mod OfRows
 pub mod PlainPages
 mod Refusals
+pub mod MarkedRows

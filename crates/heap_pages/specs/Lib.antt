@@ -3,3 +3,4 @@ pub mod Rows
 pub mod Layout
 pub mod Refused
 pub mod Changes
+pub mod Spans

@@ -50,7 +50,7 @@ pub struct PageView {
 /// The rows of one table.
 #[derive(Drop)]
 pub struct Heap {
-    columns: usize,
+    pub(crate) columns: usize,
     // How many rows a full page has.
     per_page: usize,
     // The parts of 2^40 that a row of a page takes, rounded up: a product with it divides by `per_page`.

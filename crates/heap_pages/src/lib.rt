@@ -6,6 +6,8 @@
 
 mod heap;
 mod pages;
+mod spans;
 
 pub use heap::{Heap, HeapFault, PageView};
+pub use spans::RowSpan;
 pub use sql_values::{MAX_COLUMNS, MAX_ROWS};
