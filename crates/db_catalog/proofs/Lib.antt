@@ -13,3 +13,4 @@ pub mod OfRelations
 pub mod Picked
 pub mod PutBlocks
 pub mod ColumnRanges
+pub mod WordsOfTests

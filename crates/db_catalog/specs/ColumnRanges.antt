@@ -1,6 +1,8 @@
 -- Rows of words: those in the slots of a page, and the words of one column in the rows that pass a test.
-use Rattle.std.specs.Prelude.{◌≡◌, ℕ, ℤ, ◌*◌, ◌<◌, ◌&&◌, Bool, true, false, not, List, drop, int_le, length, map, take}
+use Rattle.std.specs.Prelude.{◌≡◌, ℕ, ℤ, pos, ◌*◌, ◌<◌, ◌&&◌, Bool, true, false, not, FitsSigned, List, drop, int_le, length, map, slice_index_or, take}
+use Rattle.std.specs.Int.{w64}
 use Rattle.std.specs.Ordering.{int_eq}
+use Rattle.narrow_columns.specs.Marks.{is_among}
 use Rattle.sql_values.specs.declared.column.ColumnType.{ColumnType}
 use Rattle.sql_values.specs.Words.{null_word, word_of}
 use Rattle.sql_values.specs.Stored.{AreWordsOf, ValueRow, values_of}
@@ -27,3 +29,9 @@ pub record IsRangeOf (texts : List (List ℕ)) (kinds : List ColumnType) (test :
   pub there : found.column < length kinds
   pub some : (row : ValueRow) → test row ≡ true → is_null (value_at row found.column) ≡ false
   pub picks : Picks texts kinds found.column found.from found.to test
+
+-- of rows that may stand in columns of these kinds exactly those pass a test whose word in the column is one of these, NULL's like any other
+pub record IsWordsOf (texts : List (List ℕ)) (kinds : List ColumnType) (test : ValueRow → Bool) (found : ColumnRange) : Type 0 where
+  pub there : found.column < length kinds
+  pub tells : (words : List ℤ) → AreStored texts kinds words → FitsSigned w64 (slice_index_or words found.column (pos 0))
+      → is_among found.from found.to (slice_index_or words found.column (pos 0)) ≡ test (values_of texts kinds words)

@@ -9,3 +9,4 @@ pub mod Fits
 pub mod Cursors
 pub mod Tables
 pub mod ColumnRanges
+pub mod Marks

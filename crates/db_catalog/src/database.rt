@@ -14,7 +14,7 @@ ghost use Rattle.db_catalog.specs.Refused.{room_fault, texts_fault};
 ghost use Rattle.db_catalog.specs.Refused.{RefusesExactly, RefusesWhereDue, TellsLimit};
 ghost use Rattle.db_catalog.specs.Kept.{MeanRows, SameRows, AppendsWords, HasWords, kept_words};
 ghost use Rattle.db_catalog.specs.Kept.{HasColumn, IndexesColumn, IsHeapOf};
-ghost use Rattle.heap_pages.specs.Rows.{cut_rows};
+ghost use Rattle.heap_pages.specs.Rows.{cut_rows, row_number};
 ghost use Rattle.heap_pages.specs.Changes.{Becomes};
 ghost use Rattle.sql_values.specs.Dictionary.{with_texts};
 
@@ -358,6 +358,14 @@ impl Database {
         ensures { result ≡ page_rows self.now table no }
     {
         self.heap(table).rows_on_page(no)
+    }
+
+    /// The number of the first row on page `no` of a table, both from 0.
+    pub fn first_row(&self, table: u32, no: u64) -> u64
+        requires { no < table_pages self.now table }
+        ensures { result ≡ row_number (length (table_at self.now table).columns) no 0 }
+    {
+        self.heap(table).first_row(no)
     }
 
     /// How many pages a table's rows take.

@@ -3,7 +3,7 @@
 ghost use Rattle.std.specs.Prelude.{◌≡◌, ℕ, ◌+◌, ◌*◌, ◌<◌, ◌≤◌, drop, length, take, Contains, IfOk};
 ghost use Rattle.btree_index.specs.Cursors.{IsOnRange};
 ghost use Rattle.btree_index.specs.Entries.{HaveWords, entries_left, next_charge};
-ghost use Rattle.heap_pages.specs.Rows.{IsSlot};
+ghost use Rattle.heap_pages.specs.Rows.{IsSlot, row_number};
 ghost use Rattle.work_ledger.specs.Account.{IsInBounds, max_account};
 ghost use Rattle.work_ledger.specs.Budget.{granted, new_account};
 ghost use Rattle.work_ledger.specs.Charges.{page_charge, row_charge, fetch_charge, node_charge};
@@ -12,12 +12,14 @@ ghost use Rattle.db_catalog.specs.Database.{IsRowAt, StandAsWords, table_at};
 ghost use Rattle.db_catalog.specs.Tables.{AreColumnsOfTable};
 ghost use Rattle.db_catalog.specs.Indexes.{index_at, index_height};
 ghost use Rattle.db_catalog.specs.Cursors.{GivesNext, IsCursorOf};
+ghost use Rattle.db_catalog.specs.Marks.{AreMarksOf, HasSpan};
 ghost use Rattle.db_catalog.specs.Meter.{Reads, table_pages, page_rows, IsRowIn};
 
+use crate::column_range::ColumnRange;
 use crate::database::Database;
 use crate::near::{Near, is_at_first, near_entries};
 use btree_index::Cursor;
-use heap_pages::PageView;
+use heap_pages::{PageView, RowSpan};
 use sql_values::{ColumnDef, Texts};
 use std::marker::Model;
 use work_ledger::{Exhausted, Ledger, charge};
@@ -124,6 +126,14 @@ impl<'d> Metered<'d> {
         self.database.rows_on_page(table, no)
     }
 
+    /// The number of the first row on page `no` of a table, both from 0.
+    pub fn first_row(&self, table: u32, no: u64) -> u64
+        requires { no < table_pages self.now.database table }
+        ensures { result ≡ row_number (length (table_at self.now.database table).columns) no 0 }
+    {
+        self.database.first_row(table, no)
+    }
+
     /// The different texts that stand in the tables.
     pub fn texts(&self) -> &'d Texts
         ensures { result.now ≡ self.now.database.texts }
@@ -163,6 +173,15 @@ impl<'d> Metered<'d> {
             IsRowIn self.now.database table no slot (take width (drop (slot * width) result.now)) }
     {
         self.database.plain_page(table, no)
+    }
+
+    /// Which rows of a span of a table, of at most 64, have a word of a range: bit k stands for the row k places behind the
+    /// first. This call pays nothing: whoever asks must have paid for the pages of these rows, as `open_page` does.
+    pub fn opened_marks(&self, table: u32, found: ColumnRange, span: RowSpan) -> u64
+        requires { HasSpan self.now.database table found span }
+        ensures { AreMarksOf self.now.database table found span result }
+    {
+        self.database.plain_marks(table, found, span)
     }
 
     /// The words of the row in this slot, from 0, of an opened page, which pays for the row.

@@ -5,10 +5,13 @@ ghost use Rattle.btree_index.specs.Height.{height_of};
 ghost use Rattle.db_catalog.specs.Database.{IsRowAt, StandAsWords, table_at};
 ghost use Rattle.db_catalog.specs.Cursors.{IsCursorOf};
 ghost use Rattle.db_catalog.specs.Indexes.{index_at, index_height};
+ghost use Rattle.db_catalog.specs.Marks.{AreMarksOf, HasSpan, IsCountOf};
 ghost use Rattle.db_catalog.specs.Meter.{IsRowIn, page_rows, table_pages};
 
+use crate::column_range::ColumnRange;
 use crate::database::Database;
 use btree_index::{Cursor, Index};
+use heap_pages::RowSpan;
 
 #[tactic(auto, using(crate::proofs::Tables::of_reads))]
 impl Database {
@@ -30,6 +33,25 @@ impl Database {
             IsRowIn self.now table no slot (take width (drop (slot * width) result.now)) }
     {
         self.heap(table).plain_page(no)
+    }
+
+    /// Which rows of a span of a table, of at most 64, have a word of a range: bit k stands for the row k places behind the
+    /// first. This read isn't paid.
+    pub fn plain_marks(&self, table: u32, found: ColumnRange, span: RowSpan) -> u64
+        requires { HasSpan self.now table found span }
+        ensures { AreMarksOf self.now table found span result }
+    {
+        let heap = self.heap(table);
+        heap.marks(usize::from(found.column), found.from, found.to, span)
+    }
+
+    /// How many rows of a table have a word of a range. This read isn't paid.
+    pub fn count_in_range(&self, table: u32, found: ColumnRange) -> u64
+        requires { found.column < length (table_at self.now table).columns }
+        ensures { IsCountOf self.now table found result }
+    {
+        let heap = self.heap(table);
+        heap.count_in_range(usize::from(found.column), found.from, found.to)
     }
 
     // The index of a column.

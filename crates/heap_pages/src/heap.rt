@@ -131,6 +131,14 @@ impl Heap {
         per_page.min(self.rows as usize - no as usize * per_page)
     }
 
+    /// The number of the first row on page `no`, both from 0.
+    pub fn first_row(&self, no: u64) -> u64
+        requires { no < pages_of self.now.columns (length self.now.rows) }
+        ensures { result ≡ row_number self.now.columns no 0 }
+    {
+        no * self.per_page as u64
+    }
+
     /// Row `i`, from 0. This read isn't paid.
     pub fn get(&self, i: u64) -> &[i64]
         requires { i < length self.now.rows }

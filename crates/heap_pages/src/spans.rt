@@ -2,7 +2,7 @@
 // many rows of the table. These reads aren't paid.
 ghost use Rattle.std.specs.Prelude.{◌≡◌, if◌then◌else◌, ◌+◌, ◌<◌, ◌≤◌, [], count_by, length, map, slice_index_or};
 ghost use Rattle.narrow_columns.specs.Marks.{is_among, marks_of};
-ghost use Rattle.heap_pages.specs.Spans.{HaveColumnWords, has_among, rows_of_span, word_in};
+ghost use Rattle.heap_pages.specs.Spans.{HaveColumnWords, has_among, rows_of_span, column_word};
 
 use crate::heap::Heap;
 
@@ -27,7 +27,7 @@ impl Heap {
     fn word_at(&self, column: usize, i: u64) -> i64
         requires column { column < self.now.columns }
         requires there { i < length self.now.rows }
-        ensures { result ≡ word_in column (slice_index_or self.now.rows i []) }
+        ensures { result ≡ column_word column (slice_index_or self.now.rows i []) }
     {
         let _ = &self.columns;
         self.get(i)[column]

@@ -7,7 +7,7 @@ use Rattle.std.proofs.lemmas.List.Elements.{All-more}
 use Rattle.std.proofs.lemmas.List.Sums.{count_by-le-length}
 use Rattle.narrow_columns.specs.Marks.{is_among}
 use Rattle.heap_pages.specs.Rows.{Row}
-use Rattle.heap_pages.specs.Spans.{HaveColumnWords, has_among, word_in}
+use Rattle.heap_pages.specs.Spans.{HaveColumnWords, has_among, column_word}
 use Rattle.heap_pages.proofs.MarkedRows.{count-more}
 use Rattle.heap_pages.proofs.heap.Heap.count_in_range.Goals as goal
 
@@ -31,7 +31,7 @@ module _ (c : goal.After-mark-count) where
 pub loop-i-preserved : goal.loop-i-preserved
 loop-i-preserved c = record {
   count = counted c;
-  words = All-more (λ (row : Row). FitsSigned w64 (word_in c.args.column row)) c.args.self.now.rows c.loop-i.i [] (below c) c.loop-i.invariant.words (subst (FitsSigned w64) c.word_at.ensures (fits c));
+  words = All-more (λ (row : Row). FitsSigned w64 (column_word c.args.column row)) c.args.self.now.rows c.loop-i.i [] (below c) c.loop-i.invariant.words (subst (FitsSigned w64) c.word_at.ensures (fits c));
 }
 
 pub overflow_add-count : goal.overflow_add-count

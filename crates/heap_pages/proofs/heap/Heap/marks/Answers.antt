@@ -4,7 +4,7 @@ use Rattle.std.proofs.lemmas.Int.{to_z-of_z}
 use Rattle.std.proofs.lemmas.List.Elements.{All-cons}
 use Rattle.narrow_columns.specs.Marks.{is_among, marks_of}
 use Rattle.heap_pages.specs.Rows.{Row}
-use Rattle.heap_pages.specs.Spans.{HaveColumnWords, has_among, rows_of_span, word_in}
+use Rattle.heap_pages.specs.Spans.{HaveColumnWords, has_among, rows_of_span, column_word}
 use Rattle.heap_pages.proofs.MarkedRows.{drop-span, mark-le, length-drop-span, marks_of-short}
 use Rattle.heap_pages.proofs.heap.Heap.marks.Goals as goal
 
@@ -48,5 +48,5 @@ loop-left-preserved c = record {
   marks =
       let all = ap (λ (rows : List Row). marks_of (map (p c.before) rows)) (next c) in
       omega (arith, all, marked c, c.loop-left.invariant.marks);
-  words = subst (HaveColumnWords c.args.column) (sym (next c)) (All-cons (λ (row : Row). FitsSigned w64 (word_in c.args.column row)) (row c) (drop c.loop-left.left (rows_of_span c.args.span c.args.self.now.rows)) (subst (FitsSigned w64) c.word_at-word.ensures (fits c)) c.loop-left.invariant.words);
+  words = subst (HaveColumnWords c.args.column) (sym (next c)) (All-cons (λ (row : Row). FitsSigned w64 (column_word c.args.column row)) (row c) (drop c.loop-left.left (rows_of_span c.args.span c.args.self.now.rows)) (subst (FitsSigned w64) c.word_at-word.ensures (fits c)) c.loop-left.invariant.words);
 }

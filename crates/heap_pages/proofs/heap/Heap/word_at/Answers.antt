@@ -3,7 +3,7 @@ use Rattle.std.proofs.Common.{◌≡◌, ◌<◌, [], length, pos, ap, sym, arit
 use Rattle.std.proofs.lemmas.Int.{to_z-of_z}
 use Rattle.std.proofs.lemmas.Option.{get_or_from_slice_get}
 use Rattle.heap_pages.specs.Rows.{HeapState}
-use Rattle.heap_pages.specs.Spans.{word_in}
+use Rattle.heap_pages.specs.Spans.{column_word}
 use Rattle.heap_pages.proofs.CutRows.{cut_row-wide, length-cut_rows}
 use Rattle.heap_pages.proofs.heap.Heap.word_at.Goals as goal
 
@@ -24,4 +24,4 @@ bounds-get-column c = wide c
 pub returns : goal.returns
 returns c =
     let fits : FitsSigned w64 (slice_index_or c.get.result.now c.args.column (pos 0)) = search rules in
-    simp to_z-of_z (ap (word_in c.args.column) (sym (get_or_from_slice_get c.args.self.now.rows c.args.i c.get.result.now [] c.get.ensures)))
+    simp to_z-of_z (ap (column_word c.args.column) (sym (get_or_from_slice_get c.args.self.now.rows c.args.i c.get.result.now [] c.get.ensures)))
