@@ -6,3 +6,4 @@ pub mod OfRows
 pub mod PlainPages
 mod Refusals
 pub mod MarkedRows
+pub mod ColumnWords

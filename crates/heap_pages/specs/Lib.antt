@@ -4,3 +4,4 @@ pub mod Layout
 pub mod Refused
 pub mod Changes
 pub mod Spans
+pub mod Columns

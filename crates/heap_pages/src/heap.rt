@@ -1,13 +1,15 @@
 // The heap: rows in packed pages, as many whole rows on each as fit. It relies on the ledger for each paid read, and
 // never moves, changes or drops a row.
-ghost use Rattle.std.specs.Prelude.{◌≡◌, ℕ, ◌+◌, ◌-◌, ◌*◌, ◌/◌, ◌^◌, ◌<◌, ◌≤◌, [], ◌∷◌, ◌++◌, take, drop, length, max, Some, slice_get, IfOk};
+ghost use Rattle.std.specs.Prelude.{◌≡◌, ℕ, ℤ, List, OnOk, ◌+◌, ◌-◌, ◌*◌, ◌/◌, ◌^◌, ◌<◌, ◌≤◌, [], ◌∷◌, ◌++◌, take, drop, length, max, Some, slice_get, IfOk};
 ghost use Rattle.work_ledger.specs.Account.{Pays};
 ghost use Rattle.work_ledger.specs.Charges.{page_charge, row_charge, fetch_charge};
 ghost use Rattle.heap_pages.specs.Limits.{page_words, max_rows, max_columns};
 ghost use Rattle.heap_pages.specs.Refused.{KeepsRowLimit};
 ghost use Rattle.heap_pages.specs.Rows.{cut_rows, rows_per_page, pages_of, rows_on_page, row_number, IsSlot};
 ghost use Rattle.heap_pages.specs.Changes.{Becomes};
+ghost use Rattle.heap_pages.specs.Columns.{AreColumnsOf, HaveRoomFor};
 
+use crate::columns::{Columns, Growth, know_words};
 use crate::pages::Pages;
 use sql_values::MAX_ROWS;
 use std::alloc::{AllocError, Global};
@@ -58,6 +60,8 @@ pub struct Heap {
     pages: Pages,
     rows: u64,
     spare: u64,
+    // The words of each column, by columns. None for rows that came one by one.
+    pub(crate) narrow: Columns,
 }
 
 impl Model for Heap {
@@ -71,9 +75,10 @@ impl Model for Heap {
       spare = h.spare;
     } };
 
-    ghost use Rattle.heap_pages.specs.Layout.{IsLaidOut};
+    ghost use Rattle.heap_pages.specs.Columns.{AreHeapParts};
 
-    ghost invariant = { λ h. IsLaidOut h.columns h.per_page h.reciprocal h.rows h.spare h.pages };
+    ghost invariant = { λ h.
+        AreHeapParts h.columns h.per_page h.reciprocal h.rows h.spare h.pages h.narrow };
 }
 
 // How many pages so many rows take.
@@ -85,6 +90,28 @@ fn pages_for(rows: u64, per_page: usize) -> u64
 {
     let per_page = per_page as u64;
     (rows + (per_page - 1)) / per_page
+}
+
+// Takes all memory for more rows: until there are `count` pages, and in each column. No word changes, and where memory runs
+// out, the pages are as they were.
+fn take_memory(
+    pages: &mut Pages,
+    count: usize,
+    narrow: &mut Columns,
+    words: &[i64],
+    growth: Growth,
+) -> Result<(), AllocError>
+    requires few { length narrow.old ≤ growth.width }
+    requires limit { growth.width ≤ max_columns }
+    requires there { growth.more * growth.width ≤ length words.now }
+    ensures pages { Becomes (record pages.old { count = max pages.old.count count })
+        pages.old pages.new result }
+    ensures kept { (rows : List ℤ) → AreColumnsOf growth.width growth.before rows narrow.old
+        → AreColumnsOf growth.width growth.before rows narrow.new }
+    ensures room { OnOk result (HaveRoomFor growth.width growth.more words.now narrow.new) }
+{
+    narrow.make_room(words, growth)?;
+    pages.reach(count)
 }
 
 #[tactic(auto, using(crate::proofs::OfRows::of_rows))]
@@ -103,6 +130,7 @@ impl Heap {
             pages: Pages::new(alloc, per_page * columns),
             rows: 0,
             spare: 0,
+            narrow: Columns::new(alloc),
         }
     }
 
@@ -207,7 +235,9 @@ impl Heap {
     {
         let place = self.rows;
         let number = self.page_of(place);
+        know_words(row);
         self.pages.append(number, row);
+        self.narrow.clear();
         self.rows += 1;
         self.spare -= 1;
         place
@@ -229,8 +259,17 @@ impl Heap {
         }
         let value = self.rows + n;
         let first = self.page_of(self.rows);
-        self.pages.reach(pages_for(value, self.per_page) as usize)?;
-        self.pages.append_all(first, &words);
+        let growth = Growth {
+            width: self.columns,
+            before: self.rows,
+            more: n as usize,
+        };
+        let pages = pages_for(value, self.per_page) as usize;
+        let words = words.as_slice();
+        take_memory(&mut self.pages, pages, &mut self.narrow, words, growth)?;
+        know_words(words);
+        self.pages.append_all(first, words);
+        self.narrow.append(words, growth);
         self.rows = value;
         self.spare = 0;
         Ok(())

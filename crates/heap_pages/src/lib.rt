@@ -4,6 +4,7 @@
 //! exactly its charge, and a refused call leaves the heap as it was. It never knows what a word stands for.
 #![tactic(auto)]
 
+mod columns;
 mod heap;
 mod pages;
 mod spans;

@@ -33,9 +33,8 @@ impl Heap {
         self.get(i)[column]
     }
 
-    /// Which rows of a span, of at most 64, have a word from `from` to `to`, both included, in a column: bit k stands for the
-    /// row k places behind the first. This read isn't paid.
-    pub fn marks(&self, column: usize, from: i64, to: i64, span: RowSpan) -> u64
+    // The same as `marks`, read from the pages, row by row.
+    fn marks_on_pages(&self, column: usize, from: i64, to: i64, span: RowSpan) -> u64
         requires column { column < self.now.columns }
         requires few { span.count ≤ 64 }
         requires there { span.first + span.count ≤ length self.now.rows }
@@ -54,8 +53,8 @@ impl Heap {
         marks
     }
 
-    /// How many rows have a word from `from` to `to`, both included, in a column. This read isn't paid.
-    pub fn count_in_range(&self, column: usize, from: i64, to: i64) -> u64
+    // The same as `count_in_range`, read from the pages, row by row.
+    fn count_on_pages(&self, column: usize, from: i64, to: i64) -> u64
         requires { column < self.now.columns }
         ensures count { result ≡ count_by (has_among column from to) self.now.rows }
         ensures words { HaveColumnWords column self.now.rows }
@@ -65,5 +64,33 @@ impl Heap {
             count += mark(from, to, self.word_at(column, i));
         }
         count
+    }
+
+    /// Which rows of a span, of at most 64, have a word from `from` to `to`, both included, in a column: bit k stands for the
+    /// row k places behind the first. This read isn't paid.
+    pub fn marks(&self, column: usize, from: i64, to: i64, span: RowSpan) -> u64
+        requires column { column < self.now.columns }
+        requires few { span.count ≤ 64 }
+        requires there { span.first + span.count ≤ length self.now.rows }
+        ensures marks { result
+            ≡ marks_of (map (has_among column from to) (rows_of_span span self.now.rows)) }
+        ensures words { HaveColumnWords column (rows_of_span span self.now.rows) }
+    {
+        match self.narrow.column(column) {
+            Some(words) => words.marks(from, to, span.first as usize, span.count),
+            None => self.marks_on_pages(column, from, to, span),
+        }
+    }
+
+    /// How many rows have a word from `from` to `to`, both included, in a column. This read isn't paid.
+    pub fn count_in_range(&self, column: usize, from: i64, to: i64) -> u64
+        requires { column < self.now.columns }
+        ensures count { result ≡ count_by (has_among column from to) self.now.rows }
+        ensures words { HaveColumnWords column self.now.rows }
+    {
+        match self.narrow.column(column) {
+            Some(words) => words.count_in_range(from, to),
+            None => self.count_on_pages(column, from, to),
+        }
     }
 }

@@ -8,15 +8,15 @@ append-requires-clause-last c =
     let heap = c.self.inside in
     let at = rw (← c.self.view_is) at c.page_of-number.ensures in
     let room : 0 < heap.spare = rw (← c.self.view_is) at c.requires.room in
-    let begun = words_begun _ _ _ _ _ _ c.self.invariant c.page_of-number.result at in
-    let held = words_held _ _ _ _ _ _ c.self.invariant (heap.rows + 1) heap.pages.count (omega (arith, room, c.self.invariant.room)) in
+    let begun = words_begun _ _ _ _ _ _ c.self.invariant.laid c.page_of-number.result at in
+    let held = words_held _ _ _ _ _ _ c.self.invariant.laid (heap.rows + 1) heap.pages.count (omega (arith, room, c.self.invariant.laid.room)) in
     record {
-      there = page_before _ _ heap.pages.size (omega (arith, begun, held, c.self.invariant.words_fill_rows, c.self.invariant.some_columns));
+      there = page_before _ _ heap.pages.size (omega (arith, begun, held, c.self.invariant.laid.words_fill_rows, c.self.invariant.laid.some_columns));
       begun = begun;
-      last = omega (arith, words_fit _ _ _ _ _ _ c.self.invariant c.page_of-number.result at);
+      last = omega (arith, words_fit _ _ _ _ _ _ c.self.invariant.laid c.page_of-number.result at);
     }
 
 pub append-requires-clause-fits : goal.append-requires-clause-fits
 append-requires-clause-fits c =
     let width = rw (← c.self.view_is) at c.requires.width in
-    rw width (words_fit _ _ _ _ _ _ c.self.invariant c.page_of-number.result (rw (← c.self.view_is) at c.page_of-number.ensures))
+    rw width (words_fit _ _ _ _ _ _ c.self.invariant.laid c.page_of-number.result (rw (← c.self.view_is) at c.page_of-number.ensures))

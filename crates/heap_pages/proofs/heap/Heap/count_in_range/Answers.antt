@@ -1,48 +1,40 @@
--- One row more.
-use Rattle.std.proofs.Common.{Bool, ◌≡◌, ◌+◌, ◌<◌, [], length, take, ap, ◌∙◌, arith, FitsSigned, w64, get_or, subst, cond, rules, to_z, of_z}
+-- The column has the words of the rows.
+use Rattle.std.proofs.Common.{◌≡◌, ◌<◌, ◌≤◌, ◌*◌, length, sym, ap, subst, ◌∙◌, arith}
 use Rattle.std.specs.Prelude.{count_by}
 use Rattle.std.proofs.lemmas.Int.{to_z-of_z}
-use Rattle.std.proofs.lemmas.List.{length-take, take_all}
-use Rattle.std.proofs.lemmas.List.Elements.{All-more}
-use Rattle.std.proofs.lemmas.List.Sums.{count_by-le-length}
 use Rattle.narrow_columns.specs.Marks.{is_among}
-use Rattle.heap_pages.specs.Rows.{Row}
-use Rattle.heap_pages.specs.Spans.{HaveColumnWords, has_among, column_word}
-use Rattle.heap_pages.proofs.MarkedRows.{count-more}
+use Rattle.heap_pages.specs.Rows.{HeapState}
+use Rattle.heap_pages.specs.Spans.{HaveColumnWords, has_among}
+use Rattle.heap_pages.proofs.ColumnWords.{column-fits, count-among, kept-words}
 use Rattle.heap_pages.proofs.heap.Heap.count_in_range.Goals as goal
+use Rattle.heap_pages.proofs.heap.Heap.count_in_range.Goals.{In-Some}
 
-module _ (c : goal.After-mark-count) where
-  abbrev p : Row → Bool
-  p = has_among c.args.column (to_z w64 (of_z w64 c.args.from)) (to_z w64 (of_z w64 c.args.to))
+module _ (c : In-Some) where
+  inside : c.args.column < c.self.inside.columns
+  inside = subst (λ (heap : HeapState). c.args.column < heap.columns) (sym c.self.view_is) c.requires
 
-  below : c.loop-i.i < length c.args.self.now.rows
-  below = omega (arith, c.loop-i-test.true, c.rows-i-end.ensures.count)
+  filled : c.self.inside.rows * c.self.inside.columns ≤ length c.self.inside.pages.words
+  filled = omega (arith, c.self.invariant.laid.words_fill_rows)
 
-  fits : FitsSigned w64 c.word_at.result
-  fits = search rules
-
-  marked : c.mark-count.result ≡ cond (p (get_or c.args.self.now.rows c.loop-i.i [])) 1 0
-  marked = c.mark-count.ensures
-      ∙ ap (λ w. cond (is_among (to_z w64 (of_z w64 c.args.from)) (to_z w64 (of_z w64 c.args.to)) w) 1 0) (to_z-of_z w64 c.word_at.result fits ∙ c.word_at.ensures)
-
-  counted : c.loop-i.count + c.mark-count.result ≡ count_by p (take (c.loop-i.i + 1) c.args.self.now.rows)
-  counted = omega (arith, marked, c.loop-i.invariant.count, count-more p c.args.self.now.rows c.loop-i.i [] below)
-
-pub loop-i-preserved : goal.loop-i-preserved
-loop-i-preserved c = record {
-  count = counted c;
-  words = All-more (λ (row : Row). FitsSigned w64 (column_word c.args.column row)) c.args.self.now.rows c.loop-i.i [] (below c) c.loop-i.invariant.words (subst (FitsSigned w64) c.word_at.ensures (fits c));
-}
-
-pub overflow_add-count : goal.overflow_add-count
-overflow_add-count c = omega (arith, counted c, count_by-le-length (p c) (take (c.loop-i.i + 1) c.args.self.now.rows), length-take (c.loop-i.i + 1) c.args.self.now.rows, c.rows-i-end.ensures)
-
-pub returns : goal.returns
-returns c =
+pub returns-in-Some-clause-count : goal.returns-in-Some-clause-count
+returns-in-Some-clause-count c =
     let from = c.ranges.from in
     let to = c.ranges.to in
-    let all = take_all c.loop-i.i c.args.self.now.rows (omega (arith, c.loop-i-test.false, c.rows-i-end.ensures.count)) in
-    record {
-      count = c.loop-i.invariant.count ∙ simp to_z-of_z (ap (count_by (has_among c.args.column c.args.from c.args.to)) all);
-      words = subst (HaveColumnWords c.args.column) all c.loop-i.invariant.words;
-    }
+    let count = simp to_z-of_z at c.count_in_range.ensures in
+    let words_are = kept-words c.self.inside.columns c.self.inside.rows c.args.column c.self.inside.pages.words c.self.inside.narrow c.in-Some.words.now c.self.invariant.narrow c.in-Some.ensures in
+    subst (λ (heap : HeapState). c.count_in_range.result ≡ count_by (has_among c.args.column c.args.from c.args.to) heap.rows) c.self.view_is
+    (
+    count ∙ ap (count_by (is_among c.args.from c.args.to)) words_are
+    ∙ count-among c.args.from c.args.to c.self.inside.columns c.args.column c.self.inside.rows c.self.inside.pages.words (inside c.before) (filled c.before)
+    )
+
+pub returns-in-Some-clause-words : goal.returns-in-Some-clause-words
+returns-in-Some-clause-words c =
+    subst (λ (heap : HeapState). HaveColumnWords c.args.column heap.rows) c.self.view_is
+    (column-fits c.self.inside.columns c.args.column c.self.inside.rows c.self.inside.pages.words (inside c.before) (filled c.before) c.self.invariant.fit)
+
+pub returns-in-None-clause-count : goal.returns-in-None-clause-count
+returns-in-None-clause-count c =
+    let from = c.ranges.from in
+    let to = c.ranges.to in
+    simp to_z-of_z at c.count_on_pages.ensures.count

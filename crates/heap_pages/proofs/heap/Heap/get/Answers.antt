@@ -6,11 +6,11 @@ use Rattle.heap_pages.proofs.heap.Heap.get.Goals as goal
 
 module _ (c : goal.After-self) where
   per_page : c.self.inside.per_page ≡ rows_per_page c.args.self.now.columns
-  per_page = c.self.invariant.full_page ∙ ap (λ heap. rows_per_page heap.columns) c.self.view_is
+  per_page = c.self.invariant.laid.full_page ∙ ap (λ heap. rows_per_page heap.columns) c.self.view_is
 
   around : (c.page_of-number.result * c.self.inside.per_page ≤ c.args.i) × (c.args.i < c.page_of-number.result * c.self.inside.per_page + c.self.inside.per_page)
   around =
-      page_around c.args.i c.self.inside.per_page c.page_of-number.result (some_rows _ _ _ _ _ _ c.self.invariant)
+      page_around c.args.i c.self.inside.per_page c.page_of-number.result (some_rows _ _ _ _ _ _ c.self.invariant.laid)
       (c.page_of-number.ensures ∙ ap (λ n. c.args.i / n) (sym per_page))
 
   place : c.page_of-number.result * rows_per_page c.args.self.now.columns + (c.args.i - c.page_of-number.result * c.self.inside.per_page) ≡ c.args.i

@@ -1,52 +1,52 @@
--- One row more, before those that are marked.
-use Rattle.std.proofs.Common.{Bool, ◌≡◌, List, ◌≤◌, ◌+◌, ◌-◌, ◌^◌, ◌<◌, ◌∷◌, [], drop, map, ap, sym, ◌∙◌, arith, FitsSigned, w64, get_or, subst, cond, rules, to_z, of_z}
+-- The column has the words of the rows.
+use Rattle.std.proofs.Common.{◌≡◌, ◌+◌, ◌<◌, ◌≤◌, ◌*◌, FitsSigned, w64, length, map, take, drop, sym, ap, subst, ◌∙◌, arith}
 use Rattle.std.proofs.lemmas.Int.{to_z-of_z}
-use Rattle.std.proofs.lemmas.List.Elements.{All-cons}
+use Rattle.std.proofs.lemmas.List.Elements.{All-take, All-drop}
 use Rattle.narrow_columns.specs.Marks.{is_among, marks_of}
-use Rattle.heap_pages.specs.Rows.{Row}
-use Rattle.heap_pages.specs.Spans.{HaveColumnWords, has_among, rows_of_span, column_word}
-use Rattle.heap_pages.proofs.MarkedRows.{drop-span, mark-le, length-drop-span, marks_of-short}
+use Rattle.narrow_columns.specs.Rows.{words_of_column}
+use Rattle.heap_pages.specs.Rows.{HeapState, Row, cut_rows}
+use Rattle.heap_pages.specs.Spans.{HaveColumnWords, column_word, has_among, rows_of_span}
+use Rattle.heap_pages.proofs.ColumnWords.{column-fits, kept-words, length-words_of_column, span-among}
+use Rattle.heap_pages.proofs.CutRows.{length-cut_rows}
 use Rattle.heap_pages.proofs.heap.Heap.marks.Goals as goal
 
-module _ (c : goal.After-word_at-word) where
-  abbrev p : Row → Bool
-  p = has_among c.args.column (to_z w64 (of_z w64 c.args.from)) (to_z w64 (of_z w64 c.args.to))
+module _ (c : goal.In-Some) where
+  inside : c.args.column < c.self.inside.columns
+  inside = subst (λ (heap : HeapState). c.args.column < heap.columns) (sym c.self.view_is) c.requires.column
 
-  small : c.loop-left.marks < 2 ^ 63
-  small =
-      let short = length-drop-span c.args.span c.args.self.now.rows c.loop-left.left in
-      rw c.loop-left.invariant.marks (marks_of-short p (drop c.loop-left.left (rows_of_span c.args.span c.args.self.now.rows)) (omega (arith, short, c.requires.few, c.loop-left-test.true)))
+  filled : c.self.inside.rows * c.self.inside.columns ≤ length c.self.inside.pages.words
+  filled = omega (arith, c.self.invariant.laid.words_fill_rows)
 
-module _ (c : goal.After-mark) where
-  abbrev row : Row
-  row = get_or c.args.self.now.rows (c.args.span.first + (c.loop-left.left - 1)) []
+  words_are : c.in-Some.words.now.words ≡ words_of_column c.self.inside.columns c.args.column c.self.inside.rows c.self.inside.pages.words
+  words_are = kept-words c.self.inside.columns c.self.inside.rows c.args.column c.self.inside.pages.words c.self.inside.narrow c.in-Some.words.now c.self.invariant.narrow c.in-Some.ensures
 
-  fits : FitsSigned w64 c.word_at-word.result
-  fits = search rules
+pub marks-requires-clause-there : goal.marks-requires-clause-there
+marks-requires-clause-there c =
+    let there = subst (λ (heap : HeapState). c.args.span.first + c.args.span.count ≤ length heap.rows) (sym c.self.view_is) c.requires.there in
+    omega (
+      arith,
+      there,
+      length-cut_rows c.self.inside.columns c.self.inside.rows c.self.inside.pages.words,
+      ap length (words_are c),
+      length-words_of_column c.self.inside.columns c.args.column c.self.inside.rows c.self.inside.pages.words,
+    )
 
-  marked : c.mark.result ≡ cond (p c.before row) 1 0
-  marked = c.mark.ensures
-      ∙ ap (λ w. cond (is_among (to_z w64 (of_z w64 c.args.from)) (to_z w64 (of_z w64 c.args.to)) w) 1 0) (to_z-of_z w64 c.word_at-word.result fits ∙ c.word_at-word.ensures)
+pub returns-in-Some-clause-marks : goal.returns-in-Some-clause-marks
+returns-in-Some-clause-marks c =
+    let from = c.ranges.from in
+    let to = c.ranges.to in
+    let marks = simp to_z-of_z at c.marks.ensures in
+    subst (λ (heap : HeapState). c.marks.result ≡ marks_of (map (has_among c.args.column c.args.from c.args.to) (rows_of_span c.args.span heap.rows))) c.self.view_is
+    (
+    marks
+    ∙ ap (λ ws. marks_of (map (is_among c.args.from c.args.to) (take c.args.span.count (drop c.args.span.first ws)))) (words_are c.before)
+    ∙ ap marks_of (span-among c.args.from c.args.to c.self.inside.columns c.args.column c.self.inside.rows c.self.inside.pages.words c.args.span (inside c.before) (filled c.before))
+    )
 
-  next : drop (c.loop-left.left - 1) (rows_of_span c.args.span c.args.self.now.rows) ≡ row ∷ drop c.loop-left.left (rows_of_span c.args.span c.args.self.now.rows)
-  next =
-      let up : c.loop-left.left - 1 + 1 ≡ c.loop-left.left = omega (arith, c.loop-left-test.true) in
-      drop-span c.args.span c.args.self.now.rows (c.loop-left.left - 1) [] (omega (arith, c.loop-left-test.true, c.loop-left.invariant.fits)) c.requires.there
-      ∙ ap (λ k. row ∷ drop k (rows_of_span c.args.span c.args.self.now.rows)) up
-
-pub overflow_mul-marks : goal.overflow_mul-marks
-overflow_mul-marks c = omega (arith, small c)
-
-pub overflow_add-marks : goal.overflow_add-marks
-overflow_add-marks c =
-    let least : cond (p c.before (row c)) 1 0 ≤ 1 = mark-le (p c.before (row c)) in
-    omega (arith, small c.before, marked c, least)
-
-pub loop-left-preserved : goal.loop-left-preserved
-loop-left-preserved c = record {
-  fits = omega (arith, c.loop-left.invariant.fits);
-  marks =
-      let all = ap (λ (rows : List Row). marks_of (map (p c.before) rows)) (next c) in
-      omega (arith, all, marked c, c.loop-left.invariant.marks);
-  words = subst (HaveColumnWords c.args.column) (sym (next c)) (All-cons (λ (row : Row). FitsSigned w64 (column_word c.args.column row)) (row c) (drop c.loop-left.left (rows_of_span c.args.span c.args.self.now.rows)) (subst (FitsSigned w64) c.word_at-word.ensures (fits c)) c.loop-left.invariant.words);
-}
+pub returns-in-Some-clause-words : goal.returns-in-Some-clause-words
+returns-in-Some-clause-words c =
+    let rows = cut_rows c.self.inside.columns c.self.inside.rows c.self.inside.pages.words in
+    let fits = λ (row : Row). FitsSigned w64 (column_word c.args.column row) in
+    subst (λ (heap : HeapState). HaveColumnWords c.args.column (rows_of_span c.args.span heap.rows)) c.self.view_is
+    (All-take fits c.args.span.count (drop c.args.span.first rows) (All-drop fits c.args.span.first rows
+    (column-fits c.self.inside.columns c.args.column c.self.inside.rows c.self.inside.pages.words (inside c.before) (filled c.before) c.self.invariant.fit)))

@@ -14,7 +14,7 @@ module _ (c : goal.After-self) where
 
 pub words_at-requires-clause-there : goal.words_at-requires-clause-there
 words_at-requires-clause-there c =
-    omega (arith, words_end _ _ _ _ _ _ c.self.invariant c.args.no c.rows_on_page-rows.result (there c) (count c))
+    omega (arith, words_end _ _ _ _ _ _ c.self.invariant.laid c.args.no c.rows_on_page-rows.result (there c) (count c))
 
 module _ (c : goal.After-words_at) where
   words : c.words_at.result.now ≡ take (c.rows_on_page-rows.result * c.self.inside.columns) (drop (c.args.no * c.self.inside.pages.size) c.self.inside.pages.words)
@@ -25,9 +25,9 @@ module _ (c : goal.After-words_at) where
 pub returns-clause-filled : goal.returns-clause-filled
 returns-clause-filled c =
     rw (← c.self.view_is, length-cut_rows c.self.inside.columns c.self.inside.rows c.self.inside.pages.words, ← count c.before)
-    (filled _ _ _ _ _ _ c.self.invariant c.args.no c.rows_on_page-rows.result (there c.before) (count c.before) c.words_at.result.now (words c))
+    (filled _ _ _ _ _ _ c.self.invariant.laid c.args.no c.rows_on_page-rows.result (there c.before) (count c.before) c.words_at.result.now (words c))
 
 pub returns-clause-rows : goal.returns-clause-rows
 returns-clause-rows c =
     rw (← c.self.view_is, length-cut_rows c.self.inside.columns c.self.inside.rows c.self.inside.pages.words, ← count c.before)
-    (slots _ _ _ _ _ _ c.self.invariant c.args.no c.rows_on_page-rows.result (there c.before) (count c.before) c.words_at.result.now (words c))
+    (slots _ _ _ _ _ _ c.self.invariant.laid c.args.no c.rows_on_page-rows.result (there c.before) (count c.before) c.words_at.result.now (words c))

@@ -1,6 +1,7 @@
 -- Rows past the limit are refused, and where memory runs out, all stays as it was.
 use Rattle.std.proofs.Common.{◌+◌, length, sym, ap, subst, ◌∙◌, arith}
-use Rattle.heap_pages.specs.Layout.{IsLaidOut, PagesState}
+use Rattle.heap_pages.specs.Columns.{AreHeapParts}
+use Rattle.heap_pages.specs.Layout.{PagesState}
 use Rattle.heap_pages.specs.Rows.{HeapState, cut_rows}
 use Rattle.heap_pages.proofs.CutRows.{length-cut_rows}
 use Rattle.heap_pages.proofs.Refusals.{limit_kept, limit_of_memory, limit_told, unchanged_on}
@@ -13,7 +14,8 @@ returns-then-value-gt-MAX_ROWS-clause-limit c =
 
 pub invariant_of-self : goal.invariant_of-self
 invariant_of-self c =
-    subst (λ (pages : PagesState). IsLaidOut c.self.inside.columns c.self.inside.per_page c.self.inside.reciprocal c.self.inside.rows c.self.inside.spare pages) (sym c.in_err-reach.ensures.unchanged) c.self.invariant
+    subst (λ (pages : PagesState). AreHeapParts c.self.inside.columns c.self.inside.per_page c.self.inside.reciprocal c.self.inside.rows c.self.inside.spare pages c.self.inside.narrow)
+    (sym c.in_err-reach.ensures.unchanged) c.self.invariant
 
 pub returns-in_err-reach-clause-reserved : goal.returns-in_err-reach-clause-reserved
 returns-in_err-reach-clause-reserved c =

@@ -11,7 +11,7 @@ wide : (c : goal.After-get) → c.args.column < length c.get.result.now
 wide c =
     let here = subst (λ (heap : HeapState). slice_get heap.rows c.args.i ≡ Some c.get.result.now) (sym c.self.view_is) c.get.ensures in
     let below = subst (λ (heap : HeapState). c.args.i < length heap.rows) (sym c.self.view_is) c.requires.there in
-    let width = cut_row-wide c.self.inside.columns c.self.inside.rows c.args.i c.self.inside.pages.words c.get.result.now c.self.invariant.words_fill_rows
+    let width = cut_row-wide c.self.inside.columns c.self.inside.rows c.args.i c.self.inside.pages.words c.get.result.now c.self.invariant.laid.words_fill_rows
     (omega (arith, below, length-cut_rows c.self.inside.columns c.self.inside.rows c.self.inside.pages.words)) here in
     omega (arith, width, c.requires.column, ap (λ (heap : HeapState). heap.columns) c.self.view_is)
 

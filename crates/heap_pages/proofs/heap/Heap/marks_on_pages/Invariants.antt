@@ -2,7 +2,7 @@
 use Rattle.std.proofs.Common.{◌≡◌, ◌≤◌, drop, map}
 use Rattle.narrow_columns.specs.Marks.{marks_of}
 use Rattle.heap_pages.specs.Spans.{HaveColumnWords, has_among, rows_of_span}
-use Rattle.heap_pages.proofs.heap.Heap.marks.Given as goal
+use Rattle.heap_pages.proofs.heap.Heap.marks_on_pages.Given as goal
 
 abbrev pub invariant-loop-left : goal.invariant-loop-left
 invariant-loop-left l = record {
