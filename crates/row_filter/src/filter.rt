@@ -1,0 +1,148 @@
+// A relation's filter made ready for many rows. What stands in it is asked once, and not for each row.
+ghost use Rattle.std.specs.Prelude.{◌≡◌, ◌+◌, ◌^◌, ◌≤◌, [], ◌∷◌, ◌++◌, All, IfSome, List, count_by, false, length, map};
+ghost use Rattle.sql_values.specs.Limits.{max_columns};
+ghost use Rattle.query_block.specs.Blocks.{FitsColumns};
+ghost use Rattle.query_block.specs.Conditions.{FilterTree, filter_tree};
+ghost use Rattle.query_block.specs.Meaning.{meets_filter};
+ghost use Rattle.query_block.specs.Parameters.{fixed_of, is_open};
+ghost use Rattle.heap_pages.specs.Spans.{rows_of_span};
+ghost use Rattle.db_catalog.specs.Database.{table_at};
+ghost use Rattle.row_filter.specs.RowFilters.{AreMarks, FilterRanges, IsFilterIn, IsFilterOf, IsRowFilter, IsSpanIn, PutsRange};
+
+use crate::known::known_words;
+use db_catalog::{ColumnRange, Database, RowMarks, RowSpan};
+use query_block::{Condition, is_open};
+use sql_values::{ColumnType, Texts};
+use std::marker::Model;
+
+/// The most conditions that ranges tell. More of them are asked of each row.
+const MOST_RANGES: usize = 8;
+
+const NO_RANGE: ColumnRange = ColumnRange {
+    column: 0,
+    from: i64::MAX,
+    to: i64::MIN,
+};
+
+/// Of some conditions of a filter the ranges of words that tell which rows meet them.
+#[derive(Drop)]
+pub struct RowFilter {
+    ranges: [ColumnRange; MOST_RANGES],
+    count: usize,
+    exact: bool,
+}
+
+impl Model for RowFilter {
+    ghost use Rattle.std.specs.Prelude.{◌≤◌, take};
+    ghost use Rattle.row_filter.specs.RowFilters.{FilterRanges};
+
+    ghost Value = { FilterRanges };
+
+    ghost view = { λ f. record { ranges = take f.count f.ranges; exact = f.exact } };
+
+    ghost invariant = { λ f. f.count ≤ 8 };
+}
+
+// Marks of so many rows.
+fn every_row(count: usize) -> u64
+    requires { count ≤ 64 }
+    ensures { result + 1 ≡ 2 ^ count }
+{
+    if count == 64 {
+        return u64::MAX;
+    }
+    (1 << count) - 1
+}
+
+impl RowFilter {
+    // PutsRange a range behind the others. Where there is no room, the condition isn't told by one.
+    fn put(&mut self, found: ColumnRange)
+        ensures { PutsRange found self.old self.new }
+    {
+        if self.count == MOST_RANGES {
+            self.exact = false;
+            return;
+        }
+        self.ranges[self.count] = found;
+        self.count += 1;
+    }
+
+    // Takes in a condition behind the others. One with a parameter is left out.
+    fn take_in(&mut self, columns: &[ColumnType], condition: &Condition, texts: &Texts)
+        requires few { length columns.now ≤ max_columns }
+        requires fits { is_open (filter_tree condition.now) ≡ false
+            → FitsColumns [] columns.now (filter_tree condition.now) }
+        ensures { (conditions : List FilterTree)
+            → IsRowFilter texts.now columns.now conditions self.old
+            → IsRowFilter texts.now columns.now
+            (conditions ++ filter_tree condition.now ∷ []) self.new }
+    {
+        if is_open(condition) {
+            return;
+        }
+        match known_words(columns, condition, texts) {
+            Some(found) => self.put(found),
+            None => self.exact = false,
+        }
+    }
+
+    /// The filter of these conditions, of which those without a parameter count.
+    pub fn new(columns: &[ColumnType], conditions: &[Condition], texts: &Texts) -> RowFilter
+        requires few { length columns.now ≤ max_columns }
+        requires fit { All (FitsColumns [] columns.now)
+            (fixed_of (map filter_tree conditions.now)) }
+        ensures { IsRowFilter texts.now columns.now (map filter_tree conditions.now) result }
+    {
+        let mut filter = RowFilter {
+            ranges: [NO_RANGE; MOST_RANGES],
+            count: 0,
+            exact: true,
+        };
+        for condition in conditions {
+            filter.take_in(columns, condition, texts);
+        }
+        filter
+    }
+
+    /// Marks of the rows of a span, of at most 64: bit k stands for the row k places behind the first. Each row that meets
+    /// every condition without a parameter has one. A filter without ranges marks all of them.
+    pub fn marks<R: RowMarks>(&self, rows: &R, table: u32, span: RowSpan) -> u64
+        requires filter { IsFilterIn (R.database rows.now) table self.now }
+        requires span { IsSpanIn (R.database rows.now) table span }
+        ensures { (conditions : List FilterTree)
+            → IsFilterOf (R.database rows.now) table conditions self.now
+            → AreMarks conditions self.now.exact
+            (rows_of_span span (table_at (R.database rows.now) table).rows) result }
+    {
+        let mut marks = every_row(span.count);
+        for found in &self.ranges[..self.count] {
+            marks &= rows.marks(table, *found, span);
+            if marks == 0 {
+                return 0;
+            }
+        }
+        marks
+    }
+
+    /// How many rows of a table meet every condition without a parameter, where one range tells which do.
+    pub fn count(&self, db: &Database, table: u32) -> Option<u64>
+        requires { IsFilterIn db.now table self.now }
+        ensures { (conditions : List FilterTree) → IsFilterOf db.now table conditions self.now
+            → IfSome result (λ count. count ≡ count_by (meets_filter (fixed_of conditions))
+            (table_at db.now table).rows) }
+    {
+        let ranges = &self.ranges[..self.count];
+        if !self.exact || ranges.len() != 1 {
+            return None;
+        }
+        Some(db.count_in_range(table, ranges[0]))
+    }
+
+    /// Whether the marks are exactly those of the rows that meet each condition without a parameter.
+    #[inline]
+    pub fn is_exact(&self) -> bool
+        ensures { result ≡ self.now.exact }
+    {
+        self.exact
+    }
+}
