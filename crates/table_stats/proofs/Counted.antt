@@ -1,18 +1,19 @@
--- Rows that are counted one after another, page after page, or by the entries of an index.
-use Rattle.std.proofs.Common.{◌≡◌, ℕ, ℤ, ◌+◌, ◌*◌, ◌^◌, ◌<◌, ◌≤◌, Bool, true, false, List, [], ◌++◌, length, map, filter, count_by, get_or, take, drop, cond, Fits, w64, sym, ap, ap₂, ◌∙◌, inl, inr, refl, arith}
+-- Rows that are counted one after another, block after block, or by the entries of an index.
+use Rattle.std.proofs.Common.{◌≡◌, ℕ, ℤ, ◌+◌, ◌*◌, ◌^◌, ◌<◌, ◌≤◌, Bool, true, false, List, ◌++◌, length, map, filter, count_by, get_or, take, drop, cond, Fits, w64, sym, ap, ap₂, ◌∙◌, inl, inr, refl, arith}
 use mir.Val.{bool_byte}
 use Rattle.std.specs.Prelude.{IsTrue, min}
-use Rattle.std.proofs.Math.Nat.{mul-le-mul_right}
+use Rattle.std.specs.Int.{div_ceil}
 use Rattle.std.proofs.Math.Seq.{take-add}
 use Rattle.std.proofs.lemmas.Bool.{cases_Bool}
-use Rattle.std.proofs.lemmas.List.{get_or-drop, length-append, length-drop, length-take, take_min, take_all}
+use Rattle.std.proofs.lemmas.Grind.{div_ceil_times}
+use Rattle.std.proofs.lemmas.List.{length-append, length-drop, length-take, take_min, take_all}
 use Rattle.std.proofs.lemmas.List.Elements.{filter-append}
 use Rattle.std.proofs.lemmas.List.Sums.{count_by_more_yes, count_by_more_no, count_by-le-length, length-filter}
 use Rattle.std.proofs.lemmas.List.Sorted.{length_permutation}
 use Rattle.sql_values.specs.Words.{word_of}
 use Rattle.sql_values.specs.Stored.{ValueRow, StandsFor}
-use Rattle.heap_pages.specs.Rows.{pages_of, rows_on_page, rows_per_page, row_number}
-use Rattle.heap_pages.proofs.PageStarts.{pages_enough}
+use Rattle.heap_pages.specs.Spans.{rows_of_span}
+use Rattle.heap_pages.specs.declared.spans.RowSpan.{RowSpan}
 use Rattle.query_block.specs.Blocks.{RelationTree}
 use Rattle.query_block.specs.Meaning.{meets_filter}
 use Rattle.query_block.specs.Parameters.{fixed_of}
@@ -27,6 +28,7 @@ use Rattle.db_catalog.specs.Indexes.{index_at, row_of_entry}
 use Rattle.db_catalog.proofs.IndexEntries.{found-rows}
 use Rattle.db_catalog.proofs.OfRelations.{relation_words, relation_values}
 use Rattle.db_catalog.proofs.Picked.{in-range}
+use Rattle.table_stats.specs.Kept.{IsRowBlock}
 use Rattle.table_stats.specs.Narrow.{uses_some}
 use Rattle.db_catalog.specs.ColumnRanges.{AreStored}
 use Rattle.table_stats.proofs.Fixed.{fixed-part}
@@ -68,52 +70,30 @@ pub step-fits : {X : Type 0} (test : X → Bool) (xs : List X) (i most : ℕ) (b
 step-fits test xs i most b kept more so_far is below few =
     record { fits = omega (arith, so_far, is, byte-few b, count_by-le-length test (take i xs), length-take i xs, below, few) }
 
--- ---- the slots of a page
-
-pub slot-ends : (slot rows width n : ℕ) → slot < rows → n ≡ rows * width → slot * width + width ≤ n
-slot-ends slot rows width n below is =
-    let upto : (slot + 1) * width ≤ rows * width = mul-le-mul_right width (omega (arith, below)) in
-    omega (arith, is, upto)
-
--- the row in a slot of a page is that one among the rows from the page's begin on
-module _ (columns page slot : ℕ) (rows : List ValueRow) (below : slot < rows_on_page columns (length rows) page) where
-  pub slot-there : slot < length (drop (row_number columns page 0) rows)
-  slot-there = omega (arith, below, length-drop (row_number columns page 0) rows)
-
-  pub slot-row : get_or (drop (row_number columns page 0) rows) slot [] ≡ get_or rows (row_number columns page slot) []
-  slot-row =
-      let place : row_number columns page 0 + slot ≡ row_number columns page slot = omega arith in
-      get_or-drop (row_number columns page 0) rows slot [] ∙ ap (λ n. get_or rows n []) place
-
--- ---- one page more
-
-count-append : {X : Type 0} (test : X → Bool) (xs ys : List X) → count_by test (xs ++ ys) ≡ count_by test xs + count_by test ys
+pub count-append : {X : Type 0} (test : X → Bool) (xs ys : List X) → count_by test (xs ++ ys) ≡ count_by test xs + count_by test ys
 count-append test xs ys =
     sym (length-filter test (xs ++ ys)) ∙ ap length (filter-append test xs ys) ∙ length-append (filter test xs) (filter test ys)
     ∙ ap₂ (λ m n. m + n) (length-filter test xs) (length-filter test ys)
 
-module _ (test : ValueRow → Bool) (columns : ℕ) (rows : List ValueRow) where
-  -- the rows on a page are as many as there are behind its begin, but for those of the pages behind
-  page-rows : (page : ℕ) → take (rows_on_page columns (length rows) page) (drop (row_number columns page 0) rows) ≡ take (rows_per_page columns) (drop (row_number columns page 0) rows)
-  page-rows page =
-      let begin = row_number columns page 0 in
-      let left : rows_on_page columns (length rows) page ≡ min (rows_per_page columns) (length (drop begin rows)) = omega (arith, length-drop begin rows) in
-      ap (λ n. take n (drop begin rows)) left ∙ take_min (rows_per_page columns) (drop begin rows)
+-- ---- a block of 64 rows more
 
-  pub page-more : (page kept more : ℕ) → kept ≡ count_by test (take (row_number columns page 0) rows)
-      → more ≡ count_by test (take (rows_on_page columns (length rows) page) (drop (row_number columns page 0) rows))
-      → kept + more ≡ count_by test (take (row_number columns (page + 1) 0) rows)
-  page-more page kept more so_far is =
-      let begin = row_number columns page 0 in
-      let next : row_number columns (page + 1) 0 ≡ begin + rows_per_page columns = grind arith in
-      ap₂ (λ m n. m + n) so_far (is ∙ ap (count_by test) (page-rows page))
-      ∙ sym (count-append test (take begin rows) (take (rows_per_page columns) (drop begin rows)))
-      ∙ ap (count_by test) (sym (take-add begin (rows_per_page columns) rows) ∙ ap (λ n. take n rows) (sym next))
+module _ (test : ValueRow → Bool) (rows : List ValueRow) where
+  pub block-more : (n block kept more : ℕ) (span : RowSpan) → n ≡ length rows → IsRowBlock n block span → kept ≡ count_by test (take (block * 64) rows) → more ≡ count_by test (rows_of_span span rows)
+      → kept + more ≡ count_by test (take ((block + 1) * 64) rows)
+  block-more n block kept more span all is so_far counted =
+      let begin = block * 64 in
+      let left : span.count ≡ min 64 (length (drop begin rows)) = omega (arith, all, is.count, length-drop begin rows) in
+      let those : rows_of_span span rows ≡ take 64 (drop begin rows) = (λ k. take (left k) (drop (is.first k) rows)) ∙ take_min 64 (drop begin rows) in
+      let next : (block + 1) * 64 ≡ begin + 64 = omega arith in
+      (λ k. so_far k + (counted ∙ ap (count_by test) those) k)
+      ∙ sym (count-append test (take begin rows) (take 64 (drop begin rows)))
+      ∙ ap (count_by test) (sym (take-add begin 64 rows) ∙ ap (λ n. take n rows) (sym next))
 
-  pub pages-all : (pages page : ℕ) → 1 ≤ rows_per_page columns → pages ≡ pages_of columns (length rows) → pages ≤ page → take (row_number columns page 0) rows ≡ rows
-  pages-all pages page some is past =
-      let enough : length rows ≤ page * rows_per_page columns = pages_enough (length rows) (rows_per_page columns) page some (omega (arith, is, past)) in
-      take_all (row_number columns page 0) rows (omega (arith, enough))
+  -- behind the last one there is none
+  pub blocks-all : (n block : ℕ) → n ≡ length rows → div_ceil n 64 ≤ block → take (block * 64) rows ≡ rows
+  blocks-all n block all past =
+      let enough = (div_ceil_times n 64 (omega arith)).0 in
+      take_all (block * 64) rows (omega (arith, enough, past, all))
 
 -- so many at the most
 pub few-counted : (test : ValueRow → Bool) (rows : List ValueRow) (n : ℕ) → count_by test (take n rows) ≤ length rows

@@ -5,4 +5,5 @@ pub mod Ready
 pub mod Fixed
 pub mod Matches
 pub mod Counted
+pub mod Marked
 pub mod Told

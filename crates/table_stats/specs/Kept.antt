@@ -1,6 +1,7 @@
 -- Over which database a filter is ready, and the rows that it is tried on.
-use Rattle.std.specs.Prelude.{◌≡◌, ◌≤◌, length}
+use Rattle.std.specs.Prelude.{◌≡◌, ℕ, ◌-◌, ◌*◌, ◌≤◌, length, min}
 use Rattle.sql_values.specs.Limits.{max_rows}
+use Rattle.heap_pages.specs.declared.spans.RowSpan.{RowSpan}
 use Rattle.query_block.specs.Blocks.{RelationTree}
 use Rattle.db_catalog.specs.Database.{DatabaseState, table_at}
 use Rattle.db_catalog.specs.Fits.{FitsTable}
@@ -18,3 +19,8 @@ pub record IsOver (database : DatabaseState) (filter : ReadyFilter) : Type 0 whe
   pub fits : FitsTable database (own filter)
   pub texts : filter.texts.now ≡ database.texts
   pub few : length (table_at database (own filter).table).rows ≤ max_rows
+
+-- of so many rows the block of this number, from 0: 64 rows, or those that are left
+pub record IsRowBlock (rows block : ℕ) (span : RowSpan) : Type 0 where
+  pub first : span.first ≡ block * 64
+  pub count : span.count ≡ min (rows - block * 64) 64

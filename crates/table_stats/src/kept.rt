@@ -1,48 +1,104 @@
 // How many rows of a relation's table the fixed conjuncts of its filter keep. They are found through a range of an index, or
-// page by page; both ways lead to one number.
-ghost use Rattle.std.specs.Prelude.{◌≡◌, ◌<◌, Contains, IsTrue, count_by, drop, length, take};
+// among all rows, 64 at a time; both ways lead to one number.
+ghost use Rattle.std.specs.Prelude.{◌≡◌, ◌*◌, ◌<◌, false, Contains, IfSome, IsTrue, count_by, length};
 ghost use Rattle.cost_model.specs.Counts.{relation_stats_of};
-ghost use Rattle.heap_pages.specs.Rows.{row_number};
+ghost use Rattle.heap_pages.specs.Spans.{rows_of_span};
 ghost use Rattle.db_catalog.specs.Database.{table_at};
-ghost use Rattle.db_catalog.specs.Meter.{page_rows, table_pages};
-ghost use Rattle.table_stats.specs.Kept.{IsOver};
+ghost use Rattle.row_filter.specs.RowFilters.{AreMarks, IsFilterOf, IsSpanIn};
+ghost use Rattle.table_stats.specs.Kept.{IsRowBlock, IsOver};
 ghost use Rattle.table_stats.specs.Narrow.{uses_some};
 ghost use Rattle.table_stats.specs.Ready.{is_kept, own};
 
 use crate::filter::ReadyFilter;
-use db_catalog::{Database, row_in};
+use db_catalog::{Database, RowSpan};
 use plan_tree::range_of;
+use row_filter::RowFilter;
 
-// Among the rows on one page.
-fn kept_on_page(db: &Database, filter: &ReadyFilter<'_>, no: u64) -> u64
+// How many rows are marked at a time.
+const BLOCK: u64 = 64;
+
+// Among the marked rows of a span: the mark of the row that comes next is the lowest bit.
+fn kept_of_marked(db: &Database, filter: &ReadyFilter<'_>, span: RowSpan, marks: u64) -> u64
     requires over { IsOver db.now filter.now }
-    requires page { no < table_pages db.now filter.now.relation.now.table }
-    ensures { let table = table_at db.now filter.now.relation.now.table in
-        result ≡ count_by (is_kept filter.now)
-        (take (page_rows db.now filter.now.relation.now.table no)
-        (drop (row_number (length table.columns) no 0) table.rows)) }
+    requires span { IsSpanIn db.now filter.now.relation.now.table span }
+    requires marks { AreMarks (own filter.now).filter false
+        (rows_of_span span (table_at db.now filter.now.relation.now.table).rows) marks }
+    ensures { result ≡ count_by (is_kept filter.now)
+        (rows_of_span span (table_at db.now filter.now.relation.now.table).rows) }
 {
     let table = filter.relation.table;
-    let width = db.columns(table).len();
-    let words = db.plain_page(table, no);
-    let known = filter.some_range();
+    let mut left = marks;
+    let mut behind = 0;
     let mut kept = 0;
-    for slot in 0..db.rows_on_page(table, no) {
-        kept += u64::from(filter.keeps(known, row_in(words, width, slot)));
+    while left != 0 {
+        let unmarked = left.trailing_zeros();
+        let place = behind + u64::from(unmarked);
+        let row = db.plain_row(table, span.first + place);
+        kept += u64::from(filter.keeps(row));
+        left = left >> unmarked >> 1;
+        behind = place + 1;
     }
     kept
 }
 
-/// Among all rows, page by page.
-pub(crate) fn kept_in_pages(db: &Database, filter: &ReadyFilter<'_>) -> u64
+// Among the rows of a span. Where ranges tell the whole filter, these are the marked ones.
+fn kept_in_span(db: &Database, filter: &ReadyFilter<'_>, ranges: &RowFilter, span: RowSpan) -> u64
+    requires over { IsOver db.now filter.now }
+    requires ranges { IsFilterOf db.now filter.now.relation.now.table (own filter.now).filter
+        ranges.now }
+    requires span { IsSpanIn db.now filter.now.relation.now.table span }
+    ensures { result ≡ count_by (is_kept filter.now)
+        (rows_of_span span (table_at db.now filter.now.relation.now.table).rows) }
+{
+    let marks = ranges.marks(db, filter.relation.table, span);
+    if ranges.is_exact() {
+        return u64::from(marks.count_ones());
+    }
+    kept_of_marked(db, filter, span, marks)
+}
+
+// The rows of a block of 64, of which the last one may have fewer.
+fn span_of(rows: u64, block: u64) -> RowSpan
+    requires { block * 64 < rows }
+    ensures { IsRowBlock rows block result }
+{
+    let first = block * BLOCK;
+    RowSpan {
+        first,
+        count: (rows - first).min(BLOCK) as usize,
+    }
+}
+
+// Among all rows, block after block.
+fn kept_in_blocks(db: &Database, filter: &ReadyFilter<'_>, ranges: &RowFilter) -> u64
+    requires over { IsOver db.now filter.now }
+    requires ranges { IsFilterOf db.now filter.now.relation.now.table (own filter.now).filter
+        ranges.now }
+    ensures { result ≡ (relation_stats_of db.now.tables (own filter.now)).kept }
+{
+    let rows = db.rows(filter.relation.table);
+    let mut kept = 0;
+    for block in 0..rows.div_ceil(BLOCK) {
+        kept += kept_in_span(db, filter, ranges, span_of(rows, block));
+    }
+    kept
+}
+
+/// Among all rows, by the marks of ranges. Where one range tells the whole filter, its words are counted.
+pub(crate) fn kept_by_marks(db: &Database, filter: &ReadyFilter<'_>) -> u64
     requires { IsOver db.now filter.now }
     ensures { result ≡ (relation_stats_of db.now.tables (own filter.now)).kept }
 {
-    let mut kept = 0;
-    for no in 0..db.pages(filter.relation.table) {
-        kept += kept_on_page(db, filter, no);
+    let relation = filter.relation;
+    let ranges = RowFilter::new(
+        relation.columns.as_slice(),
+        relation.filter.as_slice(),
+        filter.texts,
+    );
+    match ranges.count(db, relation.table) {
+        Some(count) => count,
+        None => kept_in_blocks(db, filter, &ranges),
     }
-    kept
 }
 
 /// Among the rows that meet each fixed conjunct that the index on a column can use: no other row meets all of them.
@@ -54,11 +110,10 @@ pub(crate) fn kept_within(db: &Database, filter: &ReadyFilter<'_>, column: u8) -
 {
     let table = filter.relation.table;
     let range = range_of(column, filter.relation.filter.as_slice(), filter.texts);
-    let known = filter.some_range();
     let mut kept = 0;
     for entry in db.entries_within(table, column, range.from, range.to) {
         let row = db.plain_row(table, entry.1);
-        kept += u64::from(filter.keeps(known, row));
+        kept += u64::from(filter.keeps(row));
     }
     kept
 }

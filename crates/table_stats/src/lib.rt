@@ -1,7 +1,8 @@
 //! The exact counts of a block's tables, and whether counts are still those of the tables.
 //! To the layers above it promises that `stats_of` counts exactly, and refuses exactly where the tables have too many
 //! combinations of rows, and that `fresh` finds the first count that isn't what it was.
-//! It never pays for what it reads, looks at a row only where no index tells the count, and keeps nothing but the counts.
+//! It never pays for what it reads, looks at a row only where neither an index nor marks tell the count, and keeps nothing
+//! but the counts.
 #![tactic(auto)]
 
 mod fault;

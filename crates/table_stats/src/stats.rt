@@ -11,7 +11,7 @@ ghost use Rattle.table_stats.specs.Product.{first_past, row_counts};
 use crate::fault::StatsFault;
 use crate::filter::ReadyFilter;
 use crate::indexes::{index_stats, matches_of_all, narrowest};
-use crate::kept::{kept_in_pages, kept_within};
+use crate::kept::{kept_by_marks, kept_within};
 use crate::product::product_past;
 use cost_model::{IndexStats, RelationStats, Stats};
 use db_catalog::Database;
@@ -19,11 +19,12 @@ use query_block::{Block, Relation};
 use sql_values::Sequence;
 use std::alloc::{AllocError, Global};
 
-// A range that holds more than one of so many rows is wide: then a pass over all pages is quicker.
-const WIDE: u64 = 4;
+// A range that holds more than one of so many rows is wide: then marks of all rows are quicker.
+const WIDE: u64 = 16;
 
 // How many rows of its table the fixed conjuncts of a relation's filter keep. Without one these are all; where they ask for
-// nothing that an index can't use, its matches; else the rows that a narrow range of an index leads to are tried, or all.
+// nothing that an index can't use, its matches; else the rows that a narrow range of an index leads to are tried, or all rows
+// are marked.
 fn kept_rows(db: &Database, filter: &ReadyFilter<'_>, columns: &[IndexStats]) -> u64
     requires ready { IsReadyFilter filter.now }
     requires fits { FitsTable db.now (own filter.now) }
@@ -40,7 +41,7 @@ fn kept_rows(db: &Database, filter: &ReadyFilter<'_>, columns: &[IndexStats]) ->
     }
     match narrowest(filter, columns, rows / WIDE) {
         Some(index) => kept_within(db, filter, index.column),
-        None => kept_in_pages(db, filter),
+        None => kept_by_marks(db, filter),
     }
 }
 
@@ -81,7 +82,7 @@ fn all_stats(alloc: Global, db: &Database, block: &Block) -> Result<Vec<Relation
 /// The exact counts of a block's tables: of each relation the rows, the pages and the rows that the fixed conjuncts of its
 /// filter keep, and of each indexed column the height of its index and the rows in which it meets the fixed conjuncts that
 /// are usable on it. A conjunct with a parameter leaves no row out. Nothing is paid, and a row is looked at only where these
-/// conjuncts ask for more than an index tells. There are none where the product of the tables' counts of rows, each at least
+/// conjuncts ask for more than indexes and marks tell. There are none where the product of the tables' counts of rows, each at least
 /// 1, passes 2^100 on the way from left to right.
 pub fn stats_of(alloc: Global, db: &Database, block: &Block) -> Result<Stats, StatsFault>
     requires { Fits db.now (block_tree block.now) }

@@ -45,8 +45,8 @@ pub kept_within-requires-clause-indexed : goal.kept_within-requires-clause-index
 kept_within-requires-clause-indexed c =
     (of-index c.args.db.now.tables (own c.args.filter.now) c.args.columns.now c.requires.columns c.in-Some-narrowest.index c.in-Some-narrowest.ensures.0).indexed
 
-pub kept_in_pages-requires : goal.kept_in_pages-requires
-kept_in_pages-requires c = record {
+pub kept_by_marks-requires : goal.kept_by_marks-requires
+kept_by_marks-requires c = record {
   ready = c.requires.ready;
   fits = c.requires.fits;
   texts = c.requires.texts;

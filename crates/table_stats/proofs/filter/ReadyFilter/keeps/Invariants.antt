@@ -2,7 +2,7 @@ use Rattle.std.proofs.Common.{◌≡◌, drop, map}
 use Rattle.query_block.specs.Meaning.{meets_filter}
 use Rattle.sql_values.specs.Stored.{values_of}
 use Rattle.table_stats.specs.Ready.{is_kept, own_tree}
-use Rattle.table_stats.proofs.filter.ReadyFilter.meets_all.Given as goal
+use Rattle.table_stats.proofs.filter.ReadyFilter.keeps.Given as goal
 
 -- the conjuncts that aren't tried yet decide
 abbrev pub invariant-loop-conjunct : goal.invariant-loop-conjunct
