@@ -16,8 +16,7 @@ use Rattle.exec_scan.specs.declared.way.Way.{Way}
 use Rattle.exec_scan.specs.declared.way.Way.TheVariants as way
 use Rattle.exec_scan.specs.EntryReading.{EntryReaderState}
 use Rattle.exec_scan.specs.Places.{placed_row}
-use Rattle.exec_scan.specs.ColumnRanges.{is_wanted}
-use Rattle.exec_scan.specs.Reading.{HasAll, IsRelationIn, LeadsTo, column_of, read_due, work_by}
+use Rattle.exec_scan.specs.Reading.{HasAll, IsRelationIn, LeadsTo, column_of, is_wanted, read_due, work_by}
 use Rattle.exec_scan.specs.Scanning.{find_left}
 use Rattle.exec_scan.specs.OnWay.{with_emits}
 use Rattle.exec_scan.specs.State.{leaf_by}

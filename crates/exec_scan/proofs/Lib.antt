@@ -5,6 +5,6 @@ pub mod Relations
 pub mod Written
 pub mod Wanted
 pub mod Begun
-pub mod ColumnRanges
-pub mod PageRows
+pub mod MarkBits
+pub mod MarkedRows
 pub mod FoundOnPage

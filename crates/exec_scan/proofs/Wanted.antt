@@ -12,8 +12,7 @@ use Rattle.db_catalog.specs.Fits.{FitsTable}
 use Rattle.db_catalog.specs.Indexes.{index_at, index_height, row_of_entry}
 use Rattle.db_catalog.proofs.Picked.{in-range}
 use Rattle.exec_scan.specs.EntryReading.{EntryReaderState, ReadsEntry, entries_ahead, entries_at}
-use Rattle.exec_scan.specs.ColumnRanges.{is_wanted}
-use Rattle.exec_scan.specs.Reading.{IsFirstRow, descent_due, entries_to_read, wanted_due, wanted_entries, wanted_rows}
+use Rattle.exec_scan.specs.Reading.{IsFirstRow, descent_due, entries_to_read, is_wanted, wanted_due, wanted_entries, wanted_rows}
 use Rattle.exec_scan.proofs.Relations.{first-of}
 
 -- a cursor is there or not

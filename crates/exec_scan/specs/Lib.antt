@@ -3,8 +3,8 @@ pub mod OnWay
 pub mod Stepping
 pub mod TableReading
 pub mod EntryReading
-pub mod ColumnRanges
-pub mod PageRows
+pub mod NextMarks
 pub mod Reading
+pub mod TableWays
 pub mod State
 pub mod Scanning

@@ -5,6 +5,8 @@ use Rattle.work_ledger.specs.Charges.{entry_charge, fetch_charge, node_charge, o
 use Rattle.sql_values.specs.Stored.{StoredTable, ValueRow, values_of}
 use Rattle.query_block.specs.Blocks.{IsRelation, RelationTree}
 use Rattle.query_block.specs.Meaning.{meets_filter}
+use Rattle.row_filter.specs.RowFilters.{IsFilterOf}
+use Rattle.plan_tree.specs.Usable.{is_fixed_usable}
 use Rattle.plan_tree.specs.Work.{index_scan_work, scan_work, table_rows}
 use Rattle.plan_tree.specs.Left.{Left}
 use Rattle.btree_index.specs.declared.index.Cursor.{Cursor}
@@ -16,9 +18,10 @@ use Rattle.db_catalog.specs.Meter.{MeterState}
 use Rattle.db_catalog.specs.ColumnRanges.{AreStored}
 use Rattle.exec_scan.specs.declared.way.Way.{Way}
 use Rattle.exec_scan.specs.declared.way.Way.TheVariants as way
-use Rattle.exec_scan.specs.ColumnRanges.{IsKnownOf, is_wanted}
+use Rattle.exec_scan.specs.declared.table_way.TableWay.{TableWay}
 use Rattle.exec_scan.specs.EntryReading.{EntryReaderState, IsReaderOf, entries_at}
-use Rattle.exec_scan.specs.TableReading.{IsTableReader, table_ahead, table_due}
+use Rattle.exec_scan.specs.NextMarks.{AreNextMarks}
+use Rattle.exec_scan.specs.TableReading.{IsTableReader, TableReaderState, table_ahead, table_due}
 
 -- the table whose rows are read
 abbrev pub table_of : Way → ℕ
@@ -29,6 +32,10 @@ table_of (way.Index reader) = reader.table
 abbrev pub column_of : Way → Option ℕ
 column_of (way.Table table) = None
 column_of (way.Index reader) = Some reader.column
+
+-- whether a row meets every conjunct of the filter that has no parameter and that an index on the column can use
+abbrev pub is_wanted : RelationTree → (column : ℕ) → ValueRow → Bool
+is_wanted own column row = meets_filter (filter (is_fixed_usable own.columns column) own.filter) row
 
 -- of the entries of an index those that are still to be read: before the descent the wanted ones, then those ahead
 abbrev pub entries_to_read : (IndexEntry → Bool) → List IndexEntry → Option Cursor → List IndexEntry
@@ -62,15 +69,24 @@ abbrev pub read_due : DatabaseState → RelationTree → Way → Left
 read_due database own (way.Table table) = table_due database table.reader
 read_due database own (way.Index reader) = wanted_due database own reader
 
--- of the rows that aren't read yet those that meet the relation's filter
+-- the rows of its table ahead that meet its filter
+abbrev pub kept_ahead : DatabaseState → RelationTree → TableReaderState → List ValueRow
+kept_ahead database own reader = filter (meets_filter own.filter) (table_ahead database reader)
+
+-- of the rows that aren't read yet those that meet it
 abbrev pub kept_rows : DatabaseState → RelationTree → Way → List ValueRow
-kept_rows database own (way.Table table) = filter (meets_filter own.filter) (table_ahead database table.reader)
+kept_rows database own (way.Table table) = kept_ahead database own table.reader
 kept_rows database own (way.Index reader) = filter (meets_filter own.filter) (wanted_rows database own reader)
 
--- the reader stands in its table, where the words of the rows that meet the filter may be known, or in its index, which leads
--- to such words by itself
+-- the reader stands in its table; the filter is that of the relation, made ready, and the marks of the rows ahead are by it
+pub record IsTableWay (database : DatabaseState) (own : RelationTree) (table : TableWay) : Type 0 where
+  pub reader : IsTableReader database table.reader
+  pub filter : IsFilterOf database own.table own.filter table.filter
+  pub next : AreNextMarks database own.filter table.filter.exact table.reader table.next
+
+-- it stands so, or in its index
 abbrev pub IsWayIn : DatabaseState → RelationTree → Way → Type 0
-IsWayIn database own (way.Table table) = IsTableReader database table.reader × IsKnownOf database.texts own table.known
+IsWayIn database own (way.Table table) = IsTableWay database own table
 IsWayIn database own (way.Index reader) = IsReaderOf database reader
 
 -- a relation of a block, whose table is in the database and whose filter has no parameter

@@ -1,12 +1,13 @@
 -- What is seen of a reader of a whole table, what it has left to read, and what is always so of it.
-use Rattle.std.specs.Prelude.{◌≡◌, ℕ, ◌+◌, ◌-◌, ◌*◌, ◌<◌, ◌≤◌, min, Bool, true, false, List, [], length, drop}
+use Rattle.std.specs.Prelude.{◌≡◌, ℕ, ℤ, ◌+◌, ◌-◌, ◌*◌, ◌<◌, ◌≤◌, min, Bool, true, false, List, [], length, drop}
 use Rattle.sql_values.specs.Limits.{max_columns}
 use Rattle.sql_values.specs.Stored.{ValueRow}
 use Rattle.heap_pages.specs.Rows.{rows_per_page, row_number}
 use Rattle.plan_tree.specs.Left.{Left}
 use Rattle.work_ledger.specs.Charges.{page_charge}
 use Rattle.db_catalog.specs.Database.{DatabaseState, table_at}
-use Rattle.db_catalog.specs.Meter.{table_pages}
+use Rattle.db_catalog.specs.ColumnRanges.{slot_words}
+use Rattle.db_catalog.specs.Meter.{IsRowIn, table_pages}
 
 -- the table; how many pages it has, and how many of them are opened; the last of these by its number, how many rows stand
 -- on it, and how many of those are looked at
@@ -36,10 +37,19 @@ pub record IsTableReader (database : DatabaseState) (reader : TableReaderState) 
       (length (table_at database reader.table).rows)
   pub slot : reader.slot ≤ reader.slots
 
+-- the words of the rows on the page at hand, one row after another
+pub record ArePageWords (database : DatabaseState) (reader : TableReaderState) (page : List ℤ) : Type 0 where
+  pub filled : length page ≡ reader.slots * length (table_at database reader.table).columns
+  pub rows : (slot : ℕ) → slot < reader.slots → IsRowIn database reader.table reader.page slot (slot_words page (length (table_at database reader.table).columns) slot)
+
+-- the rows of the table from a slot of the page at hand on
+abbrev pub table_from : DatabaseState → TableReaderState → (slot : ℕ) → List ValueRow
+table_from database reader slot =
+    let table = table_at database reader.table in drop (row_number (length table.columns) reader.page slot) table.rows
+
 -- the rows that aren't looked at yet
 abbrev pub table_ahead : DatabaseState → TableReaderState → List ValueRow
-table_ahead database reader =
-    let table = table_at database reader.table in drop (row_number (length table.columns) reader.page reader.slot) table.rows
+table_ahead database reader = table_from database reader reader.slot
 
 -- what looking at them has left: no row comes of it alone; each page that isn't opened is due, and each row that stands on none
 -- of the opened pages

@@ -7,12 +7,12 @@
 //! It never takes memory, never copies a row that isn't given, and never reads a row unpaid.
 #![tactic(auto)]
 
-mod column_range;
 mod entry_reader;
-mod page_rows;
+mod marks;
 mod relation_place;
 mod scan_op;
 mod table_reader;
+mod table_way;
 mod way;
 
 pub use entry_reader::EntryReader;

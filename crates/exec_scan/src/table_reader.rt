@@ -1,16 +1,13 @@
 // The rows of a whole table, page after page. It relies on the meter to open each page for pay, that of all rows on it, and
 // never looks at a row twice.
-ghost use Rattle.std.specs.Prelude.{◌≡◌, IfOk, MatchOption, filter};
-ghost use Rattle.query_block.specs.Blocks.{relation_tree};
-ghost use Rattle.query_block.specs.Meaning.{meets_filter};
-ghost use Rattle.exec_scan.specs.ColumnRanges.{IsKnownOf};
-ghost use Rattle.exec_scan.specs.Reading.{IsFirstRow, IsRelationIn};
+ghost use Rattle.std.specs.Prelude.{◌≡◌, ◌+◌, ◌-◌, ◌*◌, ◌<◌, ◌≤◌, max, min, IfOk, length};
+ghost use Rattle.heap_pages.specs.Rows.{row_number};
+ghost use Rattle.db_catalog.specs.ColumnRanges.{slot_words};
+ghost use Rattle.db_catalog.specs.Database.{table_at};
 ghost use Rattle.exec_scan.specs.Stepping.{PaysFor};
-ghost use Rattle.exec_scan.specs.TableReading.{HasTable, IsTableReader, OpensNext, ReadsTableOn, StartsTable, TableReaderState, table_ahead, table_due};
+ghost use Rattle.exec_scan.specs.TableReading.{ArePageWords, HasTable, IsTableReader, OpensNext, ReadsTableOn, StartsTable, table_due};
 
-use crate::page_rows::{Wanted, next_kept};
-use db_catalog::{ColumnRange, Metered, row_in};
-use query_block::Relation;
+use db_catalog::{Metered, RowSpan, row_in};
 use std::marker::Model;
 use work_ledger::Exhausted;
 
@@ -77,43 +74,71 @@ impl TableReader {
         Ok(true)
     }
 
-    /// Looks on, at the rows of the page that was opened last, for the next one that meets the relation's filter. None where
-    /// all of them are looked at. They are paid since the page is opened.
-    pub(crate) fn find_on_page<'d>(
-        &mut self,
-        relation: &Relation,
-        known: Option<ColumnRange>,
-        meter: &Metered<'d>,
-    ) -> Option<&'d [i64]>
-        requires reader { IsTableReader meter.now.database self.old }
-        requires relation { IsRelationIn meter.now.database (relation_tree relation.now) }
-        requires table { self.old.table ≡ relation.now.table }
-        requires known { IsKnownOf meter.now.database.texts (relation_tree relation.now) known }
-        ensures row { let own = relation_tree relation.now in
-            let kept = λ (reader : TableReaderState). filter (meets_filter own.filter)
-            (table_ahead meter.now.database reader) in
-            MatchOption result ((kept self.new ≡ kept self.old) × (self.new.slot ≡ self.new.slots))
-            (λ lent. IsFirstRow meter.now.database.texts own (kept self.old) (kept self.new)
-            lent.now) }
-        ensures stays { self.new ≡ record self.old { slot = self.new.slot } }
-        ensures reader { IsTableReader meter.now.database self.new }
+    /// How many rows of the page at hand aren't looked at yet.
+    pub(crate) fn ahead_on_page(&self) -> usize
+        requires { self.now.slot ≤ self.now.slots }
+        ensures { result ≡ self.now.slots - self.now.slot }
     {
-        if self.slot == self.slots {
-            return None;
+        self.slots - self.slot
+    }
+
+    /// The slot where the next block of rows ends, which has so many of them at most.
+    pub(crate) fn block_end(&self, most: usize) -> usize
+        requires { self.now.slot ≤ self.now.slots }
+        ensures { result ≡ min (self.now.slot + most) self.now.slots }
+    {
+        self.slot + (self.slots - self.slot).min(most)
+    }
+
+    /// The next rows of the page, up to the slot `end`, by their numbers in the table.
+    pub(crate) fn rows_to(&self, end: usize, meter: &Metered<'_>) -> RowSpan
+        requires reader { IsTableReader meter.now.database self.now }
+        requires on_page { self.now.slot < end × end ≤ self.now.slots }
+        ensures first { result.first
+            ≡ row_number (length (table_at meter.now.database self.now.table).columns)
+            self.now.page self.now.slot }
+        ensures count { result.count ≡ end - self.now.slot }
+    {
+        // A table has few enough rows for the sum.
+        let _ = meter.rows(self.table);
+        RowSpan {
+            first: meter.first_row(self.table, self.page) + self.slot as u64,
+            count: end - self.slot,
         }
-        let page = meter.opened_page(self.table, self.page);
-        let texts = meter.texts();
-        let wanted = Wanted {
-            relation,
-            known,
-            texts,
-        };
-        let found = next_kept(&wanted, page, self.slot, self.slots);
-        if found == self.slots {
-            self.slot = found;
-            return None;
-        }
-        self.slot = found + 1;
-        Some(row_in(page, relation.columns.as_slice().len(), found))
+    }
+
+    /// Looks at the next rows of the page, so many of them.
+    pub(crate) fn pass(&mut self, count: usize)
+        requires { self.old.slot + count ≤ self.old.slots }
+        ensures { self.new ≡ record self.old { slot = self.old.slot + count } }
+    {
+        // No slot is past the last one, so the sum fits.
+        let _ = &self.slots;
+        self.slot += count;
+    }
+
+    /// Looks at the next rows of the page, up to the slot `end`.
+    pub(crate) fn pass_to(&mut self, end: usize)
+        ensures { self.new ≡ record self.old { slot = max self.old.slot end } }
+    {
+        self.slot = self.slot.max(end);
+    }
+
+    /// The words of the rows on the page at hand, one row after another. They are paid since the page is opened.
+    pub(crate) fn page<'d>(&self, meter: &Metered<'d>) -> &'d [i64]
+        requires reader { IsTableReader meter.now.database self.now }
+        requires some { 0 < self.now.slots }
+        ensures { ArePageWords meter.now.database self.now result.now }
+    {
+        meter.opened_page(self.table, self.page)
+    }
+
+    /// The row that was looked at last, of this page, whose rows have `width` words each.
+    pub(crate) fn last_row<'p>(&self, page: &'p [i64], width: usize) -> &'p [i64]
+        requires some { 0 < self.now.slot }
+        requires filled { self.now.slot * width ≤ length page.now }
+        ensures { result.now ≡ slot_words page.now width (self.now.slot - 1) }
+    {
+        row_in(page, width, self.slot - 1)
     }
 }

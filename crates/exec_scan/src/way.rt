@@ -7,22 +7,14 @@ ghost use Rattle.exec_scan.specs.EntryReading.{ReadsOn};
 ghost use Rattle.exec_scan.specs.Reading.{FindsOn, IsRelationIn, IsWayTo, LeadsTo, LendsFirst, LendsKept};
 ghost use Rattle.exec_scan.specs.Reading.{read_due, wanted_due, wanted_entries, wanted_rows};
 ghost use Rattle.exec_scan.specs.Stepping.{PaysFor};
-ghost use Rattle.exec_scan.specs.declared.way.Way.TheVariants.{Index, Table};
+ghost use Rattle.exec_scan.specs.declared.way.Way.TheVariants.{Index};
 
-use crate::column_range::known_range;
 use crate::entry_reader::EntryReader;
-use crate::table_reader::TableReader;
-use db_catalog::{ColumnRange, Metered};
+use crate::table_way::TableWay;
+use db_catalog::Metered;
 use plan_tree::range_of;
 use query_block::{Relation, meets_filter};
 use work_ledger::Exhausted;
-
-/// The reader of a relation's table, and the words that are known of the rows that meet the relation's filter.
-#[derive(Drop)]
-pub(crate) struct TableWay {
-    reader: TableReader,
-    known: Option<ColumnRange>,
-}
 
 /// By what the rows of a relation are found.
 #[derive(Drop)]
@@ -101,32 +93,6 @@ fn find_wanted<'d>(
     Ok(None)
 }
 
-impl TableWay {
-    // Reads on, page after page, to the next row of the relation that meets its filter. None where none is left.
-    fn find<'d>(
-        &mut self,
-        relation: &Relation,
-        meter: &mut Metered<'d>,
-    ) -> Result<Option<&'d [i64]>, Exhausted>
-        requires way { IsWayTo meter.old.database (relation_tree relation.now) (Table self.old) }
-        ensures row { LendsKept meter.old (relation_tree relation.now) (Table self.old)
-            (Table self.new) result (λ words. words.now) }
-        ensures pays { PaysFor (read_due meter.old.database (relation_tree relation.now))
-            (Table self.old) (Table self.new) meter.old meter.new result }
-        ensures goes_on { FindsOn meter.old.database (relation_tree relation.now)
-            (Table self.old) (Table self.new) }
-    {
-        'pages: loop {
-            if let Some(row) = self.reader.find_on_page(relation, self.known, meter) {
-                return Ok(Some(row));
-            }
-            if !self.reader.open_next(meter)? {
-                return Ok(None);
-            }
-        }
-    }
-}
-
 impl Way {
     /// The way to a relation's rows by the index on a column, or else through its table. Nothing is read yet.
     pub(crate) fn new(relation: &Relation, column: Option<u8>, meter: &Metered<'_>) -> Way
@@ -136,10 +102,7 @@ impl Way {
         ensures { LeadsTo meter.now.database (relation_tree relation.now) column result }
     {
         match column {
-            None => Way::Table(TableWay {
-                reader: TableReader::new(relation.table, meter),
-                known: known_range(relation, meter.texts()),
-            }),
+            None => Way::Table(TableWay::new(relation, meter)),
             Some(column) => Way::Index(EntryReader::new(relation.table, column)),
         }
     }
