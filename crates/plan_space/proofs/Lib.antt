@@ -14,3 +14,6 @@ pub mod HeldPlans
 pub mod PartNumbers
 pub mod PartCosts
 pub mod Added
+pub mod RowsKept
+pub mod Lower
+pub mod Reaching

@@ -1,31 +1,33 @@
--- The rows of a grid's first points.
-use Rattle.std.proofs.Common.{◌≡◌, ◌+◌, ◌<◌, ◌≤◌, Bool, true, false, List, [], ◌∷◌, ◌++◌, Some, length, nat_lt, get_or, refl, sym, ap, subst, ◌∙◌, length-append, arith}
-use Rattle.std.proofs.lemmas.List.{get_or_append_left, get_or-append-add}
+-- The rows that are kept of a grid's points.
+use Rattle.std.proofs.Common.{◌≡◌, ◌∙◌, ◌≢◌, ℕ, zero, suc, ◌<◌, Bool, true, false, List, Option, None, Some, length, nat_eq, replicate, get_or-set_other, get_or-set_same, refl, sym, subst, arith}
+use Rattle.std.specs.Prelude.{slice_set}
+use Rattle.std.proofs.lemmas.Option.{none-some, same_Some}
 use Rattle.ess_grid.specs.Points.{point_at}
 use Rattle.cost_model.specs.Costing.{CostingShape}
 use Rattle.plan_space.specs.declared.entry.Entry.{Entry}
 use Rattle.plan_space.specs.Places.{HoldsAt}
+use Rattle.plan_space.specs.KeptRows.{kept_row_at}
 use Rattle.plan_space.specs.Alike.{LeastAt, AreLeastRows}
 
-pub moved : (costing other : CostingShape) (rows lent : List (List Entry)) → AreLeastRows costing rows → costing ≡ other → lent ≡ rows → AreLeastRows other lent
-moved costing other rows lent least same is = subst (λ one. AreLeastRows one lent) same (subst (AreLeastRows costing) (sym is) least)
+none-at : (places place : ℕ) → kept_row_at (replicate places None) place ≡ None
+none-at zero place = refl
+none-at (suc places) zero = refl
+none-at (suc places) (suc place) = none-at places place
 
-pub no-row : (costing : CostingShape) → AreLeastRows costing []
-no-row costing place point below there = absurd (omega (arith, below))
+pub no-rows : (costing : CostingShape) (places : ℕ) → AreLeastRows costing (replicate places None)
+no-rows costing places place point row kept there = absurd (none-some row (sym (none-at places place) ∙ kept))
 
-pub add-row : (costing : CostingShape) (rows more : List (List Entry)) (row : List Entry) → AreLeastRows costing rows → HoldsAt costing.grid (length rows) (LeastAt costing row) → more ≡ rows ++ row ∷ []
-    → AreLeastRows costing more
-add-row costing rows more row least last is place point below there = by (nat_lt place (length rows)) refl
+-- one more is kept
+pub add-row : (costing : CostingShape) (rows : List (Option (List Entry))) (row : List Entry) (place : ℕ) → place < length rows → AreLeastRows costing rows
+    → HoldsAt costing.grid place (LeastAt costing row) → AreLeastRows costing (slice_set rows place (Some row))
+add-row costing rows row place within least here other point found kept there = by (nat_eq other place) refl
   where
-    by : (t : Bool) → nat_lt place (length rows) ≡ t → LeastAt costing (get_or more place []) point
+    by : (t : Bool) → nat_eq other place ≡ t → LeastAt costing found point
     by true e =
-        let lt : place < length rows = grind arith in
-        let same : get_or more place [] ≡ get_or rows place [] = ap (λ all. get_or all place []) is ∙ get_or_append_left rows (row ∷ []) [] place lt in
-        subst (λ one. LeastAt costing one point) (sym same) (least place point lt there)
+        let same : other ≡ place = grind arith in
+        let read : kept_row_at (slice_set rows place (Some row)) place ≡ Some found = subst (λ n. kept_row_at (slice_set rows place (Some row)) n ≡ Some found) same kept in
+        let last : row ≡ found = same_Some row found (sym (get_or-set_same rows place (Some row) None within) ∙ read) in
+        subst (λ one. LeastAt costing one point) last (here point (subst (λ n. point_at costing.grid n ≡ Some point) same there))
     by false e =
-        let ge : length rows ≤ place = grind arith in
-        let end : length rows ≡ place = omega (arith, ge, below, ap length is, length-append rows (row ∷ [])) in
-        let at : length rows + 0 ≡ place = omega (arith, end) in
-        let same : get_or more place [] ≡ row =
-        ap (λ all. get_or all place []) is ∙ ap (λ n. get_or (rows ++ row ∷ []) n []) (sym at) ∙ get_or-append-add rows (row ∷ []) 0 [] in
-        subst (λ one. LeastAt costing one point) (sym same) (last point (subst (λ n. point_at costing.grid n ≡ Some point) (sym end) there))
+        let ne : other ≢ place = grind arith in
+        least other point found (sym (get_or-set_other rows place other (Some row) None ne) ∙ kept) there

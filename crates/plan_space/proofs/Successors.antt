@@ -13,7 +13,7 @@ use Rattle.ess_grid.proofs.PointsAmong.{place_at, place_at-drop}
 use Rattle.ess_grid.proofs.GridPoints.{All-points_of, IsPoint-next_point, place_once, slice_get-place_at}
 
 -- the next point on an axis stands levels to the power of the axis further on
-place_at-next_point : (levels : ℕ) (point : List ℕ) (axis : ℕ) → axis < length point → place_at levels (next_point point axis) ≡ place_at levels point + levels ^ axis
+pub place_at-next_point : (levels : ℕ) (point : List ℕ) (axis : ℕ) → axis < length point → place_at levels (next_point point axis) ≡ place_at levels point + levels ^ axis
 place_at-next_point levels [] axis there = absurd (omega (arith, there))
 place_at-next_point levels (level ∷ rest) zero there = omega (arith, pow-zero levels)
 place_at-next_point levels (level ∷ rest) (suc axis) there =
@@ -30,7 +30,7 @@ pub record IsAtAxis (grid : GridShape) (place levels axis left stride : ℕ) : T
   pub rest : left ≡ place_at grid.levels (drop axis (get_or (points_of grid) place []))
   pub power : stride ≡ grid.levels ^ axis
 
-stands : (grid : GridShape) (place : ℕ) → IsGrid grid → place < length (points_of grid) → place ≡ place_at grid.levels (get_or (points_of grid) place [])
+pub stands : (grid : GridShape) (place : ℕ) → IsGrid grid → place < length (points_of grid) → place ≡ place_at grid.levels (get_or (points_of grid) place [])
 stands grid place is_grid there = place_once grid (get_or (points_of grid) place []) place is_grid (slice_get-get_or (points_of grid) place [] there)
 
 pub first-axis : (grid : GridShape) (place levels : ℕ) → IsGrid grid → place < length (points_of grid) → levels ≡ grid.levels → IsAtAxis grid place levels 0 place 1
@@ -57,16 +57,16 @@ module _ {grid : GridShape} {place levels axis left stride : ℕ} (at : IsAtAxis
   abbrev after : ℕ
   after = place_at grid.levels (drop (axis + 1) point)
 
-  is_point : IsPoint grid point
+  pub is_point : IsPoint grid point
   is_point = All-points_of grid at.of place [] at.there
 
-  before : axis < length point
+  pub before : axis < length point
   before = omega (arith, below, is_point.axes)
 
   now : left ≡ after * grid.levels + get_or point axis 0
   now = at.rest ∙ place_at-drop grid.levels point axis before
 
-  level-there : left % levels ≡ get_or point axis 0
+  pub level-there : left % levels ≡ get_or point axis 0
   level-there = ap (λ n. left % n) at.count ∙ ap (λ n. n % grid.levels) now ∙ mod-mul-add after grid.levels (get_or point axis 0) (is_point.levels axis 0 before)
 
   pub next-axis : IsAtAxis grid place levels (axis + 1) (left / levels) (stride * levels)

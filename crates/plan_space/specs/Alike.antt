@@ -1,6 +1,6 @@
 -- When what was found for a set at one point serves at another one, and the tables of many points.
-use Rattle.std.specs.Prelude.{◌≡◌, ℕ, ◌^◌, ◌<◌, Bool, false, Some, IsTrue, List, [], length, slice_index_or}
-use Rattle.ess_grid.specs.Points.{point_at}
+use Rattle.std.specs.Prelude.{◌≡◌, ℕ, ◌^◌, ◌<◌, Bool, false, Option, Some, IsTrue, List, [], length, slice_index_or}
+use Rattle.ess_grid.specs.Points.{point_at, points_of}
 use Rattle.query_block.specs.Blocks.{BlockTree, axis_of, axis_of_edge, block_tree}
 use Rattle.query_block.specs.Meaning.{is_inside}
 use Rattle.plan_tree.specs.Enumerated.{edge_at}
@@ -8,6 +8,7 @@ use Rattle.plan_tree.specs.Sets.{set_of}
 use Rattle.cost_model.specs.Costing.{CostingShape}
 use Rattle.cost_model.specs.Alike.{IsAlike}
 use Rattle.plan_space.specs.declared.entry.Entry.{Entry}
+use Rattle.plan_space.specs.KeptRows.{kept_row_at}
 use Rattle.plan_space.specs.Table.{AreLeast}
 use Rattle.cost_model.specs.Pricing.{Pricing}
 use Rattle.cost_model.specs.Prices.{own_at, block_at}
@@ -43,13 +44,18 @@ abbrev pub LeastAt : CostingShape → List Entry → (point : List ℕ) → Type
 LeastAt costing row point =
     AreLeast (own_at (record { costing = costing; point = point })) (block_tree costing.block) row (2 ^ length (block_tree costing.block).relations)
 
--- the tables of the first points of the grid, each a row
-abbrev pub AreLeastRows : CostingShape → List (List Entry) → Type 0
+-- the rows that are kept are least at the points of their places
+abbrev pub AreLeastRows : CostingShape → List (Option (List Entry)) → Type 0
 AreLeastRows costing rows =
-    (place : ℕ) (point : List ℕ) → place < length rows → point_at costing.grid place ≡ Some point
-    → LeastAt costing (slice_index_or rows place []) point
+    (place : ℕ) (point : List ℕ) (row : List Entry) → kept_row_at rows place ≡ Some row → point_at costing.grid place ≡ Some point
+    → LeastAt costing row point
 
--- what is known of earlier points: which axes are inside which sets, and the tables of the first points
-pub record AreEarlier (costing : CostingShape) (inside : List (List Bool)) (rows : List (List Entry)) : Type 0 where
+-- what is known of points that were asked for earlier: which axes are inside which sets, and their rows
+pub record AreEarlier (costing : CostingShape) (inside : List (List Bool)) (rows : List (Option (List Entry))) : Type 0 where
   pub axes : AreInsideSets (block_tree costing.block) inside
   pub tables : AreLeastRows costing rows
+
+-- what is known of points of the grid, with a place for each of them
+pub record AreEarlierPoints (costing : CostingShape) (inside : List (List Bool)) (rows : List (Option (List Entry))) : Type 0 where
+  pub earlier : AreEarlier costing inside rows
+  pub places : length rows ≡ length (points_of costing.grid)

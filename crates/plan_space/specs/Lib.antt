@@ -1,8 +1,10 @@
 pub mod Table
 pub mod Search
 pub mod Steps
+pub mod KeptRows
 pub mod Alike
 pub mod Surface
+pub mod KnownCosts
 pub mod SurfacePoints
 pub mod FrontierPlans
 pub mod Places

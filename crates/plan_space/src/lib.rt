@@ -1,6 +1,6 @@
-//! The best plan of a block at a point of the grid, or at all points at once: of all plans of the
-//! block the cheapest there, and of equally cheap ones the first in plan order. And the frontiers
-//! of a block: the points of each with their best plans.
+//! The best plan of a block at a point of the grid: of all plans of the block the cheapest there, and
+//! of equally cheap ones the first in plan order. And the frontiers of a block: the points of each
+//! with their best plans, looked at only as far as the frontier lies.
 //! To the layers above it promises that `best` answers exactly that plan and its cost, over all
 //! bushy shapes, products, indexes and edges, that a `CostSurface` tells exactly which points are on
 //! the frontier of a cost, and that an `Outlook` gives them with their best plans, each once.
@@ -9,15 +9,18 @@
 #![tactic(auto)]
 
 mod alike;
-mod all_points;
+mod best_plans;
 mod costed_plans;
 mod entry;
 mod joins;
+mod kept_rows;
 mod leaves;
 mod node;
 mod outlook;
 mod part_costs;
 mod parts;
+mod reach;
+mod reached;
 mod search;
 mod sets;
 mod steps;

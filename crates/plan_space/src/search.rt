@@ -12,6 +12,7 @@ ghost use Rattle.plan_space.specs.Table.{AllStand, Follows, HasEntry, IsToldPlan
 
 use crate::alike::axes_inside_sets;
 use crate::entry::Entry;
+use crate::kept_rows::KeptRows;
 use crate::sets::set_of_all;
 use crate::table::filled;
 use cost_model::{Costing, PriceRoom, Prices};
@@ -132,7 +133,7 @@ fn best_at(
         found.1 ≡ optimal_cost (costing_tree prices.now.costing) prices.now.point) }
 {
     let block = prices.block();
-    let table = filled(prices, inside, &[]);
+    let table = filled(prices, inside, &KeptRows::none(alloc));
     let all = set_of_all(block);
     let p = rebuilt(alloc, block, &table, all)?;
     Ok((p, table[all.number() as usize].cost))

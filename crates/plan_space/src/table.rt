@@ -1,6 +1,6 @@
 // The table of the best plans of all sets of relations. Sets are numbers, and each one's sides are smaller numbers, so the
-// table is filled upwards. An entry that was found at an earlier point, where each axis inside the set has the same level, is
-// taken from there.
+// table is filled upwards. An entry that is kept of another point, where each axis inside the set has the same level, is taken
+// from there.
 ghost use Rattle.std.specs.Prelude.{◌≡◌, ◌+◌, ◌^◌, ◌<◌, ◌≤◌, length};
 ghost use Rattle.plan_space.specs.Table.{AreLeast};
 ghost use Rattle.cost_model.specs.Prices.{own_at, block_at};
@@ -9,6 +9,7 @@ ghost use Rattle.plan_space.specs.Alike.{AreEarlier};
 
 use crate::alike::alike_place;
 use crate::entry::Entry;
+use crate::kept_rows::KeptRows;
 use crate::steps::Search;
 use cost_model::Prices;
 use plan_tree::{Root, Subset};
@@ -33,13 +34,12 @@ impl Search<'_> {
     }
 }
 
-// What the table of a point is filled by: the prices there, which axes are inside which sets, and the entries at the first
-// points of the grid.
+// What the table of a point is filled by: the prices there, which axes are inside which sets, and the rows that are kept.
 #[derive(Drop)]
 struct Filling<'s> {
     prices: &'s Prices<'s>,
     inside: &'s [[bool; MAX_AXES]; 64],
-    rows: &'s [[Entry; 64]],
+    rows: &'s KeptRows,
 }
 
 impl<'s> Model for Filling<'s> {
@@ -58,20 +58,20 @@ impl<'s> Model for Filling<'s> {
 }
 
 impl Filling<'_> {
-    // The entry of such a set: the one of an earlier point that is alike for it, where there is one.
+    // The entry of such a set: that of the point that is alike for it, where its row is kept.
     fn entry_here(&self, table: &[Entry; 64], set: Subset, relation: u8) -> Entry
         requires filled { IsFilledBelow (record { at = self.now; table = table.now; set = set }) }
         requires highest { IsHighestOf (block_at self.now) set relation }
         ensures { IsLeastFound (record { at = self.now; table = table.now; set = set }) result }
     {
-        let rows = self.rows;
         let place = alike_place(self.prices, self.inside, set);
-        if place < rows.len() {
-            rows[place][set.number() as usize]
-        } else {
-            let prices = self.prices;
-            let search = Search { prices, table, set };
-            search.entry_of(relation)
+        match self.rows.row(place) {
+            Some(row) => row[set.number() as usize],
+            None => {
+                let prices = self.prices;
+                let search = Search { prices, table, set };
+                search.entry_of(relation)
+            }
         }
     }
 
@@ -90,12 +90,11 @@ impl Filling<'_> {
     }
 }
 
-/// The entries of all sets of the block's relations, where these are the axes inside the sets and the entries at the first
-/// points of the grid.
+/// The entries of all sets of the block's relations, where these are the axes inside the sets and the rows that are kept.
 pub(crate) fn filled(
     prices: &Prices<'_>,
     inside: &[[bool; MAX_AXES]; 64],
-    rows: &[[Entry; 64]],
+    rows: &KeptRows,
 ) -> [Entry; 64]
     requires { AreEarlier prices.now.costing inside.now rows.now }
     ensures { let block = block_at prices.now in

@@ -1,0 +1,115 @@
+// The best plans of a block at points of a grid.
+ghost use Rattle.std.specs.Prelude.{ℕ, ◌≡◌, ◌<◌, ◌≤◌, IfOk, IsTrue, List, length};
+ghost use Rattle.sql_values.specs.Limits.{cost_bound};
+ghost use Rattle.ess_grid.specs.Points.{points_of};
+ghost use Rattle.query_block.specs.Blocks.{block_tree};
+ghost use Rattle.cost_model.specs.Costing.{costing_tree, IsCosting};
+ghost use Rattle.cost_model.specs.Optimal.{optimal_cost};
+ghost use Rattle.plan_space.specs.Places.{HoldsAt};
+ghost use Rattle.plan_space.specs.Table.{AllStand};
+ghost use Rattle.plan_space.specs.Alike.{AreEarlier, LeastAt};
+
+use crate::alike::axes_inside_sets;
+use crate::entry::Entry;
+use crate::kept_rows::KeptRows;
+use crate::sets::set_of_all;
+use crate::table::filled;
+use cost_model::{Costing, PriceRoom, Prices};
+use sql_values::MAX_AXES;
+use std::alloc::{AllocError, Global};
+use std::marker::Model;
+
+/// What is best at points of a costing's grid. It is found when a point is asked for, and kept: 2 KiB a point.
+#[derive(Drop)]
+pub(crate) struct BestPlans<'c> {
+    costing: &'c Costing<'c>,
+    // For each set of relations the axes inside it.
+    inside: [[bool; MAX_AXES]; 64],
+    // The entries of all sets at the points that were asked for.
+    rows: KeptRows,
+    room: PriceRoom,
+}
+
+impl<'c> Model for BestPlans<'c> {
+    ghost use Rattle.query_block.specs.contracts.condition.Condition as condition;
+    ghost use Rattle.std.specs.Coded.{codes};
+    ghost use Rattle.cost_model.specs.Costing.{CostingShape};
+    ghost use Rattle.plan_space.specs.Alike.{AreEarlierPoints};
+
+    ghost Value = { CostingShape };
+
+    ghost coded = { Prim.hlevel (codes, condition.the_row.coded) };
+
+    ghost view = { λ best. best.costing.now };
+
+    ghost invariant = { λ best. AreEarlierPoints best.costing.now best.inside best.rows };
+}
+
+// The entries at the point at this place, where these rows are kept.
+fn found_row(
+    costing: &Costing<'_>,
+    room: &mut PriceRoom,
+    inside: &[[bool; MAX_AXES]; 64],
+    rows: &KeptRows,
+    place: usize,
+) -> [Entry; 64]
+    requires earlier { AreEarlier costing.now inside.now rows.now }
+    requires place { place < length (points_of costing.now.grid) }
+    ensures { HoldsAt costing.now.grid place (LeastAt costing.now result) }
+{
+    let q = costing.grid().point(place);
+    filled(&Prices::new(costing, &q, room), inside, rows)
+}
+
+impl<'c> BestPlans<'c> {
+    /// That of a costing, of which no point was asked for yet. The only error is out of memory.
+    pub(crate) fn new(alloc: Global, costing: &'c Costing<'c>) -> Result<BestPlans<'c>, AllocError>
+        ensures { IfOk result (λ best. best ≡ costing.now) }
+    {
+        let inside = axes_inside_sets(costing);
+        let rows = KeptRows::with_places(alloc, costing.grid().points())?;
+        Ok(BestPlans {
+            costing,
+            inside,
+            rows,
+            room: PriceRoom::new(),
+        })
+    }
+
+    /// The costing.
+    pub(crate) fn costing(&self) -> &'c Costing<'c>
+        ensures { result.now ≡ self.now }
+    {
+        self.costing
+    }
+
+    /// The entries of all sets at the point at this place of the grid, from 0. They are found where they aren't kept yet. The
+    /// only error is out of memory.
+    pub(crate) fn row(&mut self, place: usize) -> Result<[Entry; 64], AllocError>
+        requires { place < length (points_of self.old.grid) }
+        ensures least { IfOk result (λ row. HoldsAt self.old.grid place (LeastAt self.old row)) }
+        ensures stands { IfOk result (AllStand (block_tree self.old.block)) }
+        ensures same { self.new ≡ self.old }
+    {
+        if let Some(row) = self.rows.row(place) {
+            return Ok(*row);
+        }
+        let costing = self.costing;
+        let row = found_row(costing, &mut self.room, &self.inside, &self.rows, place);
+        self.rows.keep(place, &row)?;
+        Ok(row)
+    }
+
+    /// What the best plan costs at the point at this place of the grid, from 0: the optimal cost there. The only error is out of
+    /// memory.
+    pub(crate) fn cost(&mut self, place: usize) -> Result<u128, AllocError>
+        requires { place < length (points_of self.old.grid) }
+        ensures cost { IfOk result (λ cost. HoldsAt self.old.grid place
+            (λ point. cost ≡ optimal_cost (costing_tree self.old) point)) }
+        ensures same { self.new ≡ self.old }
+    {
+        let all = set_of_all(self.costing.block());
+        let row = self.row(place)?;
+        Ok(row[all.number() as usize].cost)
+    }
+}
