@@ -5,7 +5,7 @@ use Rattle.std.proofs.lemmas.List.{append-nil, length-map, map_push}
 use Rattle.std.proofs.lemmas.List.Elements.{All-tail}
 use Rattle.cost_model.specs.Costing.{CostingShape, CostingTree, IsCosting, costing_tree}
 use Rattle.bouquet_type.specs.declared.contour.Contour.{Contour}
-use Rattle.bouquet_type.specs.Trees.{ContourTree, contour_tree}
+use Rattle.bouquet_type.specs.Trees.{BouquetTree, ContourTree, contour_tree}
 use Rattle.bouquet_type.specs.Compiled.{IsCompiled, compiled}
 use Rattle.bouquet_type.specs.Sound.{IsSound}
 use Rattle.bouquet_type.specs.Ladders.{AreTried}
@@ -41,6 +41,16 @@ collected-more costing threshold contours contour old new whole ahead are =
 pub made-none : (old new : MakerState) (made : Option Found) → Makes old new made → ((found : Found) → made ≡ Some found → ⊥) → ahead_of old ≡ []
 made-none old new None makes none = makes.0
 made-none old new (Some found) makes none = absurd (none found refl)
+
+-- nothing changed then
+pub made-same : (old new : MakerState) (made : Option Found) → Makes old new made → ((found : Found) → made ≡ Some found → ⊥) → new ≡ old
+made-same old new None makes none = makes.1
+made-same old new (Some found) makes none = absurd (none found refl)
+
+-- they are made by this costing
+pub collected-costing : (costing : CostingTree) (threshold : ℕ) (contours : List Contour) (m : MakerState) → AreCollected costing threshold contours m → costing_tree m.costing ≡ costing
+unfolding compiled
+collected-costing costing threshold contours m are = ap (λ (bouquet : BouquetTree). bouquet.costing) are.whole
 
 pub collected-all : (costing : CostingTree) (threshold : ℕ) (contours : List Contour) (m : MakerState) → IsCosting costing → threshold ≤ 1000 → ahead_of m ≡ []
     → AreCollected costing threshold contours m → AreContours costing threshold contours

@@ -34,12 +34,12 @@ fn points(alloc: Global, frontier: &[SurfacePoint]) -> Result<Vec<Point>, AllocE
 }
 
 // The contours by an outlook. The only error is out of memory.
-fn contours_by(alloc: Global, outlook: &Outlook<'_>, threshold: u32) -> Result<Made, AllocError>
+fn contours_by(alloc: Global, outlook: Outlook<'_>, threshold: u32) -> Result<Made, AllocError>
     requires { threshold ≤ max_threshold }
     ensures contours { IfOk result (λ made.
-        AreContours (costing_tree outlook.now) threshold made.contours.items) }
+        AreContours (costing_tree outlook.entry) threshold made.contours.items) }
     ensures outline { IfOk result (λ made.
-        IsOutline (bouquet_of (costing_tree outlook.now) threshold made.contours.items) made.outline) }
+        IsOutline (bouquet_of (costing_tree outlook.entry) threshold made.contours.items) made.outline) }
 {
     let mut maker = Maker::new(outlook, threshold);
     let mut contours = Vec::new(alloc);
@@ -48,7 +48,7 @@ fn contours_by(alloc: Global, outlook: &Outlook<'_>, threshold: u32) -> Result<M
         frontiers.push(points(alloc, found.points.as_slice())?)?;
         contours.push(found.contour)?;
     }
-    let costs = Vec::from_slice(alloc, outlook.surface().costs())?;
+    let costs = maker.costs(alloc)?;
     Ok(Made {
         contours,
         outline: Outline { costs, frontiers },
@@ -64,6 +64,6 @@ pub(crate) fn make(alloc: Global, costing: &Costing<'_>, threshold: u32) -> Resu
         IsOutline (bouquet_of (costing_tree costing.now) threshold made.contours.items) made.outline) }
 {
     let outlook = Outlook::new(alloc, costing)?;
-    let made = contours_by(alloc, &outlook, threshold)?;
+    let made = contours_by(alloc, outlook, threshold)?;
     Ok(made)
 }

@@ -41,11 +41,11 @@ impl<'o> Model for Lazy<'o> {
 
 impl<'o> Lazy<'o> {
     /// At the foot of the compiled bouquet of an outlook, by a threshold in percent. It takes no memory.
-    pub fn new(outlook: &'o Outlook<'o>, threshold: u32) -> Lazy<'o>
+    pub fn new(outlook: Outlook<'o>, threshold: u32) -> Lazy<'o>
         requires { threshold ≤ max_threshold }
         ensures foot { StandsAtFoot (lazy_ladder result) }
-        ensures whole { (lazy_ladder result).whole ≡ compiled (costing_tree outlook.now) threshold }
-        ensures sound { IsSound (compiled (costing_tree outlook.now) threshold) }
+        ensures whole { (lazy_ladder result).whole ≡ compiled (costing_tree outlook.entry) threshold }
+        ensures sound { IsSound (compiled (costing_tree outlook.entry) threshold) }
     {
         Lazy {
             maker: Maker::new(outlook, threshold),

@@ -3,6 +3,7 @@ ghost use Rattle.std.specs.Prelude.{◌≡◌, ◌≤◌, IfOk, OnErr};
 ghost use Rattle.sql_values.specs.Limits.{max_threshold, max_contour_cost};
 ghost use Rattle.cost_model.specs.Costing.{costing_tree, IsCosting};
 ghost use Rattle.cost_model.specs.Frontier.{frontier};
+ghost use Rattle.plan_space.specs.Surface.{optimal_costs};
 ghost use Rattle.plan_space.specs.SurfacePoints.{surface_points};
 ghost use Rattle.bouquet_type.specs.Trees.{contour_tree};
 ghost use Rattle.bouquet_type.specs.Compiled.{compiled_contour, contour_count};
@@ -10,7 +11,7 @@ ghost use Rattle.contours.specs.Lazy.{Makes};
 
 use anorexic::reduce_frontier;
 use bouquet_type::Contour;
-use plan_space::{CostSurface, FrontierPlans, Outlook, SurfacePoint};
+use plan_space::{FrontierPlans, Outlook, SurfacePoint};
 use std::alloc::{AllocError, Global};
 use std::marker::Model;
 
@@ -26,7 +27,7 @@ pub(crate) struct Found {
 /// Makes the contours of the compiled bouquet of an outlook, the cheapest first.
 #[derive(Drop)]
 pub(crate) struct Maker<'o> {
-    outlook: &'o Outlook<'o>,
+    outlook: Outlook<'o>,
     threshold: u32,
     // How many contours there are, and how many were made.
     count: u32,
@@ -44,21 +45,21 @@ impl<'o> Model for Maker<'o> {
 
     ghost coded = { Prim.hlevel (codes, condition.the_row.coded) };
 
-    ghost view = { λ m. record { costing = m.outlook.now; threshold = m.threshold; made = m.made } };
+    ghost view = { λ m. record { costing = m.outlook; threshold = m.threshold; made = m.made } };
 
     ghost invariant = { λ m. IsMaker
-        (record { costing = m.outlook.now; threshold = m.threshold; made = m.made })
+        (record { costing = m.outlook; threshold = m.threshold; made = m.made })
         m.count m.cost };
 }
 
 // How many contours there are.
-fn count(surface: &CostSurface<'_>) -> u32
-    ensures count { result ≡ contour_count (costing_tree surface.now) }
-    ensures costing { IsCosting (costing_tree surface.now) }
+fn count(outlook: &Outlook<'_>) -> u32
+    ensures count { result ≡ contour_count (costing_tree outlook.now) }
+    ensures costing { IsCosting (costing_tree outlook.now) }
 {
-    let _costing = surface.costing();
-    let top = surface.top_cost();
-    let mut last = surface.bottom_cost();
+    let _costing = outlook.costing();
+    let top = outlook.top_cost();
+    let mut last = outlook.bottom_cost();
     let mut count = 1;
     while last < top {
         last *= 2;
@@ -70,16 +71,17 @@ fn count(surface: &CostSurface<'_>) -> u32
 // The contour of this cost. The only error is out of memory.
 fn contour(
     alloc: Global,
-    outlook: &Outlook<'_>,
+    outlook: &mut Outlook<'_>,
     threshold: u32,
     cost: u128,
 ) -> Result<Found, AllocError>
     requires threshold { threshold ≤ max_threshold }
     requires cost { cost ≤ max_contour_cost }
     ensures contour { IfOk result (λ found.
-        contour_tree found.contour ≡ compiled_contour (costing_tree outlook.now) threshold cost) }
+        contour_tree found.contour ≡ compiled_contour (costing_tree outlook.old) threshold cost) }
     ensures points { IfOk result (λ found.
-        surface_points found.points.items ≡ frontier (costing_tree outlook.now) cost) }
+        surface_points found.points.items ≡ frontier (costing_tree outlook.old) cost) }
+    ensures same { outlook.new ≡ outlook.old }
 {
     let frontier = outlook.frontier(alloc, cost)?;
     let plans = reduce_frontier(alloc, outlook.costing(), &frontier, threshold)?;
@@ -92,17 +94,19 @@ fn contour(
 
 impl<'o> Maker<'o> {
     /// Before the first contour, by a threshold in percent. It takes no memory.
-    pub(crate) fn new(outlook: &'o Outlook<'o>, threshold: u32) -> Maker<'o>
+    pub(crate) fn new(outlook: Outlook<'o>, threshold: u32) -> Maker<'o>
         requires { threshold ≤ max_threshold }
-        ensures start { result ≡ record { costing = outlook.now; threshold = threshold; made = 0 } }
-        ensures costing { IsCosting (costing_tree outlook.now) }
+        ensures start { result ≡ record { costing = outlook.entry; threshold = threshold; made = 0 } }
+        ensures costing { IsCosting (costing_tree outlook.entry) }
     {
+        let count = count(&outlook);
+        let cost = outlook.bottom_cost();
         Maker {
             outlook,
             threshold,
-            count: count(outlook.surface()),
+            count,
             made: 0,
-            cost: outlook.surface().bottom_cost(),
+            cost,
         }
     }
 
@@ -122,9 +126,18 @@ impl<'o> Maker<'o> {
         if self.made == self.count {
             return Ok(None);
         }
-        let found = contour(alloc, self.outlook, self.threshold, self.cost)?;
+        let found = contour(alloc, &mut self.outlook, self.threshold, self.cost)?;
         self.made += 1;
         self.cost *= 2;
         Ok(Some(found))
+    }
+
+    /// The optimal costs at all points of the grid, in its order. The only error is out of memory.
+    pub(crate) fn costs(&mut self, alloc: Global) -> Result<Vec<u128>, AllocError>
+        ensures costs { IfOk result (λ costs.
+            costs.items ≡ optimal_costs (costing_tree self.old.costing)) }
+        ensures same { self.new ≡ self.old }
+    {
+        self.outlook.costs(alloc)
     }
 }

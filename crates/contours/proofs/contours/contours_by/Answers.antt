@@ -1,17 +1,18 @@
 use Rattle.std.proofs.Common.{◌∙◌, ℕ, List, [], ◌∷◌, ◌++◌, ap, arith, length, refl, subst, sym}
 use Rattle.std.specs.Prelude.{Vec}
 use Rattle.std.specs.declared.alloc.Global.{Global}
-use Rattle.cost_model.specs.Costing.{CostingShape, costing_tree}
+use Rattle.cost_model.specs.Costing.{costing_tree}
 use Rattle.plan_space.specs.SurfacePoints.{surface_points}
 use Rattle.plan_space.specs.Surface.{optimal_costs}
 use Rattle.bouquet_type.specs.declared.contour.Contour.{Contour}
-use Rattle.contours.proofs.Collected.{AreCollected, collected-none, collected-more, collected-all, made-none}
+use Rattle.contours.specs.Lazy.{MakerState}
+use Rattle.contours.proofs.Collected.{AreCollected, collected-none, collected-more, collected-all, collected-costing, made-none, made-same}
 use Rattle.contours.proofs.Outlined.{AreOutlined, outlined-more}
 use Rattle.contours.proofs.contours.contours_by.Goals as goal
 
 pub loop-frontiers-init : goal.loop-frontiers-init
 loop-frontiers-init c =
-    let outlook = c.args.outlook.now in
+    let outlook = c.args.outlook in
     let costing = costing_tree outlook in
     record {
       collected = subst (λ (contours : List Contour). AreCollected costing c.args.threshold contours c.new-maker.result) (sym c.new-contours.ensures.items)
@@ -27,7 +28,7 @@ loop-frontiers-smaller c =
 
 pub loop-frontiers-preserved : goal.loop-frontiers-preserved
 loop-frontiers-preserved c =
-    let costing = costing_tree c.args.outlook.now in
+    let costing = costing_tree c.args.outlook in
     let made = rw c.in-Some.is at c.in_ok-found.ensures.made in
     let found = c.in-Some.found in
     let contours = c.loop-frontiers.contours.items in
@@ -46,11 +47,18 @@ loop-frontiers-preserved c =
 pub returns-clause-contours : goal.returns-clause-contours
 returns-clause-contours c =
     let none = made-none c.loop-frontiers.maker c.next.new.self c.in_ok-found.field-0 c.in_ok-found.ensures.made c.in_default.not-Some in
-    collected-all (costing_tree c.args.outlook.now) c.args.threshold c.loop-frontiers.contours.items c.loop-frontiers.maker c.new-maker.ensures.costing c.requires none
+    collected-all (costing_tree c.args.outlook) c.args.threshold c.loop-frontiers.contours.items c.loop-frontiers.maker c.new-maker.ensures.costing c.requires none
     c.loop-frontiers.invariant.collected
 
 pub returns-clause-outline : goal.returns-clause-outline
-returns-clause-outline c = record {
-  costs = c.in_ok-costs.ensures.items ∙ c.costs.ensures ∙ ap (λ (shape : CostingShape). optimal_costs (costing_tree shape)) c.surface.ensures;
-  frontiers = c.loop-frontiers.invariant.outlined;
-}
+returns-clause-outline c =
+    let maker = c.loop-frontiers.maker in
+    let same = made-same maker c.next.new.self c.in_ok-found.field-0 c.in_ok-found.ensures.made c.in_default.not-Some in
+    let costing =
+    collected-costing (costing_tree c.args.outlook) c.args.threshold c.loop-frontiers.contours.items maker c.loop-frontiers.invariant.collected in
+    record {
+      costs = c.in_ok-costs.ensures.costs
+          ∙ ap (λ (one : MakerState). optimal_costs (costing_tree one.costing)) same
+          ∙ ap optimal_costs costing;
+      frontiers = c.loop-frontiers.invariant.outlined;
+    }
