@@ -110,7 +110,7 @@ impl Bouquet {
         &self.stats
     }
 
-    /// The grid, each of whose axes is an edge of the block.
+    /// The grid, each of whose axes is an edge of the block or a relation with a parameter.
     pub fn grid(&self) -> &Grid
         ensures { result.now ≡ self.now.grid }
     {

@@ -55,7 +55,7 @@ fn every_row(count: usize) -> u64
 }
 
 impl RowFilter {
-    // PutsRange a range behind the others. Where there is no room, the condition isn't told by one.
+    // Puts a range behind the others. Where there is no room, the condition isn't told by one.
     fn put(&mut self, found: ColumnRange)
         ensures { PutsRange found self.old self.new }
     {

@@ -1,5 +1,5 @@
 // The answer of a bouquet: its run over the tables, with its rows sorted and printed, and how it ended. It reaches rows by
-// the meter of the run alone, and never prints a work that wasn't paid into the book. Any ladder may give it the contours.
+// the meter of the run alone, and never prints a work that its meter didn't pay. Any ladder may give it the contours.
 ghost use Rattle.std.specs.Prelude.{◌≡◌, ◌+◌, ◌≤◌, IfOk, length};
 ghost use Rattle.work_ledger.specs.Account.{max_account};
 ghost use Rattle.query_block.specs.Blocks.{block_tree, IsPutOf, width_of};

@@ -82,8 +82,8 @@ pub record HasFaults (read_faults write_faults : ℕ) (folder : FolderState) : T
 abbrev pub NoneFailed : (old new : FolderState) → Type 0
 NoneFailed old new = HasFaults old.read_faults old.write_faults new
 
--- a run that ended so: the folder holds what the steps leave, and was left alone by a script that is refused whole; none of its calls
--- failed, exactly the work that the text prints was paid, and each query was answered within its bound
+-- a run that ended so: the folder holds what the steps leave, and was left alone by a script that is refused whole; none of
+-- its calls failed, exactly the work that SELECT and RUN print was paid, and each query was answered within its bound
 pub record EndsWhole (max_work : ℕ) (old new : FolderState) (answer : Answer) (paid : ℕ) (steps : Result (List Step) Refusal) : Type 0 where
   pub files : IfOk steps (λ these. new.files ≡ files_after max_work (at_start old.files) these)
   pub untouched : IfErr steps (λ _. new ≡ old)

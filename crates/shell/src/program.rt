@@ -35,11 +35,11 @@ fn refuse_words<K: Sink>(sink: &mut K) -> Status
 }
 
 /// Does what the arguments ask for. `words` are those after the program's name: at most one `--max-work N` or
-/// `--max-work=N`, the most units of work of a query and of an audit, 0 to 2^62, and at most one `--demo N` or `--demo=N`,
-/// 1 to 2000. It reads the script from the source, carries its statements out over the folder and puts what they print into
+/// `--max-work=N`, the most units of work of a query and of an audit, 0 to 2^62, and at most one `--demo N` or `--demo=N`, 1
+/// to 2000. It reads the script from the source, carries its statements out over the folder and puts what they print into
 /// the sink. Under `--demo` it does so with the script and the folder of the demonstration, and leaves source and folder
-/// alone. What queries paid is entered in the book, in which nothing stands before. Texts and names are hashed by `key`, a
-/// random number: no promise names it, so nothing that is printed, written or paid depends on it.
+/// alone. What SELECT and RUN paid is entered in the book, in which nothing stands before. Texts and names are hashed by
+/// `key`, a random number: no promise names it, so nothing that is printed, written or paid depends on it.
 pub fn serve<S: Source, F: Folder, K: Sink>(
     alloc: Global,
     key: RandomState,
@@ -61,12 +61,12 @@ pub fn serve<S: Source, F: Folder, K: Sink>(
     ensures untaken { ¬ (RunsSource (word_texts words.now)) → source.new ≡ source.old }
     ensures unread { ¬ (RunsSource (word_texts words.now)) → folder.new ≡ folder.old }
 
-    // Else the text of the script goes out. Under Done and Refused all of it does, the folder holds what the statements leave,
-    // exactly the work that is printed was entered in the book, and each query was answered within its bouquet's bound. Under
-    // every other status the run broke off in front of a statement, and all that holds of those before it: ReadFault comes where
-    // the source failed, or the folder for a statement that asks for a file; WriteFault where the sink failed, which got a
-    // beginning of the next text, or the folder for a statement that writes a file, which may hold anything. Where no count of
-    // faults rose, the run ends as that same text does, or out of memory.
+    // Else the text of the script goes out. Under Done and Refused all of it does, the folder holds what the statements
+    // leave, exactly the work that SELECT and RUN print was entered in the book, and each query was answered within its
+    // bouquet's bound. Under every other status the run broke off in front of a statement, and all that holds of those
+    // before it: ReadFault comes where the source failed, or the folder for a statement that asks for a file; WriteFault
+    // where the sink failed, which got a beginning of the next text, or the folder for a statement that writes a file, which
+    // may hold anything. Where no count of faults rose, the run ends as that same text does, or out of memory.
     ensures serves { IfSome (options_of (word_texts words.now)) (λ options. options.demo ≡ None →
         IfSome (S.left source.old) (λ script.
         Serves options.max_work (Rose (S.faults source.old) (S.faults source.new))
