@@ -1,1 +1,2 @@
 pub mod RowFilters
+pub mod Unions

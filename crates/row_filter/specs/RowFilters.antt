@@ -11,39 +11,41 @@ use Rattle.narrow_columns.specs.Marks.{marks_of}
 use Rattle.db_catalog.specs.declared.column_range.ColumnRange.{ColumnRange}
 use Rattle.db_catalog.specs.Database.{DatabaseState, table_at}
 use Rattle.db_catalog.specs.ColumnRanges.{IsWordsOf}
+use Rattle.row_filter.specs.declared.union.RangeUnion.{RangeUnion}
+use Rattle.row_filter.specs.Unions.{IsUnionOf}
 use Rattle.heap_pages.specs.declared.spans.RowSpan.{RowSpan}
 
 -- these are the words of a column in the rows on which a condition is true, if they are known
 abbrev pub IsKnown : List (List ℕ) → List ColumnType → FilterTree → Option ColumnRange → Type 0
 IsKnown texts kinds tree known = IfSome known (IsWordsOf texts kinds (λ row. is_true (truth_of tree row)))
 
--- what is seen of a filter: some ranges, and whether these tell all of it
+-- what is seen of a filter: of each condition that is told the ranges, and whether these tell all of it
 pub record FilterRanges : Type 0 where
-  pub ranges : List ColumnRange
+  pub unions : List RangeUnion
   pub exact : Bool
 
 -- whether a row passes each of these tests
 abbrev pub passes_all : List (ValueRow → Bool) → ValueRow → Bool
 passes_all tests row = list_all (λ test. test row) tests
 
--- each range tells which rows pass a test; a row that meets each fixed condition passes all of them; where exact, no other does
+-- each union of ranges tells which rows pass a test; a row that meets each fixed condition passes all of them; where exact, no other does
 pub record IsRowFilter (texts : List (List ℕ)) (kinds : List ColumnType) (conditions : List FilterTree) (filter : FilterRanges) : Type 0 where
   pub tests : List (ValueRow → Bool)
-  pub told : AllZip (IsWordsOf texts kinds) tests filter.ranges
+  pub told : AllZip (IsUnionOf texts kinds) tests filter.unions
   pub none_missed : (row : ValueRow) → meets_filter (fixed_of conditions) row ≡ true → passes_all tests row ≡ true
   pub exact : IsTrue filter.exact → (row : ValueRow) → passes_all tests row ≡ meets_filter (fixed_of conditions) row
 
--- a range more, or there is no room for it, and ranges no longer tell all
-pub record HasMore (found : ColumnRange) (old new : FilterRanges) : Type 0 where
-  pub ranges : new.ranges ≡ old.ranges ++ found ∷ []
+-- a union more, or there is no room for it, and ranges no longer tell all
+pub record HasMore (union : RangeUnion) (old new : FilterRanges) : Type 0 where
+  pub unions : new.unions ≡ old.unions ++ union ∷ []
   pub exact : new.exact ≡ old.exact
 
 pub record HasNoRoom (old new : FilterRanges) : Type 0 where
-  pub ranges : new.ranges ≡ old.ranges
+  pub unions : new.unions ≡ old.unions
   pub inexact : new.exact ≡ false
 
-abbrev pub PutsRange : ColumnRange → (old new : FilterRanges) → Type 0
-PutsRange found old new = HasMore found old new ⊎ HasNoRoom old new
+abbrev pub PutsUnion : RangeUnion → (old new : FilterRanges) → Type 0
+PutsUnion union old new = HasMore union old new ⊎ HasNoRoom old new
 
 -- a filter of these conditions, made for the columns of a table and the texts of its database
 abbrev pub IsFilterOf : DatabaseState → (table : ℕ) → List FilterTree → FilterRanges → Type 0

@@ -7,27 +7,22 @@ ghost use Rattle.query_block.specs.Meaning.{meets_filter};
 ghost use Rattle.query_block.specs.Parameters.{fixed_of, is_open};
 ghost use Rattle.heap_pages.specs.Spans.{rows_of_span};
 ghost use Rattle.db_catalog.specs.Database.{table_at};
-ghost use Rattle.row_filter.specs.RowFilters.{AreMarks, FilterRanges, IsFilterIn, IsFilterOf, IsRowFilter, IsSpanIn, PutsRange};
+ghost use Rattle.row_filter.specs.RowFilters.{AreMarks, FilterRanges, IsFilterIn, IsFilterOf, IsRowFilter, IsSpanIn, PutsUnion};
 
-use crate::known::known_words;
-use db_catalog::{ColumnRange, Database, RowMarks, RowSpan};
+use crate::parts::known_union;
+use crate::union::RangeUnion;
+use db_catalog::{Database, RowMarks, RowSpan};
 use query_block::{Condition, is_open};
 use sql_values::{ColumnType, Texts};
 use std::marker::Model;
 
 /// The most conditions that ranges tell. More of them are asked of each row.
-const MOST_RANGES: usize = 8;
-
-const NO_RANGE: ColumnRange = ColumnRange {
-    column: 0,
-    from: i64::MAX,
-    to: i64::MIN,
-};
+const MOST_CONDITIONS: usize = 4;
 
 /// Of some conditions of a filter the ranges of words that tell which rows meet them.
 #[derive(Drop)]
 pub struct RowFilter {
-    ranges: [ColumnRange; MOST_RANGES],
+    unions: [RangeUnion; MOST_CONDITIONS],
     count: usize,
     exact: bool,
 }
@@ -38,9 +33,9 @@ impl Model for RowFilter {
 
     ghost Value = { FilterRanges };
 
-    ghost view = { λ f. record { ranges = take f.count f.ranges; exact = f.exact } };
+    ghost view = { λ f. record { unions = take f.count f.unions; exact = f.exact } };
 
-    ghost invariant = { λ f. f.count ≤ 8 };
+    ghost invariant = { λ f. f.count ≤ 4 };
 }
 
 // Marks of so many rows.
@@ -55,15 +50,15 @@ fn every_row(count: usize) -> u64
 }
 
 impl RowFilter {
-    // Puts a range behind the others. Where there is no room, the condition isn't told by one.
-    fn put(&mut self, found: ColumnRange)
-        ensures { PutsRange found self.old self.new }
+    // Puts the ranges of a condition behind the others. Where there is no room, the condition isn't told.
+    fn put(&mut self, union: RangeUnion)
+        ensures { PutsUnion union self.old self.new }
     {
-        if self.count == MOST_RANGES {
+        if self.count == MOST_CONDITIONS {
             self.exact = false;
             return;
         }
-        self.ranges[self.count] = found;
+        self.unions[self.count] = union;
         self.count += 1;
     }
 
@@ -80,8 +75,8 @@ impl RowFilter {
         if is_open(condition) {
             return;
         }
-        match known_words(columns, condition, texts) {
-            Some(found) => self.put(found),
+        match known_union(columns, condition, texts) {
+            Some(union) => self.put(union),
             None => self.exact = false,
         }
     }
@@ -94,7 +89,7 @@ impl RowFilter {
         ensures { IsRowFilter texts.now columns.now (map filter_tree conditions.now) result }
     {
         let mut filter = RowFilter {
-            ranges: [NO_RANGE; MOST_RANGES],
+            unions: [RangeUnion::new(); MOST_CONDITIONS],
             count: 0,
             exact: true,
         };
@@ -115,8 +110,8 @@ impl RowFilter {
             (rows_of_span span (table_at (R.database rows.now) table).rows) result }
     {
         let mut marks = every_row(span.count);
-        for found in &self.ranges[..self.count] {
-            marks &= rows.marks(table, *found, span);
+        for union in &self.unions[..self.count] {
+            marks &= union.marks(rows, table, span);
             if marks == 0 {
                 return 0;
             }
@@ -131,11 +126,11 @@ impl RowFilter {
             → IfSome result (λ count. count ≡ count_by (meets_filter (fixed_of conditions))
             (table_at db.now table).rows) }
     {
-        let ranges = &self.ranges[..self.count];
-        if !self.exact || ranges.len() != 1 {
+        let unions = &self.unions[..self.count];
+        if !self.exact || unions.len() != 1 {
             return None;
         }
-        Some(db.count_in_range(table, ranges[0]))
+        unions[0].count(db, table)
     }
 
     /// Whether the marks are exactly those of the rows that meet each condition without a parameter.

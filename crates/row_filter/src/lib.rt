@@ -1,4 +1,4 @@
-//! The filter of a relation made ready for many rows: of the conditions that one range of words of a column tells, the ranges.
+//! The filter of a relation made ready for many rows: of the conditions that few ranges of words tell, the ranges.
 //! To the layers above it promises marks of up to 64 rows at a time: each row that meets the filter has one, and where
 //! ranges tell all of it, no other row has.
 //! It never takes memory, never asks a condition of a row, and looks up a text once, when it is made.
@@ -6,5 +6,7 @@
 
 mod filter;
 mod known;
+mod parts;
+mod union;
 
 pub use filter::RowFilter;

@@ -12,7 +12,7 @@ use Rattle.plan_tree.specs.Usable.{is_fixed_usable}
 use Rattle.plan_tree.specs.Ranges.{Finds}
 use Rattle.plan_tree.proofs.MetParts.{usable-some}
 use Rattle.plan_tree.proofs.PutPlans.{all-fixed}
-use Rattle.row_filter.proofs.known.known_words.Goals as goal
+use Rattle.row_filter.proofs.known.index_words.Goals as goal
 
 pub returns : goal.returns
 returns c =
