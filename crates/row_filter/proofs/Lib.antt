@@ -4,3 +4,4 @@ pub mod Marked
 pub mod Tests
 pub mod Nulls
 pub mod OrParts
+pub mod Equals

@@ -12,10 +12,10 @@ use Rattle.query_block.specs.Truth.{truth_of, truth_of_any}
 use Rattle.row_filter.specs.declared.union.RangeUnion.{RangeUnion}
 use Rattle.row_filter.specs.Unions.{IsUnionOf}
 
-true-or : (a b : Truth) → is_true (truth_or a b) ≡ (is_true a || is_true b)
+pub true-or : (a b : Truth) → is_true (truth_or a b) ≡ (is_true a || is_true b)
 true-or a b = grind arith
 
-or-first : (a b c : Bool) → (a || (b || c)) ≡ ((a || b) || c)
+pub or-first : (a b c : Bool) → (a || (b || c)) ≡ ((a || b) || c)
 or-first true b c = refl
 or-first false b c = refl
 

@@ -2,11 +2,16 @@
 use Rattle.std.specs.Prelude.{◌≡◌, ℕ, ◌||◌, ◌≤◌, Bool, IfSome, IsTrue, List, Option, length, map, take}
 use Rattle.std.specs.List.{AllZip, list_any}
 use Rattle.sql_values.specs.declared.column.ColumnType.{ColumnType}
+use Rattle.sql_values.specs.declared.op.Op.TheVariants.{Eq}
+use Rattle.sql_values.specs.declared.value.Value.{Value}
 use Rattle.sql_values.specs.Stored.{ValueRow}
+use Rattle.sql_values.specs.Truth.{comparison}
 use Rattle.query_block.specs.Conditions.{FilterTree}
 use Rattle.query_block.specs.Meaning.{is_true}
-use Rattle.query_block.specs.Truth.{truth_of}
+use Rattle.query_block.specs.declared.condition.Operand.{Operand}
+use Rattle.query_block.specs.Truth.{operand_value, truth_of, value_at}
 use Rattle.db_catalog.specs.ColumnRanges.{IsWordsOf}
+use Rattle.db_catalog.specs.declared.column_range.ColumnRange.{ColumnRange}
 use Rattle.db_catalog.specs.Database.{DatabaseState, table_at}
 use Rattle.row_filter.specs.declared.union.RangeUnion.{RangeUnion}
 
@@ -34,3 +39,11 @@ AddsTest texts kinds more old new added =
 -- these are the ranges of a union by which a condition is known, if it is
 abbrev pub IsKnownUnion : List (List ℕ) → List ColumnType → FilterTree → Option RangeUnion → Type 0
 IsKnownUnion texts kinds tree known = IfSome known (IsUnionOf texts kinds (λ row. is_true (truth_of tree row)))
+
+-- these are the words of a column in the rows in which it is a value, if they are known
+abbrev pub IsKnownEqual : List (List ℕ) → List ColumnType → (column : ℕ) → Value → Option ColumnRange → Type 0
+IsKnownEqual texts kinds column value known = IfSome known (IsWordsOf texts kinds (λ row. is_true (comparison Eq (value_at row column) value)))
+
+-- these are the words of a column in the rows in which two operands are equal, if they are known
+abbrev pub EqualsIn : List (List ℕ) → List ColumnType → Operand → Operand → Option ColumnRange → Type 0
+EqualsIn texts kinds a b known = IfSome known (IsWordsOf texts kinds (λ row. is_true (comparison Eq (operand_value row a) (operand_value row b))))

@@ -8,5 +8,6 @@ mod filter;
 mod known;
 mod parts;
 mod union;
+mod values;
 
 pub use filter::RowFilter;

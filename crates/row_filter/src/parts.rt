@@ -1,4 +1,4 @@
-// The ranges by which a condition is known: those of its own words, or of the parts of an OR.
+// The ranges by which a condition is known: those of its own words, of the values of an IN, or of the parts of an OR.
 ghost use Rattle.std.specs.Prelude.{◌≡◌, ◌≤◌, [], IfSome, length, map};
 ghost use Rattle.sql_values.specs.Limits.{max_columns};
 ghost use Rattle.query_block.specs.Blocks.{FitsColumns};
@@ -9,6 +9,7 @@ ghost use Rattle.row_filter.specs.Unions.{AddsTest, IsKnownUnion};
 
 use crate::known::known_words;
 use crate::union::RangeUnion;
+use crate::values::add_values;
 use query_block::Condition;
 use sql_values::{ColumnType, Texts};
 
@@ -30,6 +31,21 @@ fn add_words(
     }
 }
 
+// Puts those of a condition that is no OR to others.
+fn add_part(union: &mut RangeUnion, columns: &[ColumnType], part: &Condition, texts: &Texts) -> bool
+    requires few { length columns.now ≤ max_columns }
+    requires fits { FitsColumns [] columns.now (filter_tree part.now) }
+    ensures { AddsTest texts.now columns.now
+        (λ row. is_true (truth_of (filter_tree part.now) row)) union.old union.new result }
+{
+    match part {
+        Condition::OneOf(of, operands) => {
+            add_values(union, columns, of, operands.as_slice(), texts)
+        }
+        _ => add_words(union, columns, part, texts),
+    }
+}
+
 // Puts those of each part of an OR to others.
 fn add_parts(
     union: &mut RangeUnion,
@@ -44,7 +60,7 @@ fn add_parts(
         union.old union.new result }
 {
     for part in parts {
-        if !add_words(union, columns, part, texts) {
+        if !add_part(union, columns, part, texts) {
             return false;
         }
     }
@@ -65,7 +81,7 @@ fn add_condition(
 {
     match condition {
         Condition::Or(parts) => add_parts(union, columns, parts.as_slice(), texts),
-        _ => add_words(union, columns, condition, texts),
+        _ => add_part(union, columns, condition, texts),
     }
 }
 

@@ -1,4 +1,5 @@
-// Ranges of words of which a row has to have one, so that a condition is met: those of the parts of an OR.
+// Ranges of words of which a row has to have one, so that a condition is met: those of the values of an IN, or of the parts
+// of an OR.
 ghost use Rattle.std.specs.Prelude.{◌≡◌, ◌||◌, ◌<◌, ◌≤◌, Bool, IfSome, List, count_by, false, length, map, ℕ};
 ghost use Rattle.sql_values.specs.declared.column.ColumnType.{ColumnType};
 ghost use Rattle.sql_values.specs.Stored.{ValueRow};

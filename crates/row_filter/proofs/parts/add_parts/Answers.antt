@@ -9,8 +9,8 @@ use Rattle.query_block.proofs.Chains.{part-fits}
 use Rattle.row_filter.proofs.OrParts.{part-more, same-union}
 use Rattle.row_filter.proofs.parts.add_parts.Goals as goal
 
-pub add_words-requires-clause-fits : goal.add_words-requires-clause-fits
-add_words-requires-clause-fits c =
+pub add_part-requires-clause-fits : goal.add_part-requires-clause-fits
+add_part-requires-clause-fits c =
     part-fits c.args.columns.now c.args.parts.now c.loop-part.part-index c.part-item.result c.loop-part-test.true c.part-item.is c.requires.fits
 
 pub loop-part-preserved : goal.loop-part-preserved
@@ -19,8 +19,8 @@ loop-part-preserved c = λ test is.
     let i = c.loop-part.part-index in
     let part = c.part-item.result in
     let before : ValueRow → Bool = λ row. test row || is_true (truth_of_any (chain (map filter_tree (take i parts))) row) in
-    same-union c.args.texts.now c.args.columns.now (λ row. before row || is_true (truth_of (filter_tree part) row)) _ c.add_words.new.union
-    (c.add_words.ensures before c.if-not-add_words.false (c.loop-part.invariant test is))
+    same-union c.args.texts.now c.args.columns.now (λ row. before row || is_true (truth_of (filter_tree part) row)) _ c.add_part.new.union
+    (c.add_part.ensures before c.if-not-add_part.false (c.loop-part.invariant test is))
     (λ row. part-more parts i part (test row) row c.loop-part-test.true c.part-item.is)
 
 pub returns : goal.returns
