@@ -38,7 +38,7 @@ impl Session {
         let (grid, stats) = sizes_of(alloc, database, &block, None)?;
         let costing = Costing::new(&block, &stats, &grid);
         let outlook = Outlook::new(alloc, &costing)?;
-        let ladder = Lazy::new(&outlook, DEFAULT_THRESHOLD as u32);
+        let ladder = Lazy::new(outlook, DEFAULT_THRESHOLD as u32);
         block_answer(alloc, max_work, &self.workspace, ladder, &block, book)
     }
 }
