@@ -83,33 +83,35 @@ impl<'c> BestPlans<'c> {
         self.costing
     }
 
-    /// The entries of all sets at the point at this place of the grid, from 0. They are found where they aren't kept yet. The
-    /// only error is out of memory.
-    pub(crate) fn row(&mut self, place: usize) -> Result<[Entry; 64], AllocError>
-        requires { place < length (points_of self.old.grid) }
-        ensures least { IfOk result (λ row. HoldsAt self.old.grid place (LeastAt self.old row)) }
-        ensures stands { IfOk result (AllStand (block_tree self.old.block)) }
-        ensures same { self.new ≡ self.old }
+    /// The entries of all sets at the point at this place of the grid, from 0. Where the point wasn't asked for they are found,
+    /// and not kept.
+    pub(crate) fn row(&self, place: usize) -> [Entry; 64]
+        requires { place < length (points_of self.now.grid) }
+        ensures least { HoldsAt self.now.grid place (LeastAt self.now result) }
+        ensures stands { AllStand (block_tree self.now.block) result }
     {
         if let Some(row) = self.rows.row(place) {
-            return Ok(*row);
+            return *row;
         }
-        let costing = self.costing;
-        let row = found_row(costing, &mut self.room, &self.inside, &self.rows, place);
-        self.rows.keep(place, &row)?;
-        Ok(row)
+        let mut room = PriceRoom::new();
+        found_row(self.costing, &mut room, &self.inside, &self.rows, place)
     }
 
-    /// What the best plan costs at the point at this place of the grid, from 0: the optimal cost there. The only error is out of
-    /// memory.
+    /// What the best plan costs at the point at this place of the grid, from 0: the optimal cost there. What is found is kept.
+    /// The only error is out of memory.
     pub(crate) fn cost(&mut self, place: usize) -> Result<u128, AllocError>
         requires { place < length (points_of self.old.grid) }
         ensures cost { IfOk result (λ cost. HoldsAt self.old.grid place
             (λ point. cost ≡ optimal_cost (costing_tree self.old) point)) }
         ensures same { self.new ≡ self.old }
     {
-        let all = set_of_all(self.costing.block());
-        let row = self.row(place)?;
+        let costing = self.costing;
+        let all = set_of_all(costing.block());
+        if let Some(row) = self.rows.row(place) {
+            return Ok(row[all.number() as usize].cost);
+        }
+        let row = found_row(costing, &mut self.room, &self.inside, &self.rows, place);
+        self.rows.keep(place, &row)?;
         Ok(row[all.number() as usize].cost)
     }
 }

@@ -39,13 +39,14 @@ impl KeptRows {
         }
     }
 
-    /// So many places without a row. The only error is out of memory.
+    /// So many places without a row, and room for all rows: what no row is written to takes no memory of the machine. The only
+    /// error is out of memory.
     pub(crate) fn with_places(alloc: Global, places: usize) -> Result<KeptRows, AllocError>
         ensures { IfOk result (λ kept. kept ≡ replicate places None) }
     {
         Ok(KeptRows {
             numbers: vec![in alloc; None; places]?,
-            rows: Vec::new(alloc),
+            rows: Vec::with_capacity(alloc, places)?,
         })
     }
 

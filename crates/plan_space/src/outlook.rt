@@ -93,21 +93,20 @@ fn plan_of(alloc: Global, costing: &Costing<'_>, row: &[Entry; 64]) -> Result<Pl
 // Adds the best plan at the next of some points, where it isn't there.
 fn add_plan(
     alloc: Global,
-    best: &mut BestPlans<'_>,
+    best: &BestPlans<'_>,
     points: &[SurfacePoint],
     number: usize,
     plans: &mut Vec<Plan>,
 ) -> Result<(), AllocError>
-    requires points { All (IsSurfacePoint (costing_tree best.old)) points.now }
+    requires points { All (IsSurfacePoint (costing_tree best.now)) points.now }
     requires number { number < length points.now }
     requires known { HoldsBest
-        (costing_tree best.old) (surface_points points.now) number plans.old.items }
-    ensures plans { OnOk result (HoldsBest
-        (costing_tree best.old) (surface_points points.now) (number + 1) plans.new.items) }
-    ensures same { best.new ≡ best.old }
+        (costing_tree best.now) (surface_points points.now) number plans.old.items }
+    ensures { OnOk result (HoldsBest
+        (costing_tree best.now) (surface_points points.now) (number + 1) plans.new.items) }
 {
     let costing = best.costing();
-    let row = best.row(costing.grid().place_of(&points[number].point))?;
+    let row = best.row(costing.grid().place_of(&points[number].point));
     if has_plan(costing, &row, plans.as_slice()) {
         return Ok(());
     }
@@ -118,13 +117,12 @@ fn add_plan(
 // The best plans at some points, each once.
 fn plans_at(
     alloc: Global,
-    best: &mut BestPlans<'_>,
+    best: &BestPlans<'_>,
     points: &[SurfacePoint],
 ) -> Result<Vec<Plan>, AllocError>
-    requires { All (IsSurfacePoint (costing_tree best.old)) points.now }
-    ensures plans { IfOk result (λ plans. HoldsBest
-        (costing_tree best.old) (surface_points points.now) (length points.now) plans.items) }
-    ensures same { best.new ≡ best.old }
+    requires { All (IsSurfacePoint (costing_tree best.now)) points.now }
+    ensures { IfOk result (λ plans. HoldsBest
+        (costing_tree best.now) (surface_points points.now) (length points.now) plans.items) }
 {
     let mut plans = Vec::new(alloc);
     for number in 0..points.len() {
@@ -208,7 +206,7 @@ impl<'c> Outlook<'c> {
         ensures same { self.new ≡ self.old }
     {
         let points = self.points(alloc, cost)?;
-        let plans = plans_at(alloc, &mut self.best, points.as_slice())?;
+        let plans = plans_at(alloc, &self.best, points.as_slice())?;
         Ok(FrontierPlans { points, plans })
     }
 }

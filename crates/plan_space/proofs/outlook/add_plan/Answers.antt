@@ -21,22 +21,19 @@ returns-then-has_plan c =
     let plans = c.args.plans.now.items in
     let at = slice_index_or points c.args.number c.index-points-number.result in
     let place = c.place_of.result in
-    let row = c.in_ok-row.row in
+    let row = c.row-row.result in
     let same = c.costing-costing.ensures in
     let grid = c.grid.ensures ∙ ap (λ (one : CostingShape). one.grid) same in
     let there = subst (λ (g : GridShape). point_at g place ≡ Some at.point) grid c.place_of.ensures.place in
-    let least = subst (λ (one : CostingShape). LeastAt one row at.point) (sym same) (c.in_ok-row.ensures.least at.point there) in
+    let least = subst (λ (one : CostingShape). LeastAt one row at.point) (sym same) (c.row-row.ensures.least at.point there) in
     let has = subst (λ (one : CostingShape). HasBest (costing_tree one) c.as_slice.result.now at.point) same (c.has_plan.ensures c.if-has_plan.true at.point least) in
     let here = subst (λ (all : List Plan). HasBest costing all at.point) c.as_slice.ensures.value has in
     let point : nth_point (surface_points points) c.args.number ≡ at.point =
     get_or-map (λ (one : SurfacePoint). one.point) points c.args.number c.index-points-number.result [] c.requires.number in
-    record {
-      plans = holds-known costing (surface_points points) c.args.number plans (subst (HasBest costing plans) (sym point) here) c.requires.known;
-      same = c.row.ensures.same;
-    }
+    holds-known costing (surface_points points) c.args.number plans (subst (HasBest costing plans) (sym point) here) c.requires.known
 
-pub returns-clause-plans : goal.returns-clause-plans
-returns-clause-plans c =
+pub returns : goal.returns
+returns c =
     let best = c.args.best.now in
     let costing = costing_tree best in
     let points = c.args.points.now in
@@ -44,12 +41,12 @@ returns-clause-plans c =
     let plans = c.args.plans.now.items in
     let at = slice_index_or points number c.index-points-number.result in
     let place = c.place_of.result in
-    let row = c.in_ok-row.row in
+    let row = c.row-row.result in
     let p = c.in_ok-plan_of.field-0 in
     let same = c.costing-costing.ensures in
     let grid = c.grid.ensures ∙ ap (λ (one : CostingShape). one.grid) same in
     let there = subst (λ (g : GridShape). point_at g place ≡ Some at.point) grid c.place_of.ensures.place in
-    let least = subst (λ (one : CostingShape). LeastAt one row at.point) (sym same) (c.in_ok-row.ensures.least at.point there) in
+    let least = subst (λ (one : CostingShape). LeastAt one row at.point) (sym same) (c.row-row.ensures.least at.point there) in
     let is_best = subst (λ (one : CostingShape). IsBest (costing_tree one) at.point (plan_tree p)) same (c.in_ok-plan_of.ensures at.point least) in
     let point : nth_point (surface_points points) number ≡ at.point =
     get_or-map (λ (one : SurfacePoint). one.point) points number c.index-points-number.result [] c.requires.number in
