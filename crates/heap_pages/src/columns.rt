@@ -122,7 +122,8 @@ fn push_block(columns: &mut Vec<Column>, rows: &[i64], width: usize, count: usiz
     requires room { HaveRoomFor width count rows.now columns.old.items }
     ensures pushed { (number : ℕ) → (d : ColumnState) → number < vec_len columns.old
         → slice_index_or columns.new.items number d
-        ≡ with_words (words_of_column width number count rows.now) (slice_index_or columns.old.items number d) }
+        ≡ with_words (words_of_column width number count rows.now)
+        (slice_index_or columns.old.items number d) }
     ensures count { vec_len columns.new ≡ vec_len columns.old }
 {
     for place in 0..columns.len() {
@@ -142,7 +143,8 @@ fn push_in(columns: &mut Vec<Column>, words: &[i64], growth: Growth)
     requires room { HaveRoomFor growth.width growth.more words.now columns.old.items }
     ensures { (rows : List ℤ) → AreColumnsOf growth.width growth.before rows columns.old.items
         → length rows ≡ growth.before * growth.width
-        → AreColumnsOf growth.width (growth.before + growth.more) (rows ++ words.now) columns.new.items }
+        → AreColumnsOf growth.width (growth.before + growth.more)
+        (rows ++ words.now) columns.new.items }
 {
     let mut done = 0;
     while done < growth.more {
