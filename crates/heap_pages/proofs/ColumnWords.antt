@@ -38,10 +38,6 @@ words_of_column-append width place (suc m) n words more inside filled =
     ∙ (λ i. first i ∷ words_of_column width place (m + n) (drop-append-le width words more enough i))
     ∙ ap (λ ws. get_or words place (pos 0) ∷ ws) (words_of_column-append width place m n (drop width words) more inside others)
 
--- no rows have no words
-pub words_of_column-none : (width place n : ℕ) (words : List ℤ) → n ≡ 0 → words_of_column width place n words ≡ []
-words_of_column-none width place n words none = rw none refl
-
 -- the words of some rows, and of those behind them
 pub words_of_column-split : (width place m n : ℕ) (words : List ℤ) → words_of_column width place (m + n) words ≡ words_of_column width place m words ++ words_of_column width place n (drop (m * width) words)
 words_of_column-split width place zero n words =
@@ -89,6 +85,7 @@ kept-words width rows number words columns column are is =
     sym (ap (λ (c : ColumnState). c.words) (get_or_from_slice_get columns number column column is))
     ∙ are.each number column (slice_get_within columns number column is)
 
+-- what holds of all holds of the front, and of the rest
 All-left : {X : Type 0} (P : X → Type 0) (xs ys : List X) → All P (xs ++ ys) → All P xs
 All-left P xs ys all k d below =
     subst P (get_or_append_left xs ys d k below) (all k d (omega (arith, below, length-append xs ys)))
@@ -99,12 +96,6 @@ All-right P xs ys all k d below =
 
 -- room for the words of some rows, and, once these are there, for those behind them
 module _ (width number m n : ℕ) (words : List ℤ) (column : ColumnState) (has : HasRoomFor (words_of_column width number (m + n) words) column) where
-  front : List ℤ
-  front = words_of_column width number m words
-
-  rest : List ℤ
-  rest = words_of_column width number n (drop (m * width) words)
-
   parts : words_of_column width number (m + n) words ≡ words_of_column width number m words ++ words_of_column width number n (drop (m * width) words)
   parts = words_of_column-split width number m n words
 
@@ -120,6 +111,7 @@ module _ (width number m n : ℕ) (words : List ℤ) (column : ColumnState) (has
     taken = All-right (IsTaken column) (words_of_column width number m words) (words_of_column width number n (drop (m * width) words)) (subst (All (IsTaken column)) parts has.taken);
   }
 
+-- what lies within an extent lies within a wider one
 within-wider : (other extent : Extent) → IsWiderThan other extent → (word : ℤ) → IsWithin other.least other.greatest word → IsWithin extent.least extent.greatest word
 within-wider other extent wider word within some =
     let both = within some in

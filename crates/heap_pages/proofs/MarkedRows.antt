@@ -40,6 +40,7 @@ bit_small : (b : Bool) → cond b 1 0 < 2 ^ 1
 bit_small true = omega arith
 bit_small false = omega arith
 
+-- a mark is one bit
 pub mark-le : (b : Bool) → cond b 1 0 ≤ 1
 mark-le true = omega arith
 mark-le false = omega arith
