@@ -3,7 +3,7 @@
 
   python3 bench/robust.py [--scale X] [--seed N] [--repeat N] [--seconds N] [--minutes N] [--only WORD]
                           [--sides NAME,..] [--program PATH] [--json FILE] [--svg FILE]
-  python3 bench/robust.py --from FILE [--svg FILE] [--first-in FILE] [--all-in FILE]
+  python3 bench/robust.py --from FILE [--svg FILE] [--first-in FILE]
 
 The proved program is the one that `rt run` left in crates/bouquet/out. The other two are Debian's: apt-get install
 sqlite3 postgresql. Seeded data is made in bench/data (bench/robust_data.py): at scale 1 a film database of some three
@@ -36,10 +36,9 @@ Printed are tables in Markdown:
   - of each query: its tables, and the work, the runs and the contour that bouquet prints.
 
 --json writes these figures into a file after each turn, with all times, the machine, the versions and the settings; --from reads such a
-file, and measures nothing. --svg draws them. --first-in and --all-in look whether a document has the first table, or
-all of them.
+file, and measures nothing. --svg draws them. --first-in looks whether a document has the first table.
 
-The status is 1 where the rows of two sides differ or a document hasn't a table, and else 0.
+The status is 1 where the rows of two sides differ or the document hasn't the table, and else 0.
 """
 import argparse
 import collections
@@ -230,16 +229,13 @@ def rows_of_files(database):
     return count
 
 
-def missing_tables(path, wanted):
-    """How many tables a document hasn't, each of which is named by its last line."""
-    if not path:
-        return 0
+def has_table(path, wanted):
+    """Whether a document has a table; if not, that is said."""
     with open(path, encoding="utf-8") as file:
-        text = "\n" + file.read() + "\n"
-    missing = [it for it in wanted if f"\n{it}\n" not in text]
-    for it in missing:
-        print(f"robust: {path} hasn't this table: {it.splitlines()[-1]}", file=sys.stderr)
-    return len(missing)
+        found = f"\n{wanted}\n" in f"\n{file.read()}\n"
+    if not found:
+        print(f"robust: {path} hasn't this table: {wanted.splitlines()[-1]}", file=sys.stderr)
+    return found
 
 
 def arguments():
@@ -256,7 +252,6 @@ def arguments():
     words.add_argument("--svg")
     words.add_argument("--from", dest="figures")
     words.add_argument("--first-in")
-    words.add_argument("--all-in")
     given = words.parse_args()
     if given.repeat < 1:
         words.error("at least one turn is needed")
@@ -289,8 +284,7 @@ def main():
             write(given, figures)
     printed = tables(figures)
     print("\n\n".join(printed))
-    missing = missing_tables(given.first_in, printed[:1]) + missing_tables(given.all_in, printed)
-    sys.exit(1 if missing else 0)
+    sys.exit(1 if given.first_in and not has_table(given.first_in, printed[0]) else 0)
 
 
 if __name__ == "__main__":
