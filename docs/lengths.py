@@ -1,15 +1,15 @@
 #!/usr/bin/env python3
 """usage: docs/lengths.py README..
 
-Looks whether each of these READMEs of crates has at most 40 lines, and no paragraph of more than 60 words. An item of a list is
-a paragraph, and so is a cell of a table; a heading and a line of code are none. Each that is longer is named by its document
-and line; then the status is 1, else 0.
+Looks whether each of these READMEs of crates has at most 40 lines and 400 words, cells of tables and lines of code counted, and
+no paragraph of more than 60 words. An item of a list is a paragraph, and so is a cell of a table; a heading and a line of code
+are none. Each that is longer is named by its document and line; then the status is 1, else 0.
 """
 import pathlib
 import re
 import sys
 
-LINES, WORDS = 40, 60
+LINES, WORDS, ALL_WORDS = 40, 60, 400
 ITEM = re.compile(r"\s*(-|\d+\.) ")
 CELL_END = re.compile(r"(?<!\\)\|")
 
@@ -31,9 +31,12 @@ def paragraphs(lines):
 
 
 def faults_of(path):
-    lines = pathlib.Path(path).read_text(encoding="utf-8").splitlines()
+    text = pathlib.Path(path).read_text(encoding="utf-8")
+    lines, words = text.splitlines(), len(text.split())
     if len(lines) > LINES:
         yield f"{path}: {len(lines)} lines"
+    if words > ALL_WORDS:
+        yield f"{path}: {words} words"
     for number, text in paragraphs(lines):
         if len(text.split()) > WORDS:
             yield f"{path}:{number}: {len(text.split())} words"
@@ -45,7 +48,7 @@ def main():
         print(fault, file=sys.stderr)
     if faults:
         sys.exit(1)
-    print(f"each of {len(sys.argv) - 1} READMEs of crates has at most {LINES} lines and {WORDS} words a paragraph")
+    print(f"each of {len(sys.argv) - 1} READMEs of crates has at most {LINES} lines, {ALL_WORDS} words and {WORDS} words a paragraph")
 
 
 main()
