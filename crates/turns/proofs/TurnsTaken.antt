@@ -1,12 +1,12 @@
 -- Turns of some numbers, one after another.
 use Rattle.std.proofs.Common.{◌≡◌, ◌≢◌, ◌∙◌, ◌⊎◌, inl, inr, ℕ, zero, suc, ◌+◌, ◌<◌, ◌++◌, List, [], ◌∷◌, length, get_or, map, set, refl, ap, sym, subst, arith}
-use Rattle.std.specs.Prelude.{OnErr, Option, Some, None, Result, Ok, Err, option_map, slice_get}
+use Rattle.std.specs.Prelude.{IfSome, OnErr, Option, Some, None, Result, Ok, Err, option_map, option_to_list, slice_get, true}
 use Rattle.std.proofs.lemmas.List.{append_assoc, append-nil, map-set, set-get_or}
 use Rattle.std.proofs.lemmas.Option.{get_or_from_slice_get, slice_get-get_or, slice_get-map}
 use Rattle.std.proofs.lemmas.List.Elements.{All-nil, All-cons, All-append, All-weaker}
-use Rattle.turns.specs.Standing.{JobTask, Standing, Lost, job_after, turns_of, fresh_job}
+use Rattle.turns.specs.Standing.{JobTask, Standing, Runs, Ended, Past, Lost, job_after, turns_of, fresh_job}
 use Rattle.turns.specs.Jobs.{JobShape, JobTree, job_tree, task_of}
-use Rattle.turns.specs.Taking.{EachStands, NamesNoLost, StopsAmong, StopsAtTurn, TakesAll, job_lost, job_turned, jobs_turned, named, turn_told, turn_told_of, turns_told}
+use Rattle.turns.specs.Taking.{EachStands, NamesNoLost, StopsAmong, StopsAtTurn, TakesAll, is_running, job_lost, job_turned, jobs_turned, may_stop, named, turn_told, turn_told_of, turns_told}
 use Rattle.turns.specs.declared.turn.Turn.{Turn}
 use Rattle.turns.proofs.JobsTurned.{stays-lost, turned-at, turned-none, turned-one, turned-turned, turns-add}
 
@@ -97,10 +97,25 @@ set-same : (jobs : List JobTree) (number : ℕ) (job : JobTree) → slice_get jo
 set-same jobs number job there = ap (set jobs number) (sym (get_or_from_slice_get jobs number job job there)) ∙ set-get_or jobs number job
 
 -- a stop at the turn of one job
-pub stops-at : (number : ℕ) (jobs : List JobTree) (job one : JobTree) → slice_get jobs number ≡ Some job → (one ≡ job) ⊎ (one ≡ job_lost job)
+pub stops-at : (number : ℕ) (jobs : List JobTree) (job one : JobTree) → slice_get jobs number ≡ Some job → may_stop job.standing ≡ true → (one ≡ job) ⊎ (one ≡ job_lost job)
     → StopsAtTurn number jobs (set jobs number one)
-stops-at number jobs job one there (inl same) = record { job = job; there = there; jobs = inl (ap (set jobs number) same ∙ set-same jobs number job there) }
-stops-at number jobs job one there (inr lost) = record { job = job; there = there; jobs = inr (ap (set jobs number) lost) }
+stops-at number jobs job one there may (inl same) = record { job = job; there = there; may = may; jobs = inl (ap (set jobs number) same ∙ set-same jobs number job there) }
+stops-at number jobs job one there may (inr lost) = record { job = job; there = there; may = may; jobs = inr (ap (set jobs number) lost) }
+
+runs-may : (standing : Standing) → is_running standing ≡ true → may_stop standing ≡ true
+runs-may (Runs place spent left) runs = refl
+runs-may (Ended end) runs = runs
+runs-may Past runs = runs
+runs-may Lost runs = refl
+
+-- only a turn of a job that runs is told
+pub told-runs : {P : Type 0} (number : ℕ) (task : JobTask) (standing : Standing) (turn : Option Turn) → option_to_list turn ≡ turn_told number task standing
+    → (is_running standing ≡ true → P) → IfSome turn (λ _. P)
+told-runs number task standing None told room = tt
+told-runs number task (Runs place spent left) (Some turn) told room = room refl
+told-runs number task (Ended end) (Some turn) told room = absurd cc
+told-runs number task Past (Some turn) told room = absurd cc
+told-runs number task Lost (Some turn) told room = absurd cc
 
 pub stops-one : (number : ℕ) (old new : List JobTree) → StopsAtTurn number old new → StopsAmong (number ∷ []) old new
 stops-one number old new stops = record {
@@ -111,10 +126,8 @@ stops-one number old new stops = record {
   stops = subst (λ jobs. StopsAtTurn number jobs new) (sym (turned-none 0 old)) stops;
 }
 
-pub stops-before : (number : ℕ) (jobs : List JobTree) → number < length jobs → StopsAmong (number ∷ []) jobs jobs
-stops-before number jobs there =
-    let at = job-at jobs number there in
-    stops-one number jobs jobs (record { job = at.0; there = at.1; jobs = inl refl })
+pub stops-before : (number : ℕ) (jobs : List JobTree) (job : JobTree) → slice_get jobs number ≡ Some job → is_running job.standing ≡ true → StopsAmong (number ∷ []) jobs jobs
+stops-before number jobs job there runs = stops-one number jobs jobs (record { job = job; there = there; may = runs-may job.standing runs; jobs = inl refl })
 
 -- no job is asked anything else
 abbrev pub tasks_of : List JobTree → List JobTask

@@ -4,7 +4,7 @@ use Rattle.bouquet_type.specs.Schedule.{final_plan}
 use Rattle.bouquet_type.specs.Cursor.{first_attempt}
 use Rattle.bouquet_run.specs.Coming.{Coming, Passes, Ends, GoesOn}
 use Rattle.turns.specs.Standing.{JobTask, Standing, Runs, Ended, Past, Lost, job_after, next_coming, turns_of}
-use Rattle.turns.specs.Jobs.{JobTree}
+use Rattle.turns.specs.Jobs.{JobShape, JobTree, job_tree}
 use Rattle.turns.specs.declared.turn.Turn.{Turn}
 
 -- a job after so many turns more, and one that memory ran out for
@@ -51,11 +51,30 @@ abbrev pub turns_told : List ℕ → List JobTree → List Turn
 turns_told [] jobs = []
 turns_told (number ∷ more) jobs = turn_told_of number (slice_get jobs number) ++ turns_told more (jobs_turned (number ∷ []) 0 jobs)
 
+-- whether a job runs; and whether memory may run out at a turn of it: one that is answered or limited has nothing to do
+abbrev pub is_running : Standing → Bool
+is_running (Runs place spent left) = true
+is_running (Ended end) = false
+is_running Past = false
+is_running Lost = false
+
+abbrev pub may_stop : Standing → Bool
+may_stop (Runs place spent left) = true
+may_stop (Ended end) = false
+may_stop Past = false
+may_stop Lost = true
+
 -- a turn was taken of a job that isn't lost, and is told where it runs; or memory ran out, and it is as before, or lost
 abbrev pub TakesTurn : {E : Type 0} → (number : ℕ) → (old new : JobTree) → Result (Option Turn) E → Type 0
 TakesTurn number old new (Ok turn) =
     (new ≡ job_turned 1 old) × (option_to_list turn ≡ turn_told number old.task old.standing) × (old.standing ≢ Lost)
-TakesTurn number old new (Err e) = (new ≡ old) ⊎ (new ≡ job_lost old)
+TakesTurn number old new (Err e) = (may_stop old.standing ≡ true) × ((new ≡ old) ⊎ (new ≡ job_lost old))
+
+-- the jobs that don't run stay as they are, to what they spent and to their rows
+abbrev pub IdleStay : (old new : List JobShape) → Type 0
+IdleStay old new =
+    (number : ℕ) (job : JobShape) → slice_get old number ≡ Some job → is_running (job_tree job).standing ≡ false
+    → slice_get new number ≡ Some job
 
 -- none of these numbers is that of a lost job
 abbrev pub NamesNoLost : List ℕ → List JobTree → Type 0
@@ -76,10 +95,11 @@ pub record TakesRunning (numbers : List ℕ) (old new : List JobTree) (told told
   pub takes : TakesAll numbers old new told told'
   pub told_all : numbers_told told' ≡ numbers_told told ++ numbers
 
--- memory ran out at the turn of this number: all jobs are as before, or that one is lost
+-- memory ran out at the turn of this number, which has something to do or is lost: all jobs are as before, or that one is lost
 pub record StopsAtTurn (number : ℕ) (old new : List JobTree) : Type 0 where
   pub job : JobTree
   pub there : slice_get old number ≡ Some job
+  pub may : may_stop job.standing ≡ true
   pub jobs : (new ≡ old) ⊎ (new ≡ set old number (job_lost job))
 
 -- memory ran out at one of these numbers: the turns of those before it were taken, and no others
@@ -96,13 +116,7 @@ EachStands numbers old new =
     (number count : ℕ) (job : JobTree) → slice_get old number ≡ Some job → job.standing ≡ job_after job.task count
     → slice_get new number ≡ Some (record { task = job.task; standing = job_after job.task (count + named number numbers) })
 
--- whether a job runs, and how many turns it may take at the most
-abbrev pub is_running : Standing → Bool
-is_running (Runs place spent left) = true
-is_running (Ended end) = false
-is_running Past = false
-is_running Lost = false
-
+-- how many turns a job may take at the most
 abbrev pub turns_left : Standing → ℕ
 turns_left (Runs place spent left) = 1 + length left
 turns_left (Ended end) = 0

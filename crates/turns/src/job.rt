@@ -1,5 +1,5 @@
 // A job: a query that is answered by turns. It has a meter, two stacks and what its executions learned of its own.
-ghost use Rattle.std.specs.Prelude.{◌≡◌, ◌≤◌, option_map};
+ghost use Rattle.std.specs.Prelude.{◌≡◌, ◌≤◌, false, option_map};
 ghost use Rattle.query_block.specs.Blocks.{block_tree, IsPutOf};
 ghost use Rattle.db_catalog.specs.Fits.{Fits};
 ghost use Rattle.exec_pipe.specs.Counting.{Knows};
@@ -188,9 +188,10 @@ impl<'d> Job<'d> {
     }
 
     // A turn of it, which has this number among jobs: the next execution, where it runs. Out of memory nothing changed, or it
-    // is broken.
+    // is broken. Where it doesn't run, nothing changes at all, and only a broken one answers an error.
     pub(crate) fn turn(&mut self, alloc: Global, number: u32) -> Result<Option<Turn>, AllocError>
-        ensures { TakesTurn number (job_tree self.old) (job_tree self.new) result }
+        ensures takes { TakesTurn number (job_tree self.old) (job_tree self.new) result }
+        ensures idle { is_running (job_tree self.old).standing ≡ false → self.new ≡ self.old }
     {
         match self.progress {
             Progress::Running { place } => self.step(alloc, number, place),

@@ -1,8 +1,8 @@
 // The turns of several jobs. It relies on each job for what its turn does; what it adds is whose turn it is, and what is told.
-ghost use Rattle.std.specs.Prelude.{◌≡◌, ◌^◌, ◌<◌, ◌≤◌, ◌++◌, true, false, [], ◌∷◌, All, IfOk, OnErr, OnOk, length, map, option_to_list};
+ghost use Rattle.std.specs.Prelude.{◌≡◌, ◌^◌, ◌<◌, ◌≤◌, ◌++◌, true, false, [], ◌∷◌, All, IfOk, IfSome, OnErr, OnOk, length, map, option_to_list};
 ghost use Rattle.std.specs.Vec.{vec_capacity};
 ghost use Rattle.turns.specs.Jobs.{job_tree, task_of};
-ghost use Rattle.turns.specs.Taking.{EachStands, NamesNoLost, StopsAmong, TakesAll, TakesRunning, is_running};
+ghost use Rattle.turns.specs.Taking.{EachStands, IdleStay, NamesNoLost, StopsAmong, TakesAll, TakesRunning, is_running};
 ghost use Rattle.turns.specs.Taking.{jobs_turned, running_at, numbers_running, numbers_told, numbers_to_end, rounds_left, turns_told};
 
 use crate::job::Job;
@@ -21,12 +21,25 @@ fn push_within(taken: &mut Vec<Turn>, turn: Turn)
 
 // Puts a turn behind others, if there is one.
 fn push_taken(taken: &mut Vec<Turn>, turn: Option<Turn>)
-    requires { length taken.old.items < vec_capacity taken.old }
+    requires { IfSome turn (λ _. length taken.old.items < vec_capacity taken.old) }
     ensures { taken.new.items ≡ taken.old.items ++ option_to_list turn }
 {
     if let Some(turn) = turn {
         push_within(taken, turn);
     }
+}
+
+// Makes room for what is told of a job's turn, if it runs.
+fn make_room(taken: &mut Vec<Turn>, job: &Job<'_>) -> Result<(), AllocError>
+    ensures same { taken.new.items ≡ taken.old.items }
+    ensures room { OnOk result (is_running (job_tree job.now).standing ≡ true →
+        length taken.new.items < vec_capacity taken.new) }
+    ensures runs { OnErr result (is_running (job_tree job.now).standing ≡ true) }
+{
+    if job.is_running() {
+        taken.reserve(1)?;
+    }
+    Ok(())
 }
 
 // The turn of one job. The room for what is told of it is there before it is taken.
@@ -41,19 +54,22 @@ fn take_turn(
         taken.old.items taken.new.items) }
     ensures stops { OnErr result
         (StopsAmong (number ∷ []) (map job_tree jobs.old) (map job_tree jobs.new)) }
+    ensures idle { IdleStay jobs.old jobs.new }
 {
-    taken.reserve(1)?;
     let job = &mut jobs[number as usize];
+    make_room(taken, job)?;
     let turn = job.turn(alloc, number)?;
     push_taken(taken, turn);
     Ok(())
 }
 
 /// Takes turns of jobs in the order of these numbers, each below the number of jobs: a turn is the next execution of the job of
-/// that number. A job that is answered or limited takes none. The turns that were taken are told, in order.
+/// that number. A job that is answered or limited takes none, and its turn needs no memory. The turns that were taken are told,
+/// in order.
 ///
 /// The error is want of memory. Then the turns of the numbers before were taken; the job whose turn it was is broken, or as it
-/// was; and the others are as their turns left them. A broken job ends each call in which it is named so.
+/// was; and the others are as their turns left them. A broken job ends each call in which it is named so. Whatever is answered,
+/// a job that doesn't run stays as it is, to what it spent and to its rows.
 pub fn take_turns(
     alloc: Global,
     jobs: &mut [Job<'_>],
@@ -69,6 +85,7 @@ pub fn take_turns(
     ensures unbroken { OnOk result (NamesNoLost turns.now (map job_tree jobs.old)) }
     ensures stopped { OnErr result
         (StopsAmong turns.now (map job_tree jobs.old) (map job_tree jobs.new)) }
+    ensures idle { IdleStay jobs.old jobs.new }
     ensures whole { map task_of jobs.new ≡ map task_of jobs.old }
 {
     let mut taken = Vec::new(alloc);
@@ -103,6 +120,7 @@ fn take_turn_of_round(
         (map job_tree jobs.old) (map job_tree jobs.new) taken.old.items taken.new.items) }
     ensures stops { OnErr result (StopsAmong (running_at number (map job_tree jobs.old))
         (map job_tree jobs.old) (map job_tree jobs.new)) }
+    ensures idle { IdleStay jobs.old jobs.new }
 {
     let job = &jobs[number as usize];
     if job.is_running() {
@@ -119,6 +137,7 @@ fn take_round(alloc: Global, jobs: &mut [Job<'_>], taken: &mut Vec<Turn>) -> Res
         (map job_tree jobs.old) (map job_tree jobs.new) taken.old.items taken.new.items) }
     ensures stops { OnErr result (StopsAmong (numbers_running 0 (map job_tree jobs.old))
         (map job_tree jobs.old) (map job_tree jobs.new)) }
+    ensures idle { IdleStay jobs.old jobs.new }
 {
     for number in 0..jobs.len() {
         take_turn_of_round(alloc, jobs, number as u32, taken)?;
@@ -130,7 +149,7 @@ fn take_round(alloc: Global, jobs: &mut [Job<'_>], taken: &mut Vec<Turn>) -> Res
 /// jobs. The turns that were taken are told, in order.
 ///
 /// The error is want of memory. Then the turns before were taken; the job whose turn it was is broken, or as it was; and the
-/// others are as their turns left them. A job that was broken before takes no turn.
+/// others are as their turns left them. A job that didn't run before takes no turn, and stays as it is.
 pub fn finish_turns(alloc: Global, jobs: &mut [Job<'_>]) -> Result<Vec<Turn>, AllocError>
     requires { length jobs.old < 2 ^ 32 }
     ensures turned { OnOk result (map job_tree jobs.new
@@ -142,6 +161,7 @@ pub fn finish_turns(alloc: Global, jobs: &mut [Job<'_>]) -> Result<Vec<Turn>, Al
     ensures ended { OnOk result (All (λ job. is_running job.standing ≡ false) (map job_tree jobs.new)) }
     ensures stopped { OnErr result (StopsAmong (numbers_to_end (map job_tree jobs.old))
         (map job_tree jobs.old) (map job_tree jobs.new)) }
+    ensures idle { IdleStay jobs.old jobs.new }
     ensures whole { map task_of jobs.new ≡ map task_of jobs.old }
 {
     let mut taken = Vec::new(alloc);
