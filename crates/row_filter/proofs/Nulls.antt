@@ -7,14 +7,13 @@ use Rattle.sql_values.specs.declared.column.ColumnType.{ColumnType}
 use Rattle.sql_values.specs.declared.column.ColumnType.TheVariants.{Integer, Varchar}
 use Rattle.sql_values.specs.declared.value.Value.TheVariants as value
 use Rattle.sql_values.specs.Words.{null_word, word_meaning}
-use Rattle.sql_values.specs.Stored.{ValueRow, values_of}
+use Rattle.sql_values.specs.Stored.{values_of}
 use Rattle.sql_values.specs.Truth.{certain, is_null, truth_not}
 use Rattle.query_block.specs.Blocks.{kind_at}
 use Rattle.query_block.specs.Meaning.{is_true}
 use Rattle.query_block.specs.Truth.{value_at}
 use Rattle.query_block.proofs.Words.{value-at}
-use Rattle.db_catalog.specs.declared.column_range.ColumnRange.{ColumnRange}
-use Rattle.db_catalog.specs.ColumnRanges.{AreStored, IsWordsOf}
+use Rattle.db_catalog.specs.ColumnRanges.{AreStored}
 
 some-word : (b : Bool) (texts : List (List ℕ)) (kind : ColumnType) (word : ℤ) → is_null (cond b value.Null (word_meaning texts kind word)) ≡ b
 some-word true texts kind word = refl
@@ -41,8 +40,3 @@ not-null false = refl
 pub is-null : (b : Bool) → b ≡ is_true (certain b)
 is-null true = refl
 is-null false = refl
-
--- the words of a test are those of any test that the same rows pass
-pub same-words : (texts : List (List ℕ)) (kinds : List ColumnType) (test other : ValueRow → Bool) (found : ColumnRange) → IsWordsOf texts kinds test found → ((row : ValueRow) → test row ≡ other row)
-    → IsWordsOf texts kinds other found
-same-words texts kinds test other found is same = record { there = is.there; tells = λ words stored fits. is.tells words stored fits ∙ same (values_of texts kinds words) }

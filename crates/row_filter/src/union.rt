@@ -68,7 +68,8 @@ impl RangeUnion {
 
     /// Which rows of a span have a word of one of the ranges.
     pub(crate) fn marks<R: RowMarks>(&self, rows: &R, table: u32, span: RowSpan) -> u64
-        requires union { (test : ValueRow → Bool) × IsUnionIn (R.database rows.now) table test self.now }
+        requires union { (test : ValueRow → Bool)
+            × IsUnionIn (R.database rows.now) table test self.now }
         requires span { IsSpanIn (R.database rows.now) table span }
         ensures { (test : ValueRow → Bool) → IsUnionIn (R.database rows.now) table test self.now
             → result ≡ marks_of (map test
