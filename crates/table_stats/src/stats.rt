@@ -82,8 +82,8 @@ fn all_stats(alloc: Global, db: &Database, block: &Block) -> Result<Vec<Relation
 /// The exact counts of a block's tables: of each relation the rows, the pages and the rows that the fixed conjuncts of its
 /// filter keep, and of each indexed column the height of its index and the rows in which it meets the fixed conjuncts that
 /// are usable on it. A conjunct with a parameter leaves no row out. Nothing is paid, and a row is looked at only where these
-/// conjuncts ask for more than indexes and marks tell. There are none where the product of the tables' counts of rows, each at least
-/// 1, passes 2^100 on the way from left to right.
+/// conjuncts ask for more than indexes and marks tell. There are none where the product of the tables' counts of rows, each
+/// at least 1, passes 2^100 on the way from left to right.
 pub fn stats_of(alloc: Global, db: &Database, block: &Block) -> Result<Stats, StatsFault>
     requires { Fits db.now (block_tree block.now) }
     ensures counts { IfOk result (λ stats. stats ≡ stats_of db.now.tables (block_tree block.now)) }
