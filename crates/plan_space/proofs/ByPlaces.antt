@@ -1,7 +1,7 @@
 -- Numbers that stand by the places of points.
-use Rattle.std.proofs.Common.{◌≡◌, ◌∙◌, ℕ, ◌+◌, ◌-◌, ◌<◌, ◌≤◌, List, [], ◌∷◌, ◌++◌, length, map, get_or, take, Some, ap, sym, arith}
+use Rattle.std.proofs.Common.{◌≡◌, ◌∙◌, ℕ, ◌-◌, ◌<◌, ◌≤◌, List, [], length, map, get_or, Some, ap, sym, arith}
 use Rattle.std.specs.Prelude.{slice_get}
-use Rattle.std.proofs.lemmas.List.{get_or_read, get_or-map, map_more, length-map}
+use Rattle.std.proofs.lemmas.List.{get_or_read, get_or-map, length-map}
 use Rattle.std.proofs.lemmas.Option.{slice_get-get_or, slice_get_within}
 use Rattle.std.proofs.Math.Nat.{one-le-pow}
 use Rattle.ess_grid.specs.Points.{GridShape, IsGrid, point_at, points_of, top_of}
@@ -19,15 +19,6 @@ pub number-there : (f : List ℕ → ℕ) (points : List (List ℕ)) (numbers : 
 number-there f points numbers place n are below read =
     let read' : n ≡ get_or (map f points) place n = read ∙ ap (λ all. get_or all place n) are in
     get_or_read (map f points) place n (omega (arith, below, length-map points f)) read' 0 ∙ get_or-map f points place [] 0 below
-
--- one number more
-pub number-more : (f : List ℕ → ℕ) (points : List (List ℕ)) (place : ℕ) (point numbers : List ℕ) (n : ℕ) → slice_get points place ≡ Some point
-    → numbers ≡ map f (take place points) → n ≡ f point → numbers ++ n ∷ [] ≡ map f (take (place + 1) points)
-number-more f points place point numbers n is are same =
-    let here : n ≡ f (get_or points place []) = same ∙ ap f (point-there points place point is) in
-    ap (λ all. all ++ n ∷ []) are
-    ∙ ap (λ one. map f (take place points) ++ one ∷ []) here
-    ∙ sym (map_more f points place [] (slice_get_within points place point is))
 
 -- so it is where the point is known
 pub number-of-point : (f : List ℕ → ℕ) (points : List (List ℕ)) (numbers : List ℕ) (place n : ℕ) (point : List ℕ) → numbers ≡ map f points → slice_get points place ≡ Some point

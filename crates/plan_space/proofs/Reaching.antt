@@ -1,6 +1,6 @@
 -- The optimal costs of points, as they become known.
-use Rattle.std.proofs.Common.{◌≡◌, ◌∙◌, ◌≢◌, ◌⊎◌, inl, inr, ℕ, ◌+◌, ◌<◌, ◌≤◌, ◌^◌, Bool, true, false, List, [], ◌∷◌, ◌++◌, Some, length, map, take, nat_eq, get_or, get_or-set_other, get_or-set_same, length-set, refl, ap, sym, subst, arith}
-use Rattle.std.specs.Prelude.{nat_le, slice_index, slice_set}
+use Rattle.std.proofs.Common.{◌≡◌, ◌∙◌, ◌≢◌, inl, inr, ℕ, ◌+◌, ◌<◌, ◌≤◌, ◌^◌, Bool, true, false, List, [], ◌∷◌, ◌++◌, Some, length, map, take, nat_eq, get_or, refl, ap, sym, subst, arith}
+use Rattle.std.specs.Prelude.{nat_le, slice_index}
 use Rattle.std.proofs.Math.Seq.{take-append_seam}
 use Rattle.std.proofs.lemmas.Bool.{cases_lt}
 use Rattle.std.proofs.lemmas.Bool.Decides.{nat_tests}
@@ -22,7 +22,7 @@ use Rattle.cost_model.proofs.Bounds.{cost-below}
 use Rattle.cost_model.proofs.Monotone.{optimal-le}
 use Rattle.plan_space.specs.Places.{HoldsAt}
 use Rattle.plan_space.specs.Surface.{optimal_costs}
-use Rattle.plan_space.specs.KnownCosts.{AreAllReached, AreKnownCosts, AreReached, IsBeyond, unknown_cost}
+use Rattle.plan_space.specs.KnownCosts.{AreAllReached, AreReached, IsBeyond}
 
 -- ---- the greatest of the optimal costs
 
@@ -69,46 +69,6 @@ reached-more costing costs cost end reached here = record {
     by place point before there within false e =
         let ne : place ≢ end = grind arith in
         reached.within place point (omega (arith, before, ne)) there within
-
--- where it is known already
-pub known-there : (costing : CostingTree) (costs : List ℕ) (place : ℕ) → AreKnownCosts costing costs → slice_index costs place ≢ unknown_cost
-    → HoldsAt costing.grid place (λ point. slice_index costs place ≡ optimal_cost costing point)
-known-there costing costs place known some point there =
-    elim (known.right place point there) [
-      | inl unknown ↦ absurd (some unknown)
-      | inr is ↦ is
-    ]
-
--- where it is found
-module _ (costing : CostingTree) (costs : List ℕ) (cost end found : ℕ) (long : end < length costs) (is : HoldsAt costing.grid end (λ point. found ≡ optimal_cost costing point)) where
-  here : HoldsAt costing.grid end (λ point. slice_index (slice_set costs end found) end ≡ optimal_cost costing point)
-  here point there = get_or-set_same costs end found 0 long ∙ is point there
-
-  pub known-more : AreKnownCosts costing costs → AreKnownCosts costing (slice_set costs end found)
-  known-more known = record {
-    long = length-set costs end found ∙ known.long;
-    right = λ place point there. by place point there (nat_eq place end) refl;
-  }
-    where
-      by : (place : ℕ) (point : List ℕ) → point_at costing.grid place ≡ Some point → (t : Bool) → nat_eq place end ≡ t
-          → (slice_index (slice_set costs end found) place ≡ unknown_cost) ⊎ (slice_index (slice_set costs end found) place ≡ optimal_cost costing point)
-      by place point there true e =
-          let same : place ≡ end = grind arith in
-          inr (subst (λ n. slice_index (slice_set costs end found) n ≡ optimal_cost costing point) (sym same) (here point (subst (λ n. point_at costing.grid n ≡ Some point) same there)))
-      by place point there false e =
-          let ne : place ≢ end = grind arith in
-          rw get_or-set_other (known.right place point there)
-
-  pub reached-found : AreReached costing cost end costs → AreReached costing cost (end + 1) (slice_set costs end found)
-  reached-found reached =
-      reached-more costing (slice_set costs end found) cost end
-      (record {
-        known = known-more reached.known;
-        within = λ place point before there within.
-            let ne : place ≢ end = omega (arith, before) in
-            get_or-set_other costs end place found 0 ne ∙ reached.within place point before there within;
-      })
-      (λ point there within. here point there)
 
 -- ---- all places
 

@@ -1,21 +1,13 @@
 -- The rows that are kept of a grid's points.
-use Rattle.std.proofs.Common.{◌≡◌, ◌∙◌, ◌≢◌, ℕ, zero, suc, ◌<◌, Bool, true, false, List, Option, None, Some, length, nat_eq, replicate, get_or-set_other, get_or-set_same, refl, sym, subst, arith}
+use Rattle.std.proofs.Common.{◌≡◌, ◌∙◌, ◌≢◌, ℕ, ◌<◌, Bool, true, false, List, Option, None, Some, length, nat_eq, get_or-set_other, get_or-set_same, refl, sym, subst, arith}
 use Rattle.std.specs.Prelude.{slice_set}
-use Rattle.std.proofs.lemmas.Option.{none-some, same_Some}
+use Rattle.std.proofs.lemmas.Option.{same_Some}
 use Rattle.ess_grid.specs.Points.{point_at}
 use Rattle.cost_model.specs.Costing.{CostingShape}
 use Rattle.plan_space.specs.declared.entry.Entry.{Entry}
 use Rattle.plan_space.specs.Places.{HoldsAt}
 use Rattle.plan_space.specs.KeptRows.{kept_row_at}
 use Rattle.plan_space.specs.Alike.{LeastAt, AreLeastRows}
-
-none-at : (places place : ℕ) → kept_row_at (replicate places None) place ≡ None
-none-at zero place = refl
-none-at (suc places) zero = refl
-none-at (suc places) (suc place) = none-at places place
-
-pub no-rows : (costing : CostingShape) (places : ℕ) → AreLeastRows costing (replicate places None)
-no-rows costing places place point row kept there = absurd (none-some row (sym (none-at places place) ∙ kept))
 
 -- one more is kept
 pub add-row : (costing : CostingShape) (rows : List (Option (List Entry))) (row : List Entry) (place : ℕ) → place < length rows → AreLeastRows costing rows
