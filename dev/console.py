@@ -1,5 +1,5 @@
 #!/usr/bin/env python3
-"""usage: docs/console.py DOCUMENT..
+"""usage: dev/console.py DOCUMENT..
 
 Runs the console blocks of documents, and compares what each command prints with the lines below it.
 

@@ -1,5 +1,5 @@
 #!/usr/bin/env python3
-"""usage: docs/entries.py
+"""usage: dev/entries.py
 
 Looks whether each error line has its row in docs/ERRORS.md, as tools/ask finds it: what was found, and what to do. The lines
 are the forms in docs/FORMATS.md, with each kind of E01 and each limit of E12, and those in the console blocks of the
@@ -11,7 +11,8 @@ import pathlib
 import re
 import sys
 
-DOCS = pathlib.Path(__file__).resolve().parent
+TOP = pathlib.Path(__file__).resolve().parent.parent
+DOCS = TOP / "docs"
 FORMATS = (DOCS / "FORMATS.md").read_text(encoding="utf-8")
 PRINTED = re.compile(r"^error E\d\d .*$", re.MULTILINE)
 FORM = re.compile(r"^\| `(error E\d\d [^`]+)` \|", re.MULTILINE)
@@ -47,7 +48,7 @@ def error_lines():
 
 
 def main():
-    ask = tool(DOCS.parent / "tools/ask")
+    ask = tool(TOP / "tools/ask")
     wanted = [line.split(" ", 2)[1:] for line in error_lines()]
     wanted += [(heading, heading.lower()) for heading in STATUS.findall((DOCS / "ERRORS.md").read_text(encoding="utf-8"))]
     missing = [it for it in wanted if ask.found_and_cure(*it) is None]

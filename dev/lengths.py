@@ -1,5 +1,5 @@
 #!/usr/bin/env python3
-"""usage: docs/lengths.py README..
+"""usage: dev/lengths.py README..
 
 Looks whether each of these READMEs of crates has at most 40 lines and 400 words, cells of tables and lines of code counted, and
 no paragraph of more than 60 words. An item of a list is a paragraph, and so is a cell of a table; a heading and a line of code

@@ -1,5 +1,5 @@
 #!/usr/bin/env python3
-"""usage: docs/links.py DOCUMENT..
+"""usage: dev/links.py DOCUMENT..
 
 Looks whether each relative link of these documents leads to a file or a folder of the repository and, where it has an anchor
 into a document, to a heading there. A heading's anchor is the one that GitHub gives it: in lower case, without any sign but
