@@ -26,7 +26,7 @@ import tempfile
 
 TOP = pathlib.Path(__file__).resolve().parent.parent
 PROGRAM = pathlib.Path("crates/bouquet/out/bouquet")
-COPIED = ("examples", "tools", "docs", "run", "crates.txt")
+COPIED = ("examples", "tools", "dev", "docs", "run", "crates.txt")
 FENCE = re.compile(r"\s*(`{3,})(.*)")
 SECONDS = 120
 
