@@ -1,4 +1,4 @@
-"""The words of the data that bench/robust_data.py makes: countries, genres, keywords, names."""
+"""The words of the data that bench/robust/data.py makes: countries, genres, keywords, names."""
 
 # Of each country its name, its language, and the genres that it is known for.
 COUNTRIES = {

@@ -1,4 +1,4 @@
-"""The sides of bench/robust.py: what each is given, and a session that says when each of its answers arrived.
+"""The sides of bench/robust: what each is given, and a session that says when each of its answers arrived.
 
 A side prepares its databases from the CSV files of a folder. A session is a process of its client, `bouquet`, `sqlite3`
 or `psql`, that is given one script: it loads or opens the database, and then asks queries. Behind each answer the client

@@ -1,13 +1,13 @@
 #!/usr/bin/env python3
 """Times joins of a film database and of orders beside SQLite and PostgreSQL, without statistics and after ANALYZE.
 
-  python3 bench/robust.py [--scale X] [--seed N] [--repeat N] [--seconds N] [--minutes N] [--only WORD]
+  python3 bench/robust [--scale X] [--seed N] [--repeat N] [--seconds N] [--minutes N] [--only WORD]
                           [--sides NAME,..] [--program PATH] [--json FILE] [--svg FILE]
-  python3 bench/robust.py --from FILE [--svg FILE] [--first-in FILE]
+  python3 bench/robust --from FILE [--svg FILE] [--first-in FILE]
 
 The proved program is the one that `rt run` left in crates/bouquet/out. The other two are Debian's: apt-get install
-sqlite3 postgresql. Seeded data is made in bench/data (bench/robust_data.py): at scale 1 a film database of some three
-million rows, and two order databases of some 430,000 each. Tables, indexes and queries stand in bench/robust_queries.py.
+sqlite3 postgresql. Seeded data is made in bench/data (bench/robust/data.py): at scale 1 a film database of some three
+million rows, and two order databases of some 430,000 each. Tables, indexes and queries stand in bench/robust/queries.py.
 All sides get the same files, indexes on the same columns, and the same text of each query, without ORDER BY. SQLite and
 PostgreSQL are told the primary keys as well.
 
@@ -20,7 +20,7 @@ The sides are, by their names for --sides:
   postgres             PostgreSQL 15, without ANALYZE; a server of the script's own, with all in its memory
   postgres-analyze     PostgreSQL 15, after ANALYZE
 
-How a query is timed says bench/robust_servers.py: compiling and planning are in its time, loading and indexes are not.
+How a query is timed says bench/robust/servers.py: compiling and planning are in its time, loading and indexes are not.
 The sides take turns, `--repeat` times. In the first turn each query is asked once. In each later turn those are asked
 three times in a row that took less than a second, and once those that took less than ten; others aren't asked again. A
 query's time is the middle of all of these. Where no answer has come after `--seconds`, 60, that is a time-out, which
@@ -53,11 +53,13 @@ import statistics
 import sys
 import time
 
-import robust_data
+sys.path.append(os.path.dirname(os.path.dirname(os.path.abspath(__file__))))
+
+import data as seeded
 from beside_sqlite import DATA, PROGRAM, SEED
-from robust_picture import picture, tables
-from robust_queries import DATABASES, TABLES, queries
-from robust_servers import BINARIES, PRAGMAS, SETTINGS, Bouquet, Learning, Postgres, Server, Sqlite, finished
+from picture import picture, tables
+from queries import DATABASES, TABLES, queries
+from servers import BINARIES, PRAGMAS, SETTINGS, Bouquet, Learning, Postgres, Server, Sqlite, finished
 
 SIDES = ("bouquet", "bouquet-learn", "sqlite3", "sqlite3-analyze", "postgres", "postgres-analyze")
 ASK_OFTEN, ASK_AGAIN = 1, 10
@@ -122,8 +124,8 @@ def made_databases(given):
     """The databases, with their files written."""
     for name, kind in DATABASES.items():
         folder = os.path.join(DATA, f"robust-{name}-{given.scale:g}-{given.seed}")
-        data = robust_data.database(name, given.scale, given.seed)
-        robust_data.write_files(data, folder, TABLES[kind])
+        data = seeded.database(name, given.scale, given.seed)
+        seeded.write_files(data, folder, TABLES[kind])
         yield Database(name, folder, TABLES[kind], data)
 
 

@@ -1,4 +1,4 @@
-"""The seeded data of bench/robust.py, as CSV files of the tables in bench/robust_queries.py.
+"""The seeded data of bench/robust, as CSV files of the tables in bench/robust/queries.py.
 
 The film database is skewed and correlated, as such data is. Each film has a country, some genres and a weight. Number n
 of countries, genres, persons, companies and keywords is drawn as often as 1/(n + shift). Genres go with countries;
@@ -14,7 +14,7 @@ import itertools
 import os
 import random
 
-from robust_words import (
+from words import (
     CERTIFICATES,
     COMPANY_KINDS,
     COUNTRIES,

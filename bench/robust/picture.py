@@ -1,6 +1,7 @@
-"""What bench/robust.py makes of its figures: tables in Markdown, and an SVG with a point for each query and side."""
-import html
+"""What bench/robust makes of its figures: tables in Markdown, and an SVG with a point for each query and side."""
 import math
+
+from svg import document, element
 
 WIDTH, LEFT, RIGHT = 960, 268, 60
 TOP, ROW, HEADING = 164, 16, 26
@@ -137,11 +138,6 @@ def tables(figures):
 
 # ---- the picture
 
-def element(name, text=None, **attributes):
-    words = "".join(f' {key.replace("_", "-")}="{html.escape(str(value))}"' for key, value in attributes.items())
-    return f"  <{name}{words} />" if text is None else f"  <{name}{words}>{html.escape(text)}</{name}>"
-
-
 def mark(side, x, y):
     """The point of a side: a disc, a square or a triangle, hollow where there are no statistics, and for LEARN."""
     colour = COLOURS[side.partition(",")[0]]
@@ -225,19 +221,4 @@ def picture(figures):
     versions = ", ".join(f"{name} {version}" for name, version in figures.all["versions"].items())
     title = f"{len(figures.queries)} queries of three to six tables: the time of each, by logarithms"
     said = f"{versions}; {figures.all['machine']}"
-    head = (
-        f'<svg xmlns="http://www.w3.org/2000/svg" role="img" font-family="DejaVu Sans, Verdana, Arial, sans-serif" '
-        f'font-size="12" fill="#222222" width="{WIDTH}" height="{height}" viewBox="0 0 {WIDTH} {height}">'
-    )
-    return "\n".join([
-        head,
-        element("title", title),
-        element("rect", width="100%", height="100%", fill="#ffffff"),
-        element("text", title, x=24, y=26, font_size=16, font_weight="bold"),
-        element("text", said, x=24, y=46, fill="#666666"),
-        *legend(figures),
-        *axis(scale, bottom),
-        *drawn,
-        "</svg>",
-        "",
-    ])
+    return document(WIDTH, height, title, said, [*legend(figures), *axis(scale, bottom), *drawn])

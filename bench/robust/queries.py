@@ -1,8 +1,8 @@
-"""The tables and the queries of bench/robust.py: a film database, and the core of an order database.
+"""The tables and the queries of bench/robust: a film database, and the core of an order database.
 
 The film database is in the manner of the Join Order Benchmark (Leis and others, VLDB 2015), and the orders are in that
 of TPC-H. A query is what a user of the data would ask, written down before any was measured. Its conditions keep what
-it gives to some thousands of rows at most. Words in braces are names from the data (bench/robust_data.py).
+it gives to some thousands of rows at most. Words in braces are names from the data (bench/robust/data.py).
 
 Indexed are keys, foreign keys, and the columns by which a user looks something up. Where a table has a key it is its first
 column, ID.
