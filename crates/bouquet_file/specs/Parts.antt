@@ -8,7 +8,7 @@ use Rattle.bouquet_file.specs.declared.fault.FieldPath.TheVariants as path
 use Rattle.bouquet_file.specs.declared.fault.OpenFault.{OpenFault}
 use Rattle.bouquet_file.specs.declared.fault.OpenFault.TheVariants as fault
 use Rattle.bouquet_file.specs.declared.relations.KeptCounts.{KeptCounts}
-use Rattle.bouquet_file.specs.declared.parts.Parts.{Parts}
+use Rattle.bouquet_file.specs.declared.parts.CheckedFile.{CheckedFile}
 use Rattle.bouquet_file.specs.declared.contours.ContourParts.{ContourParts}
 use Rattle.sql_values.specs.Steps.{Checked, pure, ◌>>=◌, need, each}
 use Rattle.bouquet_file.specs.Values.{unsigned, within, string_of, list_within}
@@ -31,7 +31,7 @@ contour_seen contour = record { cost = contour.cost; texts = map (λ text. text.
 abbrev pub HasTexts : ContourParts → Type 0
 HasTexts contour = (1 ≤ length contour.texts.items) × (length contour.texts.items ≤ max_points)
 
-abbrev pub parts_seen : Parts → FileParts
+abbrev pub parts_seen : CheckedFile → FileParts
 parts_seen parts = record {
   query = parts.query.now;
   levels = parts.grid.levels;

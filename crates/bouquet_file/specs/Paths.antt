@@ -38,7 +38,7 @@ field_path (path.Plans contour) = plans_path contour
 field_path (path.Plan contour number) = plan_path contour number
 field_path path.Parameters = codes "parameters"
 
--- of a fault; counts that aren't those of the tables and want of memory have none
+-- of a fault; counts that aren't those of the tables, and memory that ran out, have none
 abbrev pub fault_path : OpenFault → List ℕ
 fault_path fault.NotJson = codes "json"
 fault_path (fault.Field path) = field_path path

@@ -12,7 +12,7 @@ ghost use Rattle.bouquet_file.specs.Opened.{current_contours, json_value, opened
 
 use crate::contours::contours_of;
 use crate::fault::OpenFault;
-use crate::parts::{Parts, parts_of};
+use crate::parts::{CheckedFile, parts_of};
 use crate::relations::check_counts;
 use bouquet_type::{Bouquet, Contour};
 use cost_model::Stats;
@@ -36,7 +36,7 @@ fn value_of(alloc: Global, bytes: &[u8]) -> Result<Value, OpenFault>
 // The contours of a file with these parts, where it is of this query and its numbers are those of now.
 fn current_contours(
     alloc: Global,
-    parts: &Parts<'_>,
+    parts: &CheckedFile<'_>,
     query: &[u8],
     block: &Block,
     stats: &Stats,

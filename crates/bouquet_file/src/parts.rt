@@ -20,7 +20,7 @@ use std::alloc::Global;
 
 /// The parts of a file.
 #[derive(Drop)]
-pub(crate) struct Parts<'v> {
+pub(crate) struct CheckedFile<'v> {
     /// The text of its query.
     pub query: &'v [u8],
     /// Its grid.
@@ -90,7 +90,7 @@ pub(crate) fn parts_of<'v>(
     alloc: Global,
     file: &'v Value,
     block: &Block,
-) -> Result<Parts<'v>, OpenFault>
+) -> Result<CheckedFile<'v>, OpenFault>
     ensures parts { GivesChecked parts_seen result
         (parts_of (view file.now) (block_tree block.now)) }
     ensures axes { IfOk result (λ parts. parts.grid.axes ≡ axes_of (block_tree block.now)) }
@@ -111,7 +111,7 @@ pub(crate) fn parts_of<'v>(
     let counts = counts_in(alloc, block.relations().len(), members)?;
     let contours = contours_in(alloc, members)?;
     let parameters = kept_parameters(version, members)?;
-    Ok(Parts {
+    Ok(CheckedFile {
         query: query.as_bytes(),
         grid,
         threshold: threshold as u32,

@@ -89,7 +89,7 @@ fn put_field(text: &mut Vec<u8>, path: FieldPath) -> Result<(), AllocError>
 }
 
 /// Where in the file the fault is: keys and numbers of items, from 1, with dots between. Counts that aren't those of the
-/// tables and want of memory have no place, and no text. An error is want of memory.
+/// tables and memory that ran out have no place, and no text. Fails only if memory runs out.
 pub fn path_text(alloc: Global, fault: OpenFault) -> Result<Vec<u8>, AllocError>
     ensures { IfOk result (λ text. text.items ≡ fault_path fault) }
 {

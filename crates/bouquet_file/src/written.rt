@@ -147,7 +147,7 @@ fn file_value(alloc: Global, bouquet: &Bouquet, query: &str) -> Result<Value, Al
 }
 
 /// The file of a bouquet with the canonical text of its query: one compact JSON object, its keys in ascending order, without
-/// a line end. It is of version 2 where the query has parameters, and else of version 1. An error is want of memory.
+/// a line end. It is of version 2 where the query has parameters, and else of version 1. Fails only if memory runs out.
 pub fn to_bytes(alloc: Global, bouquet: &Bouquet, query: &[u8]) -> Result<Vec<u8>, AllocError>
     requires text { IsUtf8 query.now }
     requires parameters { length bouquet.now.block.parameters ≤ max_parameters }

@@ -24,7 +24,7 @@ pub record GivesEntries {R : Type 0} (remaining : R → Option (List ℕ)) (read
   pub flexible : is_flexible reader ≡ true
   pub ready : Ready reader
 
--- what may stop such a reader: a fault of its source, or want of memory
+-- what may stop such a reader: a fault of its source, or memory that ran out
 abbrev pub MayStop : ErrorKind → Type 0
 MayStop (kind.Io fault) = Unit {0}
 MayStop kind.OutOfMemory = Unit {0}

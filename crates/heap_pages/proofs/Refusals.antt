@@ -15,7 +15,7 @@ limit_told rows value is past = record { exactly = (λ _. past, λ _. ap (λ n. 
 pub limit_kept : {T : Type 0} (rows : ℕ) (x : T) → rows ≤ max_rows → KeepsRowLimit rows (Ok x)
 limit_kept rows x within = record { exactly = (λ none. cc, λ past. absurd (omega (arith, within, past))); only = tt }
 
--- want of memory is no such refusal
+-- that memory ran out is no such refusal
 not_told : {T : Type 0} (rows : ℕ) (r : Result T HeapFault) → r ≡ Err NoMemory → r ≡ Err (RowLimit rows) → ⊥
 not_told rows r none told = cc
 

@@ -70,7 +70,7 @@ impl<'c> Frontiers<'c> {
         }
     }
 
-    // The optimal costs, to be put back. They are found where they aren't there yet. An error is want of memory.
+    // The optimal costs, to be put back. They are found where they aren't there yet. Fails only if memory runs out.
     fn take_surface(&mut self, alloc: Global) -> Result<CostSurface<'c>, AllocError>
         ensures surface { IfOk result (λ surface. surface ≡ costing_shape self.old.bouquet) }
         ensures same { self.new ≡ self.old }
@@ -81,7 +81,7 @@ impl<'c> Frontiers<'c> {
         }
     }
 
-    // The rows of the contour of this number, none of which is worked out. An error is want of memory.
+    // The rows of the contour of this number, none of which is worked out. Fails only if memory runs out.
     fn bare_rows(&mut self, alloc: Global, number: u32) -> Result<Vec<FrontierRow>, AllocError>
         requires some { 1 ≤ number }
         requires there { number ≤ length self.old.bouquet.contours }
@@ -106,7 +106,7 @@ impl<'c> Frontiers<'c> {
         rows
     }
 
-    // Comes to the contour of this number, if it isn't at hand. An error is want of memory.
+    // Comes to the contour of this number, if it isn't at hand. Fails only if memory runs out.
     fn climb_to(&mut self, alloc: Global, number: u32) -> Result<(), AllocError>
         requires some { 1 ≤ number }
         requires there { number ≤ length self.old.bouquet.contours }
@@ -126,8 +126,8 @@ impl<'c> Frontiers<'c> {
         Ok(())
     }
 
-    // Whether the plan of an execution on the contour at hand covers a point of the contour's frontier at or above this one. An
-    // error is want of memory.
+    // Whether the plan of an execution on the contour at hand covers a point of the contour's frontier at or above this one. Fails
+    // only if memory runs out.
     fn covers(
         &mut self,
         alloc: Global,
@@ -172,7 +172,7 @@ impl<'c> Frontiers<'c> {
         probe_covers(&test, step.plan, kept.as_slice(), point)
     }
 
-    /// By which point an execution is skipped, if it is, where this one is learned. An error is want of memory.
+    /// By which point an execution is skipped, if it is, where this one is learned. Fails only if memory runs out.
     pub(crate) fn skip_point(
         &mut self,
         alloc: Global,

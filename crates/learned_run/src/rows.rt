@@ -24,7 +24,7 @@ pub(crate) struct FrontierRow {
     pub(crate) covers: Option<Vec<bool>>,
 }
 
-/// The rows of these points, by the optimal costs of all points of the grid, in its order. An error is want of memory.
+/// The rows of these points, by the optimal costs of all points of the grid, in its order. Fails only if memory runs out.
 pub(crate) fn kept_rows(
     alloc: Global,
     costing: &Costing<'_>,
@@ -47,7 +47,7 @@ pub(crate) fn kept_rows(
     Ok(rows)
 }
 
-/// The rows of the frontier of a contour of this cost. An error is want of memory.
+/// The rows of the frontier of a contour of this cost. Fails only if memory runs out.
 pub(crate) fn found_rows(
     alloc: Global,
     surface: &CostSurface<'_>,

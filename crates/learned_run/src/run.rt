@@ -21,7 +21,7 @@ use query_block::Block;
 use row_stack::Space;
 use std::alloc::{AllocError, Global};
 
-// Adds the skip of an execution by this point. An error is want of memory.
+// Adds the skip of an execution by this point. Fails only if memory runs out.
 fn note(skips: &mut Vec<Skip>, step: Attempt<'_>, point: Point) -> Result<(), AllocError>
     requires { step.place < 2 ^ 32 }
     ensures { OnOk result (skips.new.items ≡ skips.old.items ++ record {

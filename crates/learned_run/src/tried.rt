@@ -52,7 +52,7 @@ impl<'c> Model for TriedPlans<'c> {
         × (t.threshold ≤ max_threshold) × (t.count ≡ length t.all.plans) };
 }
 
-// Which of so many plans, costed at the point of a row, cover it. An error is want of memory.
+// Which of so many plans, costed at the point of a row, cover it. Fails only if memory runs out.
 fn tests(
     alloc: Global,
     plans: &CostedPlans<'_>,
@@ -76,7 +76,7 @@ fn tests(
 }
 
 impl<'c> TriedPlans<'c> {
-    /// These plans, in order, by a threshold in percent. An error is want of memory.
+    /// These plans, in order, by a threshold in percent. Fails only if memory runs out.
     pub(crate) fn new(
         alloc: Global,
         costing: &'c Costing<'c>,
@@ -100,7 +100,7 @@ impl<'c> TriedPlans<'c> {
         })
     }
 
-    // Which of them cover the point of a row. An error is want of memory.
+    // Which of them cover the point of a row. Fails only if memory runs out.
     fn tests_at(&mut self, alloc: Global, row: &FrontierRow) -> Result<Vec<bool>, AllocError>
         requires row { IsTriedRow self.old row.now }
         ensures same { self.new ≡ self.old }
@@ -111,8 +111,8 @@ impl<'c> TriedPlans<'c> {
         tests(alloc, &self.all, self.count, self.threshold, row)
     }
 
-    // Whether the plan at this place covers the point of a row. Where that isn't worked out yet, it is, for each plan. An error
-    // is want of memory.
+    // Whether the plan at this place covers the point of a row. Where that isn't worked out yet, it is, for each plan. Fails only
+    // if memory runs out.
     fn covers(
         &mut self,
         alloc: Global,
@@ -135,7 +135,7 @@ impl<'c> TriedPlans<'c> {
         Ok(covers)
     }
 
-    // Whether a row's point is at or above this one, and the plan at this place covers it. An error is want of memory.
+    // Whether a row's point is at or above this one, and the plan at this place covers it. Fails only if memory runs out.
     fn row_covers(
         &mut self,
         alloc: Global,
@@ -158,7 +158,7 @@ impl<'c> TriedPlans<'c> {
     }
 
     /// Whether the plan at this place, from 0, covers a point at or above this one. Each row that is looked at is worked out
-    /// then, once. An error is want of memory.
+    /// then, once. Fails only if memory runs out.
     pub(crate) fn any_row_covers(
         &mut self,
         alloc: Global,

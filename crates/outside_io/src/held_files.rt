@@ -1,5 +1,5 @@
 // The files of a folder in memory, as a tree of bytes by the bytes of their names. Both folders in memory read and write it
-// here; nothing here counts or fails but for want of memory.
+// here; nothing here counts or fails unless memory runs out.
 ghost use Rattle.std.specs.Prelude.{◌≡◌, OnOk, OnErr, IfErr, IsErrOf, option_map};
 ghost use Rattle.outside_io.specs.Files.{IsReadAnswer, KeepsFileLimit, held_file, with_file};
 ghost use Rattle.outside_io.specs.Memory.{named_files};

@@ -12,7 +12,7 @@ use std::alloc::{AllocError, Global};
 use std::collections::BTreeMap;
 use std::marker::Model;
 
-/// A folder in memory whose calls never fail but for want of memory.
+/// A folder in memory whose calls fail only if memory runs out.
 #[derive(Drop)]
 pub struct NeverFailsFolder {
     alloc: Global,

@@ -5,7 +5,7 @@ use crate::{PutFault, Sink};
 use std::alloc::Global;
 use std::marker::Model;
 
-/// A sink in memory whose calls never fail but for want of memory.
+/// A sink in memory whose calls fail only if memory runs out.
 #[derive(Drop)]
 pub struct NeverFailsSink {
     bytes: Vec<u8>,

@@ -14,7 +14,7 @@ fn boxed(alloc: Global, p: &Plan) -> Result<Box<Plan>, AllocError>
     Ok(Box::new(alloc, copied)?)
 }
 
-/// The same plan once more. An error is want of memory. It takes as much of the machine's stack as the tree is deep.
+/// The same plan once more. Fails only if memory runs out. It takes as much of the machine's stack as the tree is deep.
 #[cycle(copy)]
 pub fn copy(alloc: Global, p: &Plan) -> Result<Plan, AllocError>
     ensures { IfOk result (λ copied. plan_tree copied ≡ plan_tree p.now) }

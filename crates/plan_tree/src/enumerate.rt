@@ -238,7 +238,7 @@ fn list_plans(alloc: Global, block: &Block) -> Result<Vec<Plan>, AllocError>
 }
 
 /// All plans of a block, each once, in plan order. TooMany is answered exactly where there are more than the limit, before any
-/// plan is made; the other error is want of memory.
+/// plan is made; the other error is that memory ran out.
 pub fn all_plans(alloc: Global, block: &Block, limit: u64) -> Result<Vec<Plan>, AllFault>
     ensures plans { IfOk result (λ plans. map plan_tree plans.items ≡ plans_of (block_tree block.now)) }
     ensures few { OnOk result (length (plans_of (block_tree block.now)) ≤ limit) }

@@ -232,7 +232,7 @@ fn put_edge_joins(
     Ok(())
 }
 
-/// The outermost nodes of the plans of a set, in plan order. An error is want of memory.
+/// The outermost nodes of the plans of a set, in plan order. Fails only if memory runs out.
 pub(crate) fn roots_of(alloc: Global, block: &Block, set: Subset) -> Result<Vec<Root>, AllocError>
     ensures { IfOk result (λ roots. roots.items ≡ roots_of (block_tree block.now) set) }
 {

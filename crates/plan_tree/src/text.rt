@@ -94,8 +94,8 @@ fn put_plan(text: &mut Vec<u8>, p: &Plan) -> Result<(), AllocError>
     }
 }
 
-/// The text of a plan: a letter for each node, its numbers in decimal, its sides in parentheses, without a space. An
-/// error is want of memory.
+/// The text of a plan: a letter for each node, its numbers in decimal, its sides in parentheses, without a space. Fails
+/// only if memory runs out.
 pub fn plan_text(alloc: Global, p: &Plan) -> Result<Vec<u8>, AllocError>
     ensures { IfOk result (λ text. text.items ≡ plan_text_of (plan_tree p.now)) }
 {

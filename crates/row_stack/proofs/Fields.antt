@@ -22,20 +22,20 @@ use Rattle.std.proofs.alloc.Global.TheLaws as heap_laws
 use Rattle.std.proofs.Handle.{heap_val}
 use Rattle.std.specs.contracts.alloc.Global as heap
 use Rattle.row_stack.proofs.Heap.{heap_own}
-use Rattle.row_stack.specs.declared.block.Block.{Block}
-use Rattle.row_stack.specs.contracts.block.Block as C
+use Rattle.row_stack.specs.declared.block.WordBlock.{WordBlock}
+use Rattle.row_stack.specs.contracts.block.WordBlock as C
 
 -- the data fields alone
 abbrev pub Fields : RattleType
 Fields = Struct (shape C.the_type)
 
-abbrev pub fields : Block → Fields.Denot
+abbrev pub fields : WordBlock → Fields.Denot
 fields d = to C.the_type d
 
 laws : RowLaws Fields
 laws = Struct-row_laws (shape C.the_type) (parts_row_laws C.struct.parts (copy_shared RawPtr-field RawPtr-copy, (copy_shared usize-field usize-copy, (heap_laws.the_field_shared, tt))))
 
-module _ {M : Type 1} {𝓤 : Ura M} (𝓛 : Logic 𝓤) (κ : Lft) (b o : ℕ) (d : Block) where
+module _ {M : Type 1} {𝓤 : Ura M} (𝓛 : Logic 𝓤) (κ : Lft) (b o : ℕ) (d : WordBlock) where
   abbrev S : Fml
   S = hidden_shr Fields κ (fields d) b o
 
@@ -50,7 +50,7 @@ pub made_fits : (b o k : ℕ) → k < 2 ^ 64 → T (has_ty (layout C.the_row) (m
 made_fits b o k few = (tt, (tt, (record { fits = few }, (((tt, tt), tt), tt))))
 
 module _ {M : Type 1} {𝓤 : Ura M} (𝓛 : Logic 𝓤) where
-  pub fields_made : (d : Block) (b o k : ℕ) → d.start ≡ block_ptr b o → d.capacity ≡ k → k < 2 ^ 64 → ent 𝓤 (emp 𝓤) (sem 𝓛 (Fields.own_val (fields d) (made b o k ∷ [])))
+  pub fields_made : (d : WordBlock) (b o k : ℕ) → d.start ≡ block_ptr b o → d.capacity ≡ k → k < 2 ^ 64 → ent 𝓤 (emp 𝓤) (sem 𝓛 (Fields.own_val (fields d) (made b o k ∷ [])))
   fields_made d b o k at long few =
       qed 𝓛 [] ∵ use0 𝓛 (‵ ((heap.the_row).own_val d.alloc (heap_val ∷ []))) (heap_own 𝓛 d.alloc) $ nothing ! $ move ! (1 ∷ 0 ∷ []) $ fjoin ! $
       flt_i ! d.capacity (2 ^ 64) (subst (λ (j : ℕ). j < 2 ^ 64) (sym long) few) $ feq_i ! (List Val) (vint w64 k ∷ []) (vint w64 d.capacity ∷ []) (ap (λ (j : ℕ). vint w64 j ∷ []) (sym long)) $ fjoin ! $ fjoin ! $

@@ -3,15 +3,15 @@ use Rattle.std.specs.Prelude.{◌≡◌, ℕ, ℤ, ◌*◌, ◌^◌, ◌<◌, �
 use Rattle.std.specs.List.{range_with_len}
 use Rattle.std.specs.Fork.{slice_chunk}
 use Rattle.row_stack.specs.Limits.{max_width}
-use Rattle.row_stack.specs.declared.block.Block.{Block}
+use Rattle.row_stack.specs.declared.block.WordBlock.{WordBlock}
 
 -- the words that are written
-abbrev pub block_words : Option Block → List ℤ
+abbrev pub block_words : Option WordBlock → List ℤ
 block_words None = []
 block_words (Some block) = block.words
 
 -- how many words there is room for
-abbrev pub block_capacity : Option Block → ℕ
+abbrev pub block_capacity : Option WordBlock → ℕ
 block_capacity None = 0
 block_capacity (Some block) = block.capacity
 

@@ -15,7 +15,7 @@ const WORD: usize = 8;
 pub(crate) const WORD_LIMIT: usize = 1 << 60;
 
 // A block with room for `capacity` words, of which the first are written.
-pub(crate) struct Block {
+pub(crate) struct WordBlock {
     start: *mut i64,
     pub(crate) capacity: usize,
     alloc: Global,
@@ -23,15 +23,15 @@ pub(crate) struct Block {
     ghost fits: { (length words ≤ capacity) × (capacity * 8 < 2 ^ 63) },
 }
 
-impl Model for Block {
+impl Model for WordBlock {
     ghost also_owns = { λ b. block_owns b.alloc b.start b.capacity b.words };
 
     ghost also_shares = { λ b _ κ. block_lends b.start b.words κ };
 }
 
-impl Drop for Block {
+impl Drop for WordBlock {
     fn drop(self) {
-        let Block {
+        let WordBlock {
             start,
             capacity,
             alloc,
@@ -40,13 +40,13 @@ impl Drop for Block {
     }
 }
 
-impl Block {
+impl WordBlock {
     ghost use Rattle.row_stack.specs.Packed.{block_words, block_capacity};
 
     // Makes a block of `capacity` words, with the first `count` words of the one that was there in it. Out of memory the
     // one that was there keeps those.
     pub(crate) fn make_room(
-        block: &mut Option<Block>,
+        block: &mut Option<WordBlock>,
         alloc: Global,
         count: usize,
         capacity: usize,
@@ -63,13 +63,13 @@ impl Block {
                 return Err(AllocError);
             }
         } else {
-            *block = Some(Block::take(alloc, capacity)?);
+            *block = Some(WordBlock::take(alloc, capacity)?);
         }
         Ok(())
     }
 
     // A block of which no word is written.
-    fn take(alloc: Global, capacity: usize) -> Result<Block, AllocError>
+    fn take(alloc: Global, capacity: usize) -> Result<WordBlock, AllocError>
         requires { capacity * 8 < 2 ^ 63 }
         ensures words { IfOk result (λ b. b.words ≡ []) }
         ensures capacity { IfOk result (λ b. b.capacity ≡ capacity) }
@@ -77,7 +77,7 @@ impl Block {
         match alloc.allocate(capacity * WORD, WORD) {
             Ok(block) => {
                 let start = block as *mut i64;
-                Ok(Block {
+                Ok(WordBlock {
                     start,
                     capacity,
                     alloc,

@@ -4,7 +4,7 @@ ghost use Rattle.row_stack.specs.Bounds.{IsWidth, word_limit};
 ghost use Rattle.row_stack.specs.Stack.{room_of, new_stack, IsRowStack};
 ghost use Rattle.row_stack.specs.Changes.{Pushes, released_to};
 
-use crate::block::{Block, WORD_LIMIT};
+use crate::block::{WORD_LIMIT, WordBlock};
 use std::alloc::{AllocError, Global};
 use std::marker::Model;
 
@@ -30,7 +30,7 @@ pub struct RowStack {
     rows: u64,
     room: u64,
     alloc: Global,
-    block: Option<Block>,
+    block: Option<WordBlock>,
 }
 
 impl Model for RowStack {
@@ -160,7 +160,7 @@ impl RowStack {
     {
         let words = self.rows as usize * self.width;
         let capacity = words_of_rows(self.width, room).ok_or(AllocError)?;
-        Block::make_room(&mut self.block, self.alloc, words, capacity)?;
+        WordBlock::make_room(&mut self.block, self.alloc, words, capacity)?;
         self.room = room;
         Ok(())
     }

@@ -8,7 +8,7 @@ use Rattle.std.specs.declared.vec.Vec.{Vec}
 use Rattle.query_block.specs.declared.condition.Condition.{Condition}
 use Rattle.query_block.specs.declared.edge.Edge.{Edge}
 use Rattle.query_block.specs.Conditions.{FilterTree, filter_tree}
-use Rattle.sql_bind.specs.declared.conjuncts.Parts.{Parts}
+use Rattle.sql_bind.specs.declared.conjuncts.WhereParts.{WhereParts}
 use Rattle.sql_bind.specs.declared.reach.Reach.{Reach}
 use Rattle.sql_bind.specs.declared.reach.Reach.TheVariants.{One, Several}
 use Rattle.sql_bind.specs.Conjuncts.{Conjunct, is_filter_of, edge_in}
@@ -55,17 +55,17 @@ adds_condition conjunct start (suc at) relation (filter ∷ filters) is where_it
     grind (arith, common_steps, picks, append-nil, adds_condition conjunct (start + 1) at relation filters is (omega (arith, where_it_is)))
 
 -- a filter
-pub adds-filter : (conjunct : Conjunct) (relation : ℕ) (old new : Parts) → conjunct.reach ≡ One relation → new.edges.items ≡ old.edges.items
+pub adds-filter : (conjunct : Conjunct) (relation : ℕ) (old new : WhereParts) → conjunct.reach ≡ One relation → new.edges.items ≡ old.edges.items
     → filter_trees new.filters.items ≡ with_condition relation conjunct.tree (filter_trees old.filters.items) → AddsConjuncts (conjunct ∷ []) old new
 adds-filter conjunct relation old new is edges filters = grind (arith, common_steps, append-nil, adds_condition)
 
 -- an edge
-pub adds-edge : (conjunct : Conjunct) (edge : Edge) (old new : Parts) → conjunct.reach ≡ Several → conjunct.equality ≡ Some edge
+pub adds-edge : (conjunct : Conjunct) (edge : Edge) (old new : WhereParts) → conjunct.reach ≡ Several → conjunct.equality ≡ Some edge
     → new.edges.items ≡ old.edges.items ++ edge ∷ [] → filter_trees new.filters.items ≡ filter_trees old.filters.items → AddsConjuncts (conjunct ∷ []) old new
 adds-edge conjunct edge old new is equal edges filters = grind (arith, common_steps, adds_none)
 
 -- neither
-pub adds-neither : (conjunct : Conjunct) (parts : Parts) → edge_in conjunct.reach conjunct.equality ≡ None → ((relation : ℕ) → is_filter_of relation conjunct.reach ≡ false)
+pub adds-neither : (conjunct : Conjunct) (parts : WhereParts) → edge_in conjunct.reach conjunct.equality ≡ None → ((relation : ℕ) → is_filter_of relation conjunct.reach ≡ false)
     → AddsConjuncts (conjunct ∷ []) parts parts
 adds-neither conjunct parts edge filter = grind (arith, common_steps, append-nil, adds_none)
 
@@ -84,7 +84,7 @@ filters-both one other relation (filter ∷ filters) =
     grind (arith, common_steps, append_assoc, filter_of-append, filters-both one other (relation + 1) filters)
 
 -- parts with one conjunct more
-pub has-more : (relations : ℕ) (before conjuncts : List Conjunct) (old new : Parts) → HasParts relations before old → AddsConjuncts conjuncts old new
+pub has-more : (relations : ℕ) (before conjuncts : List Conjunct) (old new : WhereParts) → HasParts relations before old → AddsConjuncts conjuncts old new
     → HasParts relations (before ++ conjuncts) new
 has-more relations before conjuncts old new has adds = grind (arith, common_steps, filter_map-append, filters-both)
 

@@ -4,18 +4,18 @@ use Rattle.query_block.specs.declared.edge.ColumnAt.{ColumnAt}
 use Rattle.sql_parse.specs.declared.tree.ColRef.{ColRef}
 use Rattle.sql_bind.specs.declared.fault.BindFault.{BindFault}
 use Rattle.sql_bind.specs.declared.fault.BindFault.TheVariants.{UnknownColumn, Ambiguous}
-use Rattle.sql_bind.specs.declared.names.Found.{Found}
-use Rattle.sql_bind.specs.declared.names.Found.TheVariants.{Nothing, One, Several}
+use Rattle.sql_bind.specs.declared.names.NamedColumns.{NamedColumns}
+use Rattle.sql_bind.specs.declared.names.NamedColumns.TheVariants.{Nothing, One, Several}
 use Rattle.sql_bind.specs.Names.{named_once, the_one, written_name}
 use Rattle.sql_bind.specs.Refused.{added}
 
 -- what is refused of a column, and where it is, by what was found of it
-abbrev pub fault_found : ColRef → Found → Option BindFault
+abbrev pub fault_found : ColRef → NamedColumns → Option BindFault
 fault_found written Nothing = Some (UnknownColumn (written_name written))
 fault_found written (One place) = None
 fault_found written Several = Some (Ambiguous written.column)
 
-abbrev pub place_found : Found → Option ColumnAt
+abbrev pub place_found : NamedColumns → Option ColumnAt
 place_found (One place) = Some place
 place_found other = None
 

@@ -19,8 +19,8 @@ use Rattle.sql_parse.specs.declared.tree.Item.{Item}
 use Rattle.sql_parse.specs.Trees.{ConditionTree, QueryTree}
 use Rattle.db_catalog.specs.Database.{DatabaseState, table_number}
 use Rattle.db_catalog.specs.Fits.{FitsTable, Fits}
-use Rattle.sql_bind.specs.declared.binding.Asked.{Asked}
-use Rattle.sql_bind.specs.declared.conjuncts.Parts.{Parts}
+use Rattle.sql_bind.specs.declared.binding.WhereClause.{WhereClause}
+use Rattle.sql_bind.specs.declared.conjuncts.WhereParts.{WhereParts}
 use Rattle.sql_bind.specs.declared.fault.BindFault.{BindFault}
 use Rattle.sql_bind.specs.Named.{NamedTable}
 use Rattle.sql_bind.specs.Conjuncts.{Conjunct}
@@ -60,7 +60,7 @@ filters-count conjuncts relation [] = refl
 filters-count conjuncts relation (filter ∷ filters) = omega (arith, filters-count conjuncts (relation + 1) filters)
 
 -- there is a filter for each table
-pub one_filter_each : (relations : ℕ) (conjuncts : List Conjunct) (parts : Parts) → HasParts relations conjuncts parts → length parts.filters.items ≡ relations
+pub one_filter_each : (relations : ℕ) (conjuncts : List Conjunct) (parts : WhereParts) → HasParts relations conjuncts parts → length parts.filters.items ≡ relations
 one_filter_each relations conjuncts parts has =
     sym (trees-count parts.filters.items) ∙ ap length has.filters ∙ filters-count conjuncts 0 (replicate relations []) ∙ length-replicate relations []
 
@@ -72,13 +72,13 @@ same_block relations other edges edges' projection projection' parameters parame
     grind (arith, common_steps)
 
 -- of a condition that isn't refused, the parts tell how many axes it asks for
-pub axes-due : (tables : List NamedTable) (condition : Option ConditionTree) (parts : Parts) → condition_fault tables condition ≡ None
+pub axes-due : (tables : List NamedTable) (condition : Option ConditionTree) (parts : WhereParts) → condition_fault tables condition ≡ None
     → HasParts (length tables) (conjuncts_in tables condition) parts
     → where_fault tables condition ≡ past_limit limit.Axes max_axes (length parts.edges.items + count_by (list_any is_open) (filter_trees parts.filters.items))
 axes-due tables condition parts none has = grind (arith, common_steps, open-count)
 
 -- parts that no check refused, put together, are the block, and nothing refuses the query
-pub whole : (database : DatabaseState) (query : QueryTree) (from : List Item) (tables : List NamedTable) (asked : Asked) (relations : List RelationTree) (projection : List ColumnAt)
+pub whole : (database : DatabaseState) (query : QueryTree) (from : List Item) (tables : List NamedTable) (asked : WhereClause) (relations : List RelationTree) (projection : List ColumnAt)
     → from ≡ query.from → tables ≡ named_tables database from → IsAsked tables query.condition asked → relations ≡ with_filters tables (filter_trees asked.parts.filters.items)
     → projection ≡ projection_of tables query.columns → past_limit limit.Relations max_relations (length from) ≡ None
     → from_fault database [] from ≡ None → projection_fault tables query.columns ≡ None → where_fault tables query.condition ≡ None

@@ -10,8 +10,8 @@ use Rattle.std.specs.declared.alloc.Global.{Global}
 use Rattle.std.specs.declared.vec.Vec.{Vec}
 use Rattle.sql_parse.specs.Trees.{ConditionTree}
 use Rattle.sql_bind.specs.declared.bound.Bound.{Bound}
-use Rattle.sql_bind.specs.declared.binding.Asked.{Asked}
-use Rattle.sql_bind.specs.declared.conjuncts.Parts.{Parts}
+use Rattle.sql_bind.specs.declared.binding.WhereClause.{WhereClause}
+use Rattle.sql_bind.specs.declared.conjuncts.WhereParts.{WhereParts}
 use Rattle.sql_bind.specs.declared.fault.BindFault.{BindFault}
 use Rattle.sql_bind.specs.Named.{NamedTable}
 use Rattle.sql_bind.specs.Conjuncts.{Conjunct, bound_tree, conjunct_of}
@@ -39,7 +39,7 @@ with_condition zero condition (filter ∷ filters) = (filter ++ condition ∷ []
 with_condition (suc relation) condition (filter ∷ filters) = filter ∷ with_condition relation condition filters
 
 -- the parts with those of more conjuncts behind
-pub record AddsConjuncts (conjuncts : List Conjunct) (old new : Parts) : Type 0 where
+pub record AddsConjuncts (conjuncts : List Conjunct) (old new : WhereParts) : Type 0 where
   pub edges : new.edges.items ≡ old.edges.items ++ edges_of conjuncts
   pub filters : filter_trees new.filters.items ≡ more_filters conjuncts 0 (filter_trees old.filters.items)
 
@@ -50,12 +50,12 @@ with_filters (table ∷ tables) [] = []
 with_filters (table ∷ tables) (filter ∷ filters) = relation_with table filter ∷ with_filters tables filters
 
 -- the parts of these conjuncts alone, over so many relations
-pub record HasParts (relations : ℕ) (conjuncts : List Conjunct) (parts : Parts) : Type 0 where
+pub record HasParts (relations : ℕ) (conjuncts : List Conjunct) (parts : WhereParts) : Type 0 where
   pub edges : parts.edges.items ≡ edges_of conjuncts
   pub filters : filter_trees parts.filters.items ≡ more_filters conjuncts 0 (replicate relations [])
 
 -- the parts of the conjuncts of WHERE, and the kinds of its parameters
-pub record IsAsked (tables : List NamedTable) (condition : Option ConditionTree) (asked : Asked) : Type 0 where
+pub record IsAsked (tables : List NamedTable) (condition : Option ConditionTree) (asked : WhereClause) : Type 0 where
   pub parts : HasParts (length tables) (conjuncts_in tables condition) asked.parts
   pub parameters : asked.parameters.items ≡ parameter_kinds tables condition
 

@@ -11,8 +11,8 @@ use Rattle.db_catalog.specs.Database.{DatabaseState}
 use Rattle.db_catalog.specs.Fits.{Fits}
 use Rattle.sql_bind.specs.declared.fault.BindFault.{BindFault}
 use Rattle.sql_bind.specs.declared.fault.BindFault.TheVariants.{NoMemory}
-use Rattle.sql_bind.specs.declared.names.Found.{Found}
-use Rattle.sql_bind.specs.declared.names.Found.TheVariants.{Nothing, One, Several}
+use Rattle.sql_bind.specs.declared.names.NamedColumns.{NamedColumns}
+use Rattle.sql_bind.specs.declared.names.NamedColumns.TheVariants.{Nothing, One, Several}
 use Rattle.sql_bind.specs.Binding.{block_of, bind_fault, past_limit}
 
 -- a call is refused with the fault that is due, and otherwise it isn't; only memory may be wanting besides
@@ -34,6 +34,6 @@ pub record Binds (database : DatabaseState) (query : QueryTree) (result : Result
   pub counted : IfSome (past_limit limit.Relations max_relations (length query.from)) (λ fault. result ≡ Err fault)
 
 -- a column more is found
-abbrev pub added : Found → ColumnAt → Found
+abbrev pub added : NamedColumns → ColumnAt → NamedColumns
 added Nothing place = One place
 added other place = Several

@@ -9,7 +9,7 @@ ghost use Rattle.sql_bind.specs.Binding.{past_limit};
 ghost use Rattle.sql_bind.specs.Collected.{filter_trees};
 ghost use Rattle.sql_bind.specs.Refused.{RefusesAlways};
 
-use crate::conjuncts::Parts;
+use crate::conjuncts::WhereParts;
 use crate::fault::BindFault;
 use crate::from::check_limit;
 use query_block::{Condition, is_open};
@@ -42,7 +42,7 @@ fn count_open(filters: &[Vec<Condition>]) -> usize
 }
 
 /// Refuses the parts of a block with more axes than a grid may have. It takes no memory.
-pub(crate) fn check_axes(parts: &Parts) -> Result<(), BindFault>
+pub(crate) fn check_axes(parts: &WhereParts) -> Result<(), BindFault>
     ensures { RefusesAlways (past_limit limit.Axes max_axes (length parts.now.edges.items
         + count_by (list_any is_open) (filter_trees parts.now.filters.items))) result }
 {

@@ -11,7 +11,7 @@ ghost use Rattle.sql_bind.specs.Refused.{Binds, RefusesBlock};
 
 use crate::axes::check_axes;
 use crate::bound::add_conjuncts;
-use crate::conjuncts::{Parts, check_forms, no_parts, parts_of};
+use crate::conjuncts::{WhereParts, check_forms, no_parts, parts_of};
 use crate::fault::BindFault;
 use crate::from::{check_limit, named_tables};
 use crate::projection::projection;
@@ -25,14 +25,14 @@ use std::alloc::{AllocError, Global};
 
 // What the condition of WHERE asks for.
 #[derive(Drop)]
-struct Asked {
-    parts: Parts,
+struct WhereClause {
+    parts: WhereParts,
     // The kinds of its parameters, in written order.
     parameters: Vec<Kind>,
 }
 
 // What a condition asks for: its predicates are checked first, and then its conjuncts.
-fn asked_by(scope: &Scope<'_>, condition: &Cond) -> Result<Asked, BindFault>
+fn asked_by(scope: &Scope<'_>, condition: &Cond) -> Result<WhereClause, BindFault>
     requires well_formed { IsWellFormedCondition (condition_tree condition.now) }
     requires counted { predicates_in (condition_tree condition.now) < 2 ^ 32 }
     ensures refuses { RefusesBlock
@@ -48,14 +48,14 @@ fn asked_by(scope: &Scope<'_>, condition: &Cond) -> Result<Asked, BindFault>
     add_conjuncts(scope, condition, &mut walk, &mut conjuncts)?;
     check_forms(conjuncts.as_slice())?;
     let parts = parts_of(alloc, scope.tables().len(), conjuncts)?;
-    Ok(Asked {
+    Ok(WhereClause {
         parts,
         parameters: walk.parameters,
     })
 }
 
 // What the condition of WHERE asks for, if there is one.
-fn asked_by_condition(scope: &Scope<'_>, condition: &Option<Cond>) -> Result<Asked, BindFault>
+fn asked_by_condition(scope: &Scope<'_>, condition: &Option<Cond>) -> Result<WhereClause, BindFault>
     requires well_formed { IfSome (option_map condition_tree condition.now) IsWellFormedCondition }
     requires counted { of_condition predicates_in
         (option_map condition_tree condition.now) < 2 ^ 32 }
@@ -69,13 +69,13 @@ fn asked_by_condition(scope: &Scope<'_>, condition: &Option<Cond>) -> Result<Ask
         None => {
             let parts = no_parts(scope.alloc(), scope.tables().len())?;
             let parameters = Vec::new(scope.alloc());
-            Ok(Asked { parts, parameters })
+            Ok(WhereClause { parts, parameters })
         }
     }
 }
 
 // The same, refused if it asks for too many axes.
-fn asked_by_where(scope: &Scope<'_>, condition: &Option<Cond>) -> Result<Asked, BindFault>
+fn asked_by_where(scope: &Scope<'_>, condition: &Option<Cond>) -> Result<WhereClause, BindFault>
     requires well_formed { IfSome (option_map condition_tree condition.now) IsWellFormedCondition }
     requires counted { of_condition predicates_in
         (option_map condition_tree condition.now) < 2 ^ 32 }
@@ -158,8 +158,8 @@ pub fn bind(alloc: Global, database: &Database, query: &Query) -> Result<Block, 
     let scope = named_tables(alloc, database, from)?;
     let projection = projection(&scope, &query.columns)?;
     let asked = asked_by_where(&scope, &query.condition)?;
-    let Asked { parts, parameters } = asked;
-    let Parts { filters, edges } = parts;
+    let WhereClause { parts, parameters } = asked;
+    let WhereParts { filters, edges } = parts;
     let relations = relations_with(alloc, &scope, filters)?;
     Ok(Block::new(relations, edges, projection, parameters))
 }

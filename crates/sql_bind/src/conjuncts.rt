@@ -15,7 +15,7 @@ use std::alloc::{AllocError, Global};
 
 /// What the conjuncts so far come to.
 #[derive(Drop)]
-pub(crate) struct Parts {
+pub(crate) struct WhereParts {
     /// The filter of each relation, in FROM order.
     pub(crate) filters: Vec<Vec<Condition>>,
     /// The edges, in written order.
@@ -104,7 +104,7 @@ pub(crate) fn check_forms(conjuncts: &[Bound]) -> Result<(), BindFault>
 }
 
 // Adds a conjunct.
-fn add_conjunct(conjunct: Bound, parts: &mut Parts) -> Result<(), AllocError>
+fn add_conjunct(conjunct: Bound, parts: &mut WhereParts) -> Result<(), AllocError>
     ensures { OnOk result (AddsConjuncts (bound_tree conjunct ∷ []) parts.old parts.new) }
 {
     let Bound {
@@ -129,7 +129,7 @@ fn add_conjunct(conjunct: Bound, parts: &mut Parts) -> Result<(), AllocError>
 }
 
 /// The parts of no conjunct, of so many relations.
-pub(crate) fn no_parts(alloc: Global, relations: usize) -> Result<Parts, AllocError>
+pub(crate) fn no_parts(alloc: Global, relations: usize) -> Result<WhereParts, AllocError>
     ensures { IfOk result (HasParts relations []) }
 {
     let mut filters = Vec::with_capacity(alloc, relations)?;
@@ -137,7 +137,7 @@ pub(crate) fn no_parts(alloc: Global, relations: usize) -> Result<Parts, AllocEr
         filters.push(Vec::new(alloc))?;
     }
     let edges = Vec::new(alloc);
-    Ok(Parts { filters, edges })
+    Ok(WhereParts { filters, edges })
 }
 
 /// The parts of conjuncts, of so many relations.
@@ -145,7 +145,7 @@ pub(crate) fn parts_of(
     alloc: Global,
     relations: usize,
     conjuncts: Vec<Bound>,
-) -> Result<Parts, AllocError>
+) -> Result<WhereParts, AllocError>
     ensures { IfOk result (HasParts relations (map bound_tree conjuncts.items)) }
 {
     let mut parts = no_parts(alloc, relations)?;

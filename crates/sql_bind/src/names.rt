@@ -13,26 +13,31 @@ use std::alloc::{AllocError, Global};
 
 /// The columns that a written column was found to name.
 #[derive(Clone, Copy)]
-pub(crate) enum Found {
+pub(crate) enum NamedColumns {
     Nothing,
     One(ColumnAt),
     /// Two or more.
     Several,
 }
 
-impl Found {
-    fn added(self, place: ColumnAt) -> Found
+impl NamedColumns {
+    fn added(self, place: ColumnAt) -> NamedColumns
         ensures { result ≡ added self place }
     {
         match self {
-            Found::Nothing => Found::One(place),
-            _ => Found::Several,
+            NamedColumns::Nothing => NamedColumns::One(place),
+            _ => NamedColumns::Several,
         }
     }
 }
 
 // What is found with the columns of this name of one relation.
-fn found_among(found: Found, relation: u8, columns: &[ColumnDef], name: &[u8]) -> Found
+fn found_among(
+    found: NamedColumns,
+    relation: u8,
+    columns: &[ColumnDef],
+    name: &[u8],
+) -> NamedColumns
     requires { length columns.now ≤ max_columns }
     ensures { result ≡ fold added found (places_among relation 0 columns.now name.now) }
 {
@@ -57,11 +62,11 @@ fn may_name(written: &ColRef, table: &NamedTable<'_>) -> bool
 }
 
 // The columns that a written column names.
-fn look_up(scope: &Scope<'_>, written: &ColRef) -> Found
-    ensures { result ≡ fold added Found.Nothing (places_from 0 scope.now written.now) }
+fn look_up(scope: &Scope<'_>, written: &ColRef) -> NamedColumns
+    ensures { result ≡ fold added NamedColumns.Nothing (places_from 0 scope.now written.now) }
 {
     let tables = scope.tables();
-    let mut found = Found::Nothing;
+    let mut found = NamedColumns::Nothing;
     for number in 0..tables.len() {
         let table = &tables[number];
         if may_name(written, table) {
@@ -111,8 +116,8 @@ pub(crate) fn place_of(scope: &Scope<'_>, written: &ColRef) -> Result<ColumnAt, 
     ensures place { IfOk result (λ place. place_of scope.now written.now ≡ Some place) }
 {
     match look_up(scope, written) {
-        Found::Nothing => Err(unknown_column(scope.alloc(), written)),
-        Found::One(place) => Ok(place),
-        Found::Several => Err(ambiguous(written)),
+        NamedColumns::Nothing => Err(unknown_column(scope.alloc(), written)),
+        NamedColumns::One(place) => Ok(place),
+        NamedColumns::Several => Err(ambiguous(written)),
     }
 }

@@ -1,5 +1,5 @@
 use Rattle.std.proofs.Common.{◌≡◌, drop, fold}
-use Rattle.sql_bind.specs.declared.names.Found.TheVariants.{Nothing}
+use Rattle.sql_bind.specs.declared.names.NamedColumns.TheVariants.{Nothing}
 use Rattle.sql_bind.specs.Names.{places_from}
 use Rattle.sql_bind.specs.Refused.{added}
 use Rattle.sql_bind.proofs.names.look_up.Given as goal

@@ -45,14 +45,14 @@ use Rattle.std.proofs.impls.GlobalAllocator.allocate.Met.{met}
 use Rattle.std.specs.contracts.alloc.AllocError as AE
 use Rattle.std.specs.contracts.alloc.Global as heap
 use Rattle.std.specs.contracts.result.Result as RS
-use Rattle.row_stack.specs.declared.block.Block.{Block}
+use Rattle.row_stack.specs.declared.block.WordBlock.{WordBlock}
 use Rattle.row_stack.proofs.Word.{words as E, heap_al}
 use Rattle.row_stack.proofs.Fields.{Fields, fields, made, made_fits, fields_made}
 use Rattle.row_stack.proofs.Heap.{lends_cell, cell_back, Takes, Got, at_takes, takes_goes, takes_gives}
-use Rattle.row_stack.specs.contracts.block.Block.take as f
-use Rattle.row_stack.proofs.block.Block.take.Statement.{statement}
-use Rattle.row_stack.proofs.block.Block.take.Code as code
-use Rattle.row_stack.specs.contracts.block.Block.{the_row as R}
+use Rattle.row_stack.specs.contracts.block.WordBlock.take as f
+use Rattle.row_stack.proofs.block.WordBlock.take.Statement.{statement}
+use Rattle.row_stack.proofs.block.WordBlock.take.Code as code
+use Rattle.row_stack.specs.contracts.block.WordBlock.{the_row as R}
 
 abbrev stayed : Stays f.ended.signature.params f.ended.kept
 stayed = (stay_dropped (plain (λ _. heap.the_row)) yes, (stay_dropped (plain (λ _. usize)) yes, tt))
@@ -89,7 +89,7 @@ take_spec 𝓤 𝓛 𝓜 𝓡 wired =
     move ! (1 ∷ 2 ∷ []) $ cell_back ! tt (l 3) alloc lent $ give_at ! 3 $
     answers heap_al ! 𝓜.mem 𝓡.returns alloc τ v
     (λ b o e.
-    let d : Block = record { start = block_ptr b o; capacity = k; alloc = alloc; words = []; fits = (omega arith, small) } in
+    let d : WordBlock = record { start = block_ptr b o; capacity = k; alloc = alloc; words = []; fits = (omega arith, small) } in
     let v' : Val = live 0 (vcons (made b o k) vnil) in
     let good = made_fits b o k count in
     let ok : T (has_ty (layout Out) v') × WT v' = (tt, (record { fits = lit< tt }, (good.1, tt))) in

@@ -19,8 +19,8 @@ use Rattle.std.specs.contracts.alloc.Global as heap
 use Rattle.std.specs.contracts.impls.GlobalAllocator.TheImpl.{ghosts}
 use Rattle.std.proofs.alloc.Global.TheLaws as heap_laws
 use Rattle.row_stack.proofs.Word.{word_laws as L}
-use Rattle.row_stack.specs.contracts.block.Block as C
-use Rattle.row_stack.proofs.block.Block.TheLaw.Statement.{statement}
+use Rattle.row_stack.specs.contracts.block.WordBlock as C
+use Rattle.row_stack.proofs.block.WordBlock.TheLaw.Statement.{statement}
 
 pub shares : statement
 shares = of_Lends C.struct (C.the_codes heap.the_row.coded) C.the_heap C.the_lent

@@ -27,13 +27,13 @@ use Rattle.std.proofs.VecSteps.Shapes.{after}
 use Rattle.std.proofs.Words.{pointer_in, pointer_out}
 use Rattle.std.specs.contracts.alloc.Global as heap
 use Rattle.row_stack.specs.Memory.{block_lends}
-use Rattle.row_stack.specs.declared.block.Block.{Block}
+use Rattle.row_stack.specs.declared.block.WordBlock.{WordBlock}
 use Rattle.row_stack.proofs.Word.{run_lent, length-run}
 use Rattle.row_stack.proofs.Fields.{Fields, fields, shows_start}
-use Rattle.row_stack.specs.contracts.block.Block.words as f
-use Rattle.row_stack.proofs.block.Block.words.Statement.{statement}
-use Rattle.row_stack.proofs.block.Block.words.Code as code
-use Rattle.row_stack.specs.contracts.block.Block as C
+use Rattle.row_stack.specs.contracts.block.WordBlock.words as f
+use Rattle.row_stack.proofs.block.WordBlock.words.Statement.{statement}
+use Rattle.row_stack.proofs.block.WordBlock.words.Code as code
+use Rattle.row_stack.specs.contracts.block.WordBlock as C
 
 abbrev stayed : Stays f.ended.signature.params f.ended.kept
 stayed = (stay_dropped (RefOf (0 ∷ []) tt (plain (λ _. C.the_row)) (λ _. tt)) yes, (stay_dropped _ yes, (stay_dropped _ yes, tt)))
@@ -46,7 +46,7 @@ words_spec 𝓤 𝓛 𝓜 𝓡 wired =
     (Goes-dropped 𝓛 1 (RefOf (0 ∷ []) tt (plain (λ _. C.the_row)) (λ _. tt)) yes (λ κs x w. refl), (number, (number, tt)))
     f.Key.name code.function (code.unfolded 𝓤 𝓛.H 𝓜 𝓡 wired)
     (λ κs. (shr_vals, (uint_vals w64, (uint_vals w64, tt)))) (λ κs. (shr_Tells (named 0) κs.0 C.the_row, (uint_Tells w64, (uint_Tells w64, tt)))) (λ κs qs bounds a _ are.
-    let κ = κs.0 in let b = a.0.ref_ptr.0 in let o = a.0.ref_ptr.1 in let h : Block = a.0.now in let from : ℕ = a.1.0 in let count : ℕ = a.1.1.0 in
+    let κ = κs.0 in let b = a.0.ref_ptr.0 in let o = a.0.ref_ptr.1 in let h : WordBlock = a.0.now in let from : ℕ = a.1.0 in let count : ℕ = a.1.1.0 in
     let n : ℕ = length h.words in let run : List ℤ = take count (drop_l from h.words) in
     let at : ℕ × ℕ = (block_of h.start, from * 8 + count_of h.start) in
     let y : W.Ghost = ((κs, qs, bounds, a, (shr_vals a.0, (uint_vals w64 from, (uint_vals w64 count, tt)))), tt) in

@@ -39,15 +39,15 @@ use Rattle.std.proofs.mem.Facts.{says_two}
 use Rattle.std.specs.Allocator.{block_with_items}
 use Rattle.std.specs.contracts.impls.GlobalAllocator.TheImpl.{ghosts}
 use Rattle.row_stack.specs.Memory.{block_owns, words_twice}
-use Rattle.row_stack.specs.declared.block.Block.{Block}
+use Rattle.row_stack.specs.declared.block.WordBlock.{WordBlock}
 use Rattle.row_stack.proofs.Word.{words as E, none_at_null, length-cut}
 use Rattle.row_stack.proofs.block.copy_words.Met.{met}
 use Rattle.row_stack.specs.contracts.block.copy_words as g
-use Rattle.row_stack.specs.contracts.block.Block.put as f
-use Rattle.row_stack.proofs.block.Block.put.Statement.{statement}
-use Rattle.row_stack.proofs.block.Block.put.Code as code
-use Rattle.row_stack.specs.contracts.block.Block.{the_row as R}
-use Rattle.row_stack.proofs.block.Block.TheLaws.{lowers}
+use Rattle.row_stack.specs.contracts.block.WordBlock.put as f
+use Rattle.row_stack.proofs.block.WordBlock.put.Statement.{statement}
+use Rattle.row_stack.proofs.block.WordBlock.put.Code as code
+use Rattle.row_stack.specs.contracts.block.WordBlock.{the_row as R}
+use Rattle.row_stack.proofs.block.WordBlock.TheLaws.{lowers}
 
 abbrev stayed : Stays f.ended.signature.params f.ended.kept
 stayed = (stay_ref (0 ∷ []) tt (plain (λ _. R)), (stay_dropped (plain (λ _. usize)) yes, (stay_dropped (SliceRefOf (1 ∷ []) tt (plain (λ _. i64)) (λ _. tt)) yes, tt)))
@@ -59,7 +59,7 @@ put_spec 𝓤 𝓛 𝓜 𝓡 wired =
     (Goes-ref 𝓛 2 0 tt (plain (λ _. R)), (Goes-dropped 𝓛 2 (plain (λ _. usize)) yes (λ κs x w. refl), (Goes-dropped 𝓛 2 (SliceRefOf (1 ∷ []) tt (plain (λ _. i64)) (λ _. tt)) yes (λ κs x w. refl), tt)))
     f.Key.name code.function (code.unfolded 𝓤 𝓛.H 𝓜 𝓡 wired)
     (λ κs. (mut_vals, (uint_vals w64, (shr_slice_vals, tt)))) (λ κs. (mut_Tells (named 0) κs.0 R, (uint_Tells w64, (shr_slice_Tells (named 1) κs.1.0 i64, tt)))) (λ κs qs bounds a _ are.
-    let b = a.0.ref_ptr.0 in let o = a.0.ref_ptr.1 in let h : Block = a.0.now in let at : ℕ = a.1.0 in
+    let b = a.0.ref_ptr.0 in let o = a.0.ref_ptr.1 in let h : WordBlock = a.0.now in let at : ℕ = a.1.0 in
     let sb = a.1.1.0.ref_ptr.0 in let so = a.1.1.0.ref_ptr.1 in let xs : List ℤ = a.1.1.0.now in let m : ℕ = length xs in
     let n : ℕ = length h.words in let k : ℕ = h.capacity in let ws = take at h.words ++ xs in
     let room = are.1.1.0.0.1 in let few : m < 2 ^ 64 = room.0 in let bytes : m * 8 < 2 ^ 63 = room.1 in
@@ -70,7 +70,7 @@ put_spec 𝓤 𝓛 𝓜 𝓡 wired =
     let long : length ws ≡ at + m = length-cut at h.words xs written in
     let within : length ws ≤ k = omega arith in
     let far : at * 8 < 2 ^ 64 = omega (arith, h.fits.1) in
-    let h' : Block = record { start = h.start; capacity = k; alloc = h.alloc; words = ws; fits = (within, h.fits.1) } in
+    let h' : WordBlock = record { start = h.start; capacity = k; alloc = h.alloc; words = ws; fits = (within, h.fits.1) } in
     split ! $ split3 ! $ move ! (3 ∷ []) $ split3 ! $ move ! (2 ∷ []) $ split ! $ keep ! (2 ∷ 4 ∷ 0 ∷ 5 ∷ []) $
     enter ! _ _ _ _ _ $ alloc_all ! (λ l. pass_all ! refl ((tt, tt), ((tt, record { fits = are.1.0.1 }), ((tt, (tt, (record { fits = few }, tt))), tt))) $
     fsplit3 ! $ move ! (1 ∷ 2 ∷ 3 ∷ []) $ opens ! tt R b o (λ us.

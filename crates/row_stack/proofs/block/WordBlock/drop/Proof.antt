@@ -26,14 +26,14 @@ use Rattle.std.proofs.VecSteps.Shapes.{after}
 use Rattle.std.proofs.VecSteps.Rows as rows
 use Rattle.std.proofs.impls.GlobalAllocator.deallocate.Met.{met}
 use Rattle.row_stack.specs.Memory.{block_owns}
-use Rattle.row_stack.specs.declared.block.Block.{Block}
+use Rattle.row_stack.specs.declared.block.WordBlock.{WordBlock}
 use Rattle.row_stack.proofs.Word.{words as E, none_at_null}
 use Rattle.row_stack.proofs.Heap.{lends_cell, cell_back, Gives, at_gives, gives_goes, gives_gives}
-use Rattle.row_stack.specs.contracts.block.Block.drop as f
-use Rattle.row_stack.proofs.block.Block.drop.Statement.{statement}
-use Rattle.row_stack.proofs.block.Block.drop.Code as code
-use Rattle.row_stack.specs.contracts.block.Block.{the_row as R}
-use Rattle.row_stack.proofs.block.Block.TheLaws.{lowers, the_row_laws}
+use Rattle.row_stack.specs.contracts.block.WordBlock.drop as f
+use Rattle.row_stack.proofs.block.WordBlock.drop.Statement.{statement}
+use Rattle.row_stack.proofs.block.WordBlock.drop.Code as code
+use Rattle.row_stack.specs.contracts.block.WordBlock.{the_row as R}
+use Rattle.row_stack.proofs.block.WordBlock.TheLaws.{lowers, the_row_laws}
 
 abbrev stayed : Stays f.ended.signature.params f.ended.kept
 stayed = (stay_dropped (plain (λ _. R)) yes, tt)
@@ -44,7 +44,7 @@ drop_spec 𝓤 𝓛 𝓜 𝓡 wired =
     proved 𝓛 f.ended stayed c 𝓜 𝓡 (Goes-dropped 𝓛 0 (plain (λ _. R)) yes (λ κs x w. refl), tt)
     f.Key.name code.function (code.unfolded 𝓤 𝓛.H 𝓜 𝓡 wired)
     (λ κs. ((λ d. lowers.lowered d ∷ []), tt)) (λ κs. (lowers.val_is, tt)) (λ κs qs bounds a _ are.
-    let h : Block = a.0 in let n : ℕ = length h.words in let k : ℕ = h.capacity in
+    let h : WordBlock = a.0 in let n : ℕ = length h.words in let k : ℕ = h.capacity in
     let good = ((the_row_laws.lawful 𝓛).typed h (lowers.lowered h ∷ []) are.0).0 in
     let size : k * 8 < 2 ^ 64 = omega (arith, h.fits.1) in
     let count : k < 2 ^ 64 = omega arith in

@@ -39,15 +39,15 @@ use Rattle.std.proofs.impls.GlobalAllocator.grow.Met.{met}
 use Rattle.std.specs.Allocator.{block_with_items}
 use Rattle.std.specs.contracts.impls.GlobalAllocator.TheImpl.{ghosts}
 use Rattle.row_stack.specs.Memory.{block_owns}
-use Rattle.row_stack.specs.declared.block.Block.{Block}
+use Rattle.row_stack.specs.declared.block.WordBlock.{WordBlock}
 use Rattle.row_stack.proofs.Word.{words as E, word_laws, none_at_null}
 use Rattle.row_stack.proofs.Fields.{Fields, fields, made, fields_made}
 use Rattle.row_stack.proofs.Heap.{lends_cell, cell_back, Grows, at_grows, grown_to, grows_goes, grows_gives}
-use Rattle.row_stack.specs.contracts.block.Block.grow as f
-use Rattle.row_stack.proofs.block.Block.grow.Statement.{statement}
-use Rattle.row_stack.proofs.block.Block.grow.Code as code
-use Rattle.row_stack.specs.contracts.block.Block.{the_row as R}
-use Rattle.row_stack.proofs.block.Block.TheLaws.{lowers}
+use Rattle.row_stack.specs.contracts.block.WordBlock.grow as f
+use Rattle.row_stack.proofs.block.WordBlock.grow.Statement.{statement}
+use Rattle.row_stack.proofs.block.WordBlock.grow.Code as code
+use Rattle.row_stack.specs.contracts.block.WordBlock.{the_row as R}
+use Rattle.row_stack.proofs.block.WordBlock.TheLaws.{lowers}
 
 abbrev stayed : Stays f.ended.signature.params f.ended.kept
 stayed = (stay_ref (0 ∷ []) tt (plain (λ _. R)), (stay_dropped (plain (λ _. usize)) yes, (stay_dropped (plain (λ _. usize)) yes, tt)))
@@ -59,7 +59,7 @@ grow_spec 𝓤 𝓛 𝓜 𝓡 wired =
     proved 𝓛 f.ended stayed c 𝓜 𝓡 (Goes-ref 𝓛 1 0 tt (plain (λ _. R)), (number, (number, tt)))
     f.Key.name code.function (code.unfolded 𝓤 𝓛.H 𝓜 𝓡 wired)
     (λ κs. (mut_vals, (uint_vals w64, (uint_vals w64, tt)))) (λ κs. (mut_Tells (named 0) κs.0 R, (uint_Tells w64, (uint_Tells w64, tt)))) (λ κs qs bounds a _ are.
-    let b = a.0.ref_ptr.0 in let o = a.0.ref_ptr.1 in let h : Block = a.0.now in let m : ℕ = a.1.0 in let new : ℕ = a.1.1.0 in
+    let b = a.0.ref_ptr.0 in let o = a.0.ref_ptr.1 in let h : WordBlock = a.0.now in let m : ℕ = a.1.0 in let new : ℕ = a.1.1.0 in
     let n : ℕ = length h.words in let k : ℕ = h.capacity in let ws : List ℤ = take m h.words in
     let y : W.Ghost = ((κs, qs, bounds, a, (mut_vals a.0, (uint_vals w64 m, (uint_vals w64 new, tt)))), tt) in
     qed 𝓛 (((‵ (flft κs.0 qs.0) ⊛ ‵ ftrue) ⊛ ‵ ((MutRef (named 0) κs.0 R).own_val a.0 (mut_vals a.0)) ⊛ ‵ (usize.own_val m (uint_vals w64 m)) ⊛ ‵ (usize.own_val new (uint_vals w64 new)) ⊛ ‵ ftrue)
@@ -100,7 +100,7 @@ grow_spec 𝓤 𝓛 𝓜 𝓡 wired =
     move ! (1 ∷ 2 ∷ []) $ cell_back ! tt (l 4) h.alloc lent $ give_at ! 4 $
     flagged ! v left
     (λ b'' o'' e'.
-    let h' : Block = record { start = block_ptr b'' o''; capacity = new; alloc = h.alloc; words = ws; fits = (has, small) } in
+    let h' : WordBlock = record { start = block_ptr b'' o''; capacity = new; alloc = h.alloc; words = ws; fits = (has, small) } in
     lands_last ! refl (subst (λ (w : Val). T (has_ty (layout Answer) w) × WT w) (sym e') (Answer-typed true b'' o'')) $ exec ! 𝓣.C 𝓣.Λ En (after 3 (code.function).body) (at_ret En (W.post y)) $
     sets ! (is ! (of_opd ! (get ! refl)) e') refl (Answer-typed true b'' o'') $
     first ! $ switches_on ! (get_tag ! (vrt ! refl (fld ! refl (stop !))) (whole !)) $ exec ! 𝓣.C 𝓣.Λ En (arm_body 0 both) Then $
@@ -116,7 +116,7 @@ grow_spec 𝓤 𝓛 𝓜 𝓡 wired =
     group ! 3 $ nothing ! $ nothing ! $ join ! $ nothing ! $ join ! $ move ! (1 ∷ 0 ∷ []) $ join ! $ nothing ! $ move ! (2 ∷ 0 ∷ []) $ join ! $ frame ! $ frame ! $
     feq_i ! _ (vbool true ∷ []) _ refl $ done !)
     (λ e'.
-    let h' : Block = record { start = h.start; capacity = k; alloc = h.alloc; words = ws; fits = (had, h.fits.1) } in
+    let h' : WordBlock = record { start = h.start; capacity = k; alloc = h.alloc; words = ws; fits = (had, h.fits.1) } in
     lands_last ! refl (subst (λ (w : Val). T (has_ty (layout Answer) w) × WT w) (sym e') (Answer-typed false 0 0)) $ exec ! 𝓣.C 𝓣.Λ En (after 3 (code.function).body) (at_ret En (W.post y)) $
     sets ! (is ! (of_opd ! (get ! refl)) e') refl (Answer-typed false 0 0) $
     first ! $ switches_on ! (get_tag ! (vrt ! refl (fld ! refl (stop !))) (whole !)) $ exec ! 𝓣.C 𝓣.Λ En (arm_body 1 both) Then $
