@@ -3,3 +3,4 @@ pub mod Entries
 pub mod Nodes
 pub mod Cursors
 pub mod Packed
+pub mod Runs

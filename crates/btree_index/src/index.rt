@@ -1,24 +1,25 @@
-// The index: a tree of nodes, whose leaves are its entries in order. A descent is paid by its levels.
+// The index: a long run of entries, and a few newer ones in a run of their own. Both are in order, and read as one list.
+// More entries are merged with the few, and with all where these become many, so that an entry costs no more than about the
+// square root of how many there are. The long run is shared by the indexes that have it. A descent is paid by its levels.
 // It relies on the ledger for each paid read, and never changes what it was built of.
-ghost use Rattle.std.specs.Prelude.{◌≡◌, ◌+◌, ◌*◌, ◌^◌, ◌<◌, ◌≤◌, ◌++◌, if◌then◌else◌, filter, length, int_le, take, true, IfOk};
-ghost use Rattle.std.specs.List.{AllWithin};
+ghost use Rattle.std.specs.Prelude.{◌≡◌, ◌+◌, ◌*◌, ◌^◌, ◌<◌, ◌≤◌, ◌++◌, All, Contains, filter, length, IfOk};
 ghost use Rattle.std.specs.List.Sorted.{IsPermutation};
 ghost use Rattle.work_ledger.specs.Account.{Pays};
 ghost use Rattle.work_ledger.specs.Charges.{node_charge};
 ghost use Rattle.btree_index.specs.Height.{height_of};
-ghost use Rattle.btree_index.specs.Entries.{HaveWords, IsInOrder, IsOn, entries_left, is_within, next_charge};
+ghost use Rattle.btree_index.specs.Entries.{HaveWords, IsInOrder, IsOn, entries_left, is_within, next_charge, ordered};
 ghost use Rattle.btree_index.specs.Cursors.{IsOnRange, MovesOn};
-ghost use Rattle.btree_index.specs.Nodes.{AreSplitAt, is_entry_below, nodes_of};
+ghost use Rattle.btree_index.specs.Nodes.{nodes_of, nodes_up_to};
+ghost use Rattle.btree_index.specs.Runs.{IsRowAt};
 
-use crate::levels::{first_of, inner_levels};
-use crate::node::{LINE_ENTRIES, NODE_ENTRIES, first_in_node, first_near};
+use crate::both::entry_at;
+use crate::node::NODE_ENTRIES;
 use crate::ordering::put_in_order;
+use crate::run::{Run, height_for};
 use std::alloc::{AllocError, Global};
 use std::marker::Model;
+use std::rc::Rc;
 use work_ledger::{Exhausted, Ledger, charge};
-
-// How many entries are few, so that one look at each finds a range.
-const FEW_ENTRIES: usize = 8;
 
 /// A place in an index: the entries from `next` up to `end`, which it excludes, are left.
 #[derive(Clone, Copy)]
@@ -27,73 +28,57 @@ pub struct Cursor {
     pub next: usize,
     /// The place past the last entry.
     pub end: usize,
+    /// How many of the entries before the next one stand in the long run. Any other number costs time, and nothing else.
+    pub older: usize,
+}
+
+/// Entries of an index, lent: those of its long run, and newer ones. Each of the two are in order.
+#[derive(Clone, Copy)]
+pub struct Found<'i> {
+    /// Those of the long run.
+    pub older: &'i [(i64, u64)],
+    /// Newer ones.
+    pub newer: &'i [(i64, u64)],
 }
 
 /// The index of one column.
 #[derive(Drop)]
 pub struct Index {
-    // The leaves one after another, of `NODE_ENTRIES` entries each but the last.
-    entries: Vec<(i64, u64)>,
-    // The levels above the leaves.
-    inner: Vec<i64>,
+    older: Rc<Run>,
+    // Few, if there are many older ones.
+    newer: Run,
     height: u32,
 }
 
 impl Model for Index {
-    ghost use Rattle.std.specs.Prelude.{List};
-    ghost use Rattle.btree_index.specs.Entries.{IndexEntry};
-    ghost use Rattle.btree_index.specs.Nodes.{IsTree};
+    ghost use Rattle.std.specs.Prelude.{List, ◌++◌};
+    ghost use Rattle.btree_index.specs.Entries.{IndexEntry, ordered};
+    ghost use Rattle.btree_index.specs.Runs.{AreRuns};
 
     ghost Value = { List IndexEntry };
 
-    ghost view = { λ x. x.entries.items };
+    ghost view = { λ x. ordered (x.older.value ++ x.newer) };
 
-    ghost invariant = { λ x. IsTree x.entries.items x.inner.items x.height };
+    ghost invariant = { λ x. AreRuns x.older.value x.newer x.height };
 }
 
-// The least height of at least 1 at which nodes of 64 have room for so many entries.
-fn height_for(entries: u64) -> u32
-    ensures { result ≡ height_of entries }
+// Whether so many newer entries are few beside so many older ones.
+fn are_few(newer: usize, older: usize) -> bool {
+    newer <= NODE_ENTRIES || newer as u128 * newer as u128 <= older as u128
+}
+
+// How many nodes an index of so many entries has.
+fn nodes_for(entries: u64) -> u64
+    ensures { result ≡ nodes_of entries }
 {
-    let mut height = 1;
-    let mut room = NODE_ENTRIES as u128;
-    while room < entries as u128 {
-        height += 1;
-        room *= NODE_ENTRIES as u128;
+    let height = height_for(entries);
+    let mut level_nodes = entries;
+    let mut below_root = 0;
+    for _level in 1..height {
+        level_nodes = level_nodes.div_ceil(NODE_ENTRIES as u64);
+        below_root += level_nodes;
     }
-    height
-}
-
-// What the type of entries says of the word of each is known of all after it. It does nothing.
-fn know_words(entries: &[(i64, u64)])
-    ensures { HaveWords entries.now }
-{
-    for place in 0..entries.len() {
-        let _word = entries[place].0;
-    }
-}
-
-// One more, where a test is passed.
-fn one_more(count: usize, passes: bool) -> usize
-    requires { count < 2 ^ 63 }
-    ensures { result ≡ if passes then count + 1 else count }
-{
-    if passes { count + 1 } else { count }
-}
-
-// The cursor of the entries with words from `from` to `to`, found by one look at each entry.
-fn cursor_among_few(entries: &[(i64, u64)], from: i64, to: i64) -> Cursor
-    requires { IsInOrder entries.now }
-    ensures { IsOnRange entries.now from to result }
-{
-    let mut next = 0;
-    let mut end = 0;
-    for place in 0..entries.len() {
-        let word = entries[place].0;
-        next = one_more(next, word < from);
-        end = one_more(end, word <= to);
-    }
-    Cursor { next, end }
+    below_root + 1
 }
 
 #[tactic(auto, using(crate::proofs::OfCursors::of_cursors))]
@@ -115,40 +100,62 @@ impl Index {
         let mut sorted = entries;
         put_in_order(alloc, &mut sorted)?;
         sorted.shrink_to_fit();
-        Index::of_sorted(alloc, sorted)
+        Index::of_one_run(alloc, sorted)
     }
 
-    /// The index of its entries and more of them. Those that are in order already aren't sorted anew.
+    /// The index of its entries and more of them. It costs time of these and of the newer entries alone, but for once in as many
+    /// entries as are few.
     pub fn merged(&self, alloc: Global, more: &[(i64, u64)]) -> Result<Index, AllocError>
         ensures same { IfOk result (λ index. IsPermutation (self.now ++ more.now) index) }
         ensures order { IfOk result (λ index. IsInOrder index) }
     {
-        let mut sorted = Vec::from_slice(alloc, &self.entries)?;
+        let newer = self.newer.entries();
+        if are_few(newer.len().saturating_add(more.len()), self.older.len()) {
+            let older = self.older.clone()?;
+            let mut sorted = Vec::from_slice(alloc, newer)?;
+            sorted.extend_from_slice(more)?;
+            sorted.sort()?;
+            return Ok(Index::of_runs(older, Run::of_sorted(alloc, sorted)?));
+        }
+        let mut sorted = Vec::from_slice(alloc, self.older.entries())?;
+        sorted.extend_from_slice(newer)?;
         sorted.extend_from_slice(more)?;
         sorted.sort()?;
-        Index::of_sorted(alloc, sorted)
+        Index::of_one_run(alloc, sorted)
     }
 
-    // The index whose leaves are these entries, in order already.
-    fn of_sorted(alloc: Global, entries: Vec<(i64, u64)>) -> Result<Index, AllocError>
+    // The index of a run that has these entries, which are in order.
+    fn of_one_run(alloc: Global, entries: Vec<(i64, u64)>) -> Result<Index, AllocError>
         requires { IsInOrder entries.items }
-        ensures { IfOk result (λ index. index ≡ entries.items) }
+        ensures { IfOk result (λ index. index ≡ ordered entries.items) }
     {
-        know_words(&entries);
-        let height = height_for(entries.len() as u64);
-        let inner = inner_levels(alloc, &entries, height)?;
-        Ok(Index {
-            entries,
-            inner,
+        let run = Run::of_sorted(alloc, entries)?;
+        let newer = Run::of_sorted(alloc, Vec::new(alloc))?;
+        match Rc::new(alloc, run) {
+            Ok(older) => Ok(Index::of_runs(older, newer)),
+            Err(_refused) => Err(AllocError),
+        }
+    }
+
+    // The index of both.
+    fn of_runs(older: Rc<Run>, newer: Run) -> Index
+        ensures { result ≡ ordered (older.value ++ newer) }
+    {
+        let long = older.entries();
+        let few = newer.entries();
+        let height = height_for(long.len() as u64 + few.len() as u64);
+        Index {
+            older,
+            newer,
             height,
-        })
+        }
     }
 
     /// How many entries there are.
     pub fn entries(&self) -> u64
         ensures { result ≡ length self.now }
     {
-        self.entries.len() as u64
+        self.older.len() as u64 + self.newer.len() as u64
     }
 
     /// How many levels a descent has.
@@ -162,74 +169,48 @@ impl Index {
     pub fn nodes(&self) -> u64
         ensures { result ≡ nodes_of (length self.now) }
     {
-        self.inner.len() as u64 + 1
+        nodes_for(self.entries())
     }
 
-    // The place of the first entry whose word is at least this one, or past the last entry, found from the root down.
-    fn first_from(&self, word: i64) -> usize
-        ensures within { result ≤ length self.now }
-        ensures first { AreSplitAt (is_entry_below word) self.now result }
+    // What the runs' types say of the word of each entry is known after it. It does nothing.
+    fn know_words(&self)
+        ensures { HaveWords self.now }
     {
-        let entries = self.entries.as_slice();
-        if self.height == 1 {
-            return first_in_node(entries, LINE_ENTRIES, 0, word);
-        }
-        let (level, above) = self.inner.split_at(entries.len().div_ceil(NODE_ENTRIES));
-        let leaf = first_of(level, above, self.height - 2, word);
-        first_in_node(entries, LINE_ENTRIES, leaf, word)
-    }
-
-    // The same place where all before `next` are less. It looks at the next few entries before it descends.
-    fn first_behind(&self, next: usize, word: i64) -> usize
-        requires there { next ≤ length self.now }
-        requires before { AllWithin (λ entry. is_entry_below word entry ≡ true) self.now 0 next }
-        ensures within { result ≤ length self.now }
-        ensures first { AreSplitAt (is_entry_below word) self.now result }
-    {
-        match first_near(&self.entries, next, word) {
-            Some(place) => place,
-            None => self.first_from(word),
-        }
-    }
-
-    // The place past the last entry whose word is at most this one. The words of all before `next` are.
-    fn end_of(&self, next: usize, word: i64) -> usize
-        requires there { next ≤ length self.now }
-        requires before { AllWithin (λ entry. int_le entry.0 word ≡ true) self.now 0 next }
-        ensures within { result ≤ length self.now }
-        ensures end { AreSplitAt (λ entry. int_le entry.0 word) self.now result }
-    {
-        match word.checked_add(1) {
-            Some(above) => self.first_behind(next, above),
-            None => self.entries.len(),
-        }
+        let _newer = &self.newer;
     }
 
     /// The place of the entries with words from `from` to `to`, both included. There are none where `from` is greater than
-    /// `to`. It isn't paid, and takes as long as two descents at most.
+    /// `to`. It isn't paid, and takes as long as two descents at most, in each run.
     pub fn place(&self, from: i64, to: i64) -> Cursor
         ensures range { IsOnRange self.now from to result }
         ensures words { HaveWords self.now }
     {
-        if self.entries.len() <= FEW_ENTRIES {
-            return cursor_among_few(&self.entries, from, to);
-        }
+        self.know_words();
         if to < from {
-            return Cursor { next: 0, end: 0 };
+            return Cursor {
+                next: 0,
+                end: 0,
+                older: 0,
+            };
         }
-        let next = self.first_from(from);
-        let end = self.end_of(next, to);
-        Cursor { next, end }
+        let older = self.older.stretch(from, to);
+        let newer = self.newer.stretch(from, to);
+        Cursor {
+            next: older.begin + newer.begin,
+            end: older.end + newer.end,
+            older: older.begin,
+        }
     }
 
     /// These entries. They aren't paid.
-    pub fn within(&self, from: i64, to: i64) -> &[(i64, u64)]
-        ensures entries { result.now ≡ filter (is_within from to) self.now }
+    pub fn within(&self, from: i64, to: i64) -> Found<'_>
+        ensures entries { IsPermutation (filter (is_within from to) self.now)
+            (result.older.now ++ result.newer.now) }
         ensures words { HaveWords self.now }
     {
-        let Cursor { next, end } = self.place(from, to);
-        let entries = self.entries.as_slice();
-        &entries[next.min(end)..end]
+        let older = self.older.within(from, to);
+        let newer = self.newer.within(from, to);
+        Found { older, newer }
     }
 
     /// Descends to these entries, which pays for each level.
@@ -238,7 +219,8 @@ impl Index {
         ensures words { HaveWords self.now }
         ensures pays { Pays (node_charge * height_of (length self.now)) ledger.old ledger.new result }
     {
-        ledger.pay(charge::NODE * self.height as u128)?;
+        self.know_words();
+        ledger.pay(charge::NODE * self.height() as u128)?;
         Ok(self.place(from, to))
     }
 
@@ -256,19 +238,31 @@ impl Index {
             return Ok(None);
         }
         ledger.pay(charge::ENTRY)?;
-        let row = self.entries[cursor.next].1;
+        let (row, older) = self.row_at(cursor.next, cursor.older);
         cursor.next += 1;
+        cursor.older = older;
         Ok(Some(row))
     }
 
-    /// The entries that the cursor has left, at most `most` of them, in order, lent. They aren't paid, and no cursor moves:
-    /// it is for looking at rows that will be read soon.
-    pub fn ahead(&self, cursor: &Cursor, most: usize) -> &[(i64, u64)]
-        requires { IsOn self.now cursor.now }
-        ensures entries { result.now ≡ take most (entries_left self.now cursor.now) }
+    // The row of the entry at a place, and how many of the entries up to it stand in the long run. How many of those before
+    // it do is guessed.
+    fn row_at(&self, place: usize, guess: usize) -> (u64, usize)
+        requires { place < length self.now }
+        ensures { IsRowAt self.now place result.0 }
     {
-        let entries = self.entries.as_slice();
-        let count = cursor.end.saturating_sub(cursor.next).min(most);
-        &entries[cursor.next..cursor.next + count]
+        let (entry, older) = entry_at(self.older.entries(), self.newer.entries(), place, guess);
+        (entry.1, older)
+    }
+
+    /// Entries that stand near the cursor in the long run, at most `most` of them and no more than it has left, lent. They
+    /// aren't paid, and no cursor moves: it is for looking at rows that will be read soon.
+    pub fn near(&self, cursor: &Cursor, most: usize) -> &[(i64, u64)]
+        ensures { All (Contains self.now) result.now }
+    {
+        let entries = self.older.entries();
+        let from = cursor.older.min(entries.len());
+        let left = cursor.end.saturating_sub(cursor.next);
+        let count = left.min(most).min(entries.len() - from);
+        &entries[from..from + count]
     }
 }

@@ -18,7 +18,7 @@ use Rattle.query_block.specs.Truth.{value_at}
 use Rattle.btree_index.specs.Entries.{IndexEntry}
 use Rattle.db_catalog.specs.Database.{DatabaseState, table_at}
 use Rattle.db_catalog.specs.Indexes.{value_entry, entries_from, column_entries, index_at, row_of_entry}
-use Rattle.db_catalog.proofs.EntryOrder.{ordered_same}
+use Rattle.btree_index.proofs.EntryOrder.{ordered_same}
 use Rattle.db_catalog.proofs.Permutations.{andthen, equal, permuted}
 
 -- the first of the rows from a place on is the row at that place

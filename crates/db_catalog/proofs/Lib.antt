@@ -5,7 +5,6 @@ pub mod Refusals
 pub mod Recoding
 pub mod Appended
 pub mod Growth
-pub mod EntryOrder
 pub mod OfIndexes
 pub mod Permutations
 pub mod IndexEntries

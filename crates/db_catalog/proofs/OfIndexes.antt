@@ -1,12 +1,12 @@
 -- The entries of a column, in rows of words and in rows of values.
-use Rattle.std.proofs.Common.{take, All, ◌≡◌, ℕ, zero, suc, ◌+◌, ◌-◌, ◌<◌, Bool, true, false, List, [], ◌∷◌, ◌++◌, length, map, drop, get_or, Result, Ok, Err, IfOk, ℤ, refl, sym, ap, ◌∙◌, arith, append_assoc, append-nil, if◌then◌else◌}
-use Rattle.std.specs.Prelude.{slice_index_or, IfSome}
+use Rattle.std.proofs.Common.{All, ◌≡◌, ℕ, zero, suc, ◌+◌, ◌-◌, ◌<◌, Bool, true, false, List, [], ◌∷◌, ◌++◌, length, map, drop, get_or, Result, Ok, Err, IfOk, ℤ, refl, sym, ap, ◌∙◌, arith, append_assoc, append-nil, if◌then◌else◌}
+use Rattle.std.specs.Prelude.{slice_index_or, Contains, IfSome}
 use Rattle.std.specs.List.{IsDistinct}
 use Rattle.std.specs.List.Sorted.{IsPermutation}
 use Rattle.std.specs.Ordering.{int_eq}
 use Rattle.std.specs.Str.{bytes_eq}
 use Rattle.std.proofs.lemmas.Bool.Decides.{Decides-int_eq}
-use Rattle.std.proofs.lemmas.List.Elements.{All-append, All-take, All-drop, All-nil, All-cons, All-head, All-tail}
+use Rattle.std.proofs.lemmas.List.Elements.{All-append, All-take, All-drop, All-contains, All-nil, All-cons, All-head, All-tail, All-weaker}
 use Rattle.std.proofs.lemmas.List.Sorted.{All-permutation}
 use Rattle.sql_values.specs.declared.value.Value.{Value}
 use Rattle.sql_values.specs.declared.value.Value.TheVariants as value
@@ -14,12 +14,12 @@ use Rattle.sql_values.specs.declared.column.ColumnDef.{ColumnDef}
 use Rattle.sql_values.specs.Words.{null_word, word_of}
 use Rattle.sql_values.specs.Stored.{ValueRow, IsValueOf, IsRowOf, AreWords, row_of}
 use Rattle.sql_values.proofs.Stored.{StandsFor-row_of}
-use Rattle.btree_index.specs.Entries.{IndexEntry, IsInOrder, entries_left, first_row}
+use Rattle.btree_index.specs.Entries.{IndexEntry, IsInOrder, entries_left, first_row, ordered}
 use Rattle.btree_index.specs.declared.index.Cursor.{Cursor}
 use Rattle.db_catalog.specs.Database.{DatabaseState, table_at}
-use Rattle.db_catalog.specs.Indexes.{value_entry, entries_from, column_entries, index_at, word_entry, word_entries, ordered, kept_index}
+use Rattle.db_catalog.specs.Indexes.{value_entry, entries_from, column_entries, index_at, word_entry, word_entries, kept_index}
 use Rattle.db_catalog.specs.Kept.{MeanRows}
-use Rattle.db_catalog.proofs.EntryOrder.{ordered_same, ordered_alone, ordered_merged}
+use Rattle.btree_index.proofs.EntryOrder.{ordered_same, ordered_alone, ordered_merged}
 
 -- entries of rows and of more rows behind them
 pub word_entries-append : (column first : ℕ) (rows more : List (List ℤ)) → word_entries column first (rows ++ more) ≡ word_entries column first rows ++ word_entries column (first + length rows) more
@@ -79,11 +79,10 @@ first_row-below entries cursor bound all =
     first-below (entries_left entries cursor) bound
     (All-take (λ (e : IndexEntry). e.1 < bound) (cursor.end - cursor.next) (drop cursor.next entries) (All-drop (λ (e : IndexEntry). e.1 < bound) cursor.next entries all))
 
--- and so have those that come next
-pub ahead-below : (entries : List IndexEntry) (cursor : Cursor) (most bound : ℕ) → All (λ (e : IndexEntry). e.1 < bound) entries → All (λ (e : IndexEntry). e.1 < bound) (take most (entries_left entries cursor))
-ahead-below entries cursor most bound all =
-    All-take (λ (e : IndexEntry). e.1 < bound) most (entries_left entries cursor)
-    (All-take (λ (e : IndexEntry). e.1 < bound) (cursor.end - cursor.next) (drop cursor.next entries) (All-drop (λ (e : IndexEntry). e.1 < bound) cursor.next entries all))
+-- and so has each that is one of them
+pub some-below : (entries some : List IndexEntry) (bound : ℕ) → All (λ (e : IndexEntry). e.1 < bound) entries → All (Contains entries) some → All (λ (e : IndexEntry). e.1 < bound) some
+some-below entries some bound all each =
+    All-weaker (Contains entries) (λ (e : IndexEntry). e.1 < bound) (λ e is. All-contains (λ (e : IndexEntry). e.1 < bound) entries e all is) some each
 
 -- the index that is built of a column's entries is the one that is kept
 pub built : {E : Type 0} (r : Result (List IndexEntry) E) (entries : List IndexEntry) → IfOk r (λ index. IsPermutation entries index) → IfOk r IsInOrder → IfOk r (λ index. index ≡ ordered entries)

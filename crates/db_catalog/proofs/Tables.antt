@@ -13,9 +13,10 @@ use Rattle.sql_values.specs.Words.{IsWord}
 use Rattle.sql_values.specs.Stored.{StoredTable, StandsFor, IsRowOf, AreWords, row_of}
 use Rattle.sql_values.proofs.Stored.{StandsFor-row_of}
 use Rattle.heap_pages.specs.Rows.{IsSlot, pages_of}
+use Rattle.btree_index.specs.Entries.{ordered}
 use Rattle.db_catalog.specs.declared.table.Table.{Table}
 use Rattle.db_catalog.specs.Database.{DatabaseState, new_table, table_at, row_at, table_number, IsRowAt, StandAsWords}
-use Rattle.db_catalog.specs.Indexes.{entries_from, ordered, index_at, kept_index}
+use Rattle.db_catalog.specs.Indexes.{entries_from, index_at, kept_index}
 use Rattle.db_catalog.specs.Meter.{table_pages}
 use Rattle.db_catalog.specs.Kept.{MeanRows, IsWide, HasWords, HasColumn, stored_table, IsKept, IsHeapOf, AreKept}
 use Rattle.db_catalog.proofs.OfIndexes.{entries_seen}

@@ -1,11 +1,11 @@
 -- The index of a column: an entry for each row in which the column isn't NULL, in order.
 use Rattle.std.specs.Prelude.{ℕ, ◌+◌, ℤ, List, [], ◌∷◌, ◌++◌, length, slice_index_or, if◌then◌else◌}
-use Rattle.std.specs.Ordering.{int_eq, is_gt}
+use Rattle.std.specs.Ordering.{int_eq}
 use Rattle.sql_values.specs.declared.value.Value.{Value}
 use Rattle.sql_values.specs.declared.value.Value.TheVariants as value
 use Rattle.sql_values.specs.Words.{null_word, word_of}
 use Rattle.sql_values.specs.Stored.{ValueRow}
-use Rattle.btree_index.specs.Entries.{IndexEntry, entry_order}
+use Rattle.btree_index.specs.Entries.{IndexEntry, ordered}
 use Rattle.btree_index.specs.Height.{height_of}
 use Rattle.db_catalog.specs.Database.{DatabaseState, table_at, row_at}
 
@@ -24,17 +24,6 @@ entries_from texts column first (row ∷ rows) =
 -- the entries of a column of the table of this number
 abbrev pub column_entries : DatabaseState → (number column : ℕ) → List IndexEntry
 column_entries database number column = entries_from database.texts column 0 (table_at database number).rows
-
--- the entry at its place among entries that are in order
-abbrev pub placed : IndexEntry → List IndexEntry → List IndexEntry
-placed entry [] = entry ∷ []
-placed entry (first ∷ rest) =
-    if is_gt (entry_order entry first) then first ∷ placed entry rest else entry ∷ first ∷ rest
-
--- the entries in order, each as often as it stands there
-abbrev pub ordered : List IndexEntry → List IndexEntry
-ordered [] = []
-ordered (entry ∷ entries) = placed entry (ordered entries)
 
 -- the index of a column: its entries in order
 abbrev pub index_at : DatabaseState → (number column : ℕ) → List IndexEntry

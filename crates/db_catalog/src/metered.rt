@@ -249,7 +249,7 @@ impl<'d> Metered<'d> {
     {
         let entries = self
             .database
-            .entries_ahead(table, column, cursor, near_entries(cursor));
+            .entries_near(table, column, cursor, near_entries(cursor));
         self.near.look_at(self.database.heap(table), entries);
     }
 }

@@ -1,5 +1,6 @@
 // Reads that aren't paid, by which tables are counted. They rely on the heap and the indexes, and change nothing.
-ghost use Rattle.std.specs.Prelude.{◌≡◌, ℕ, ◌*◌, ◌<◌, All, Contains, drop, filter, length, take};
+ghost use Rattle.std.specs.Prelude.{◌≡◌, ℕ, ◌*◌, ◌<◌, ◌++◌, All, Contains, drop, filter, length, take};
+ghost use Rattle.std.specs.List.Sorted.{IsPermutation};
 ghost use Rattle.btree_index.specs.Entries.{HaveWords, IndexEntry, is_within};
 ghost use Rattle.btree_index.specs.Height.{height_of};
 ghost use Rattle.db_catalog.specs.Database.{IsRowAt, StandAsWords, table_at};
@@ -10,7 +11,7 @@ ghost use Rattle.db_catalog.specs.Meter.{IsRowIn, page_rows, table_pages};
 
 use crate::column_range::ColumnRange;
 use crate::database::Database;
-use btree_index::{Cursor, Index};
+use btree_index::{Cursor, Found, Index};
 use heap_pages::RowSpan;
 
 #[tactic(auto, using(crate::proofs::Tables::of_reads))]
@@ -64,19 +65,21 @@ impl Database {
         self.tables[table as usize].index_of(column)
     }
 
-    /// The entries of a column's index with words from `from` to `to`, both included, in order by word, then row. There are
-    /// none where `from` is greater than `to`, and none for NULL. They aren't paid, and are found by two descents.
-    pub fn entries_within(&self, table: u32, column: u8, from: i64, to: i64) -> &[(i64, u64)]
+    /// The entries of a column's index with words from `from` to `to`, both included: two lists, each in order by word, then
+    /// row. There are none where `from` is greater than `to`, and none for NULL. They aren't paid, and are found by two
+    /// descents in each of the index's runs.
+    pub fn entries_within(&self, table: u32, column: u8, from: i64, to: i64) -> Found<'_>
         requires { Contains (table_at self.now table).indexed column }
-        ensures entries { result.now ≡ filter (is_within from to) (index_at self.now table column) }
+        ensures entries { IsPermutation (filter (is_within from to) (index_at self.now table column))
+            (result.older.now ++ result.newer.now) }
         ensures words { HaveWords (index_at self.now table column) }
         ensures rows { StandAsWords self.now table }
     {
         self.index(table, column).within(from, to)
     }
 
-    // The entries that a cursor has left, at most so many of them. They aren't paid.
-    pub(crate) fn entries_ahead(
+    // Entries that stand near a cursor, at most so many of them. They aren't paid.
+    pub(crate) fn entries_near(
         &self,
         table: u32,
         column: u8,
@@ -86,7 +89,7 @@ impl Database {
         requires { IsCursorOf self.now table column cursor.now }
         ensures { All (λ (e : IndexEntry). e.1 < length (table_at self.now table).rows) result.now }
     {
-        self.index(table, column).ahead(cursor, most)
+        self.index(table, column).near(cursor, most)
     }
 
     /// How many levels a column's index has.

@@ -61,8 +61,8 @@ impl Table {
         self.indexes.add(column, index)
     }
 
-    // Puts the words of rows behind those of the table, and their entries into its indexes. The indexes are made anew, and
-    // all memory is taken, before anything changes: a refusal changes nothing.
+    // Puts the words of rows behind those of the table, and their entries into its indexes. New indexes are made beside the
+    // old ones, and all memory is taken, before anything changes: a refusal changes nothing.
     pub(crate) fn append_rows(
         &mut self,
         alloc: Global,
@@ -100,7 +100,7 @@ impl Table {
     }
 
     // That of the column at this place among the indexed ones. The new entries are put in order first, so that what is
-    // left to do is to merge two lists.
+    // left to do is to merge lists.
     fn index_with(
         &self,
         alloc: Global,

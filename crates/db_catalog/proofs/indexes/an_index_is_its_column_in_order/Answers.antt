@@ -1,5 +1,5 @@
 use Rattle.db_catalog.specs.Indexes.{column_entries}
-use Rattle.db_catalog.proofs.EntryOrder.{ordered_same, ordered_in_order}
+use Rattle.btree_index.proofs.EntryOrder.{ordered_same, ordered_in_order}
 use Rattle.db_catalog.proofs.indexes.an_index_is_its_column_in_order.Goals as goal
 
 pub returns-clause-same : goal.returns-clause-same

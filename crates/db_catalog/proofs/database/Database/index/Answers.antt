@@ -3,7 +3,7 @@ use Rattle.std.proofs.lemmas.List.Sorted.{length_permutation}
 use Rattle.btree_index.specs.Height.{height_of}
 use Rattle.db_catalog.specs.Database.{StandAsWords}
 use Rattle.db_catalog.specs.Indexes.{column_entries, index_at}
-use Rattle.db_catalog.proofs.EntryOrder.{ordered_same}
+use Rattle.btree_index.proofs.EntryOrder.{ordered_same}
 use Rattle.db_catalog.proofs.Tables.{is_kept, index_seen, index_there, rows_stand}
 use Rattle.db_catalog.proofs.database.Database.index.Goals as goal
 

@@ -1,6 +1,6 @@
 use Rattle.std.proofs.Common.{◌≡◌, ◌∷◌, ◌++◌, ◌∙◌, [], ap, subst, IsPermutation}
 use Rattle.db_catalog.specs.Indexes.{kept_index, word_entries}
-use Rattle.db_catalog.proofs.EntryOrder.{ordered_alone}
+use Rattle.btree_index.proofs.EntryOrder.{ordered_alone}
 use Rattle.db_catalog.proofs.Tables.{IfOk-map}
 use Rattle.db_catalog.proofs.table.Table.index_column.Goals as goal
 

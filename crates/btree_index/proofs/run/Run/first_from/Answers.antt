@@ -5,7 +5,7 @@ use Rattle.std.specs.List.Sorted.{IsPartitionedBy}
 use Rattle.btree_index.specs.Nodes.{entry_word, is_below, is_entry_below}
 use Rattle.btree_index.proofs.Nodes.{around_mapped, around_node, level_above_leaves, rising_above, rising_mapped}
 use Rattle.btree_index.proofs.Ranges.{entries_rise}
-use Rattle.btree_index.proofs.index.Index.first_from.Goals as goal
+use Rattle.btree_index.proofs.run.Run.first_from.Goals as goal
 
 pub first_in_node-requires-clause-rising : goal.first_in_node-requires-clause-rising
 first_in_node-requires-clause-rising c =

@@ -3,7 +3,7 @@ use Rattle.std.specs.Prelude.{ℤ}
 use Rattle.std.specs.List.Sorted.{IsPartitionedBy}
 use Rattle.btree_index.specs.Nodes.{is_entry_below}
 use Rattle.btree_index.proofs.Ranges.{entries_rise}
-use Rattle.btree_index.proofs.index.Index.first_behind.Goals as goal
+use Rattle.btree_index.proofs.run.Run.first_behind.Goals as goal
 
 pub first_near-requires-clause-rising : goal.first_near-requires-clause-rising
 first_near-requires-clause-rising c =

@@ -3,7 +3,7 @@ use Rattle.std.proofs.lemmas.Bool.Decides.{nat_tests}
 use Rattle.std.proofs.Math.Nat.{pow-le-pow_right, lt_of_not-le}
 use Rattle.std.proofs.lemmas.Grind.{pow_more, common_steps}
 use Rattle.btree_index.proofs.Least.{least_from-passed}
-use Rattle.btree_index.proofs.index.height_for.Goals as goal
+use Rattle.btree_index.proofs.run.height_for.Goals as goal
 
 -- an index of so many entries as there are numbers of 64 bits has at most 11 levels
 levels_fit : (room height entries : ℕ) → room ≡ 64 ^ height → room < entries → entries ≤ 2 ^ 64 → height < 11

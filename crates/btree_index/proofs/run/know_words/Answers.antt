@@ -2,7 +2,7 @@ use Rattle.std.proofs.Common.{rules, FitsSigned, w64, slice_index_or, pos, subst
 use Rattle.std.proofs.lemmas.List.{take_all}
 use Rattle.std.proofs.lemmas.List.Elements.{All-more}
 use Rattle.btree_index.specs.Entries.{HaveWords, IndexEntry}
-use Rattle.btree_index.proofs.index.know_words.Goals as goal
+use Rattle.btree_index.proofs.run.know_words.Goals as goal
 
 pub loop-place-preserved : goal.loop-place-preserved
 loop-place-preserved c =

@@ -1,7 +1,7 @@
 use Rattle.std.proofs.Common.{◌≡◌, ◌*◌, ◌+◌, ◌-◌, ◌≤◌, ◌^◌}
 use Rattle.std.specs.Prelude.{nat_le}
 use Rattle.btree_index.specs.Height.{node_entries, least_from, height_of}
-use Rattle.btree_index.proofs.index.height_for.Given as goal
+use Rattle.btree_index.proofs.run.height_for.Given as goal
 
 -- no height so far has room, and there is a next one
 abbrev pub invariant-loop-room : goal.invariant-loop-room
