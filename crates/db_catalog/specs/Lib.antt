@@ -3,6 +3,7 @@ pub mod Indexes
 pub mod Refused
 pub mod Batch
 pub mod Meter
+pub mod Opened
 pub mod Kept
 pub mod Recoded
 pub mod Fits

@@ -3,7 +3,7 @@
 ghost use Rattle.std.specs.Prelude.{◌≡◌, ℕ, ◌+◌, ◌*◌, ◌<◌, ◌≤◌, drop, length, take, Contains, IfOk};
 ghost use Rattle.btree_index.specs.Cursors.{IsOnRange};
 ghost use Rattle.btree_index.specs.Entries.{HaveWords, entries_left, next_charge};
-ghost use Rattle.heap_pages.specs.Rows.{IsSlot, row_number};
+ghost use Rattle.heap_pages.specs.Rows.{IsSlot};
 ghost use Rattle.work_ledger.specs.Account.{IsInBounds, max_account};
 ghost use Rattle.work_ledger.specs.Budget.{granted, new_account};
 ghost use Rattle.work_ledger.specs.Charges.{page_charge, row_charge, fetch_charge, node_charge};
@@ -12,17 +12,18 @@ ghost use Rattle.db_catalog.specs.Database.{IsRowAt, StandAsWords, table_at};
 ghost use Rattle.db_catalog.specs.Tables.{AreColumnsOfTable};
 ghost use Rattle.db_catalog.specs.Indexes.{index_at, index_height};
 ghost use Rattle.db_catalog.specs.Cursors.{GivesNext, IsCursorOf};
-ghost use Rattle.db_catalog.specs.Marks.{AreMarksOf, HasSpan};
 ghost use Rattle.db_catalog.specs.Meter.{Reads, table_pages, page_rows, IsRowIn};
+ghost use Rattle.db_catalog.specs.Opened.{HasPage, marks_on};
 
-use crate::column_range::ColumnRange;
 use crate::database::Database;
 use crate::near::{Near, is_at_first, near_entries};
+use crate::opened_page::OpenedPage;
+use crate::page_marks::PageMarks;
 use btree_index::Cursor;
-use heap_pages::{PageView, RowSpan};
+use heap_pages::PageView;
 use sql_values::{ColumnDef, Texts};
 use std::marker::Model;
-use work_ledger::{Exhausted, Ledger, charge};
+use work_ledger::{Exhausted, Ledger};
 
 /// A database that is read for pay. Counts and texts are free.
 #[derive(Drop)]
@@ -126,14 +127,6 @@ impl<'d> Metered<'d> {
         self.database.rows_on_page(table, no)
     }
 
-    /// The number of the first row on page `no` of a table, both from 0.
-    pub fn first_row(&self, table: u32, no: u64) -> u64
-        requires { no < table_pages self.now.database table }
-        ensures { result ≡ row_number (length (table_at self.now.database table).columns) no 0 }
-    {
-        self.database.first_row(table, no)
-    }
-
     /// The different texts that stand in the tables.
     pub fn texts(&self) -> &'d Texts
         ensures { result.now ≡ self.now.database.texts }
@@ -150,38 +143,35 @@ impl<'d> Metered<'d> {
         self.database.heap(table).page(no, &mut self.ledger)
     }
 
-    /// Opens page `no` of a table, from 0, which pays at once for it and for each row on it. How many rows these are.
-    pub fn open_page(&mut self, table: u32, no: u64) -> Result<usize, Exhausted>
+    /// Opens page `no` of a table, from 0, which pays at once for it and for each row on it, and gives the key to it.
+    pub fn open_page(&mut self, table: u32, no: u64) -> Result<OpenedPage, Exhausted>
         requires { no < table_pages self.old.database table }
-        ensures rows { IfOk result (λ rows. rows ≡ page_rows self.old.database table no) }
+        ensures key { IfOk result (λ key. key ≡ record { table = table; page = no }) }
         ensures reads { Reads (page_charge + row_charge * page_rows self.old.database table no)
             self.old self.new result }
     {
-        let rows = self.database.rows_on_page(table, no);
-        self.ledger.pay(charge::PAGE + charge::ROW * rows as u128)?;
-        Ok(rows)
+        OpenedPage::pay(self.database, table, no, &mut self.ledger)
     }
 
-    /// The words of the rows on page `no` of a table, from 0, one row after another. This call pays nothing: whoever reads
-    /// them must have paid for the page and each of its rows, as `open_page` does.
-    pub fn opened_page(&self, table: u32, no: u64) -> &'d [i64]
-        requires { no < table_pages self.now.database table }
-        ensures filled { length result.now ≡ page_rows self.now.database table no
-            * length (table_at self.now.database table).columns }
-        ensures rows { (slot : ℕ) → slot < page_rows self.now.database table no
-            → let width = length (table_at self.now.database table).columns in
-            IsRowIn self.now.database table no slot (take width (drop (slot * width) result.now)) }
+    /// The words of the rows on the page to which this is the key, one row after another. They are paid.
+    pub fn opened_page(&self, key: &OpenedPage) -> &'d [i64]
+        requires { HasPage self.now.database key.now }
+        ensures filled { length result.now ≡ page_rows self.now.database key.now.table key.now.page
+            * length (table_at self.now.database key.now.table).columns }
+        ensures rows { (slot : ℕ) → slot < page_rows self.now.database key.now.table key.now.page
+            → let width = length (table_at self.now.database key.now.table).columns in
+            IsRowIn self.now.database key.now.table key.now.page slot
+            (take width (drop (slot * width) result.now)) }
     {
-        self.database.plain_page(table, no)
+        self.database.plain_page(key.table(), key.page())
     }
 
-    /// Which rows of a span of a table, of at most 64, have a word of a range: bit k stands for the row k places behind the
-    /// first. This call pays nothing: whoever asks must have paid for the pages of these rows, as `open_page` does.
-    pub fn opened_marks(&self, table: u32, found: ColumnRange, span: RowSpan) -> u64
-        requires { HasSpan self.now.database table found span }
-        ensures { AreMarksOf self.now.database table found span result }
+    /// Whoever tells which rows of the page to which this is the key have words of a range. They are paid.
+    pub fn opened_marks(&self, key: &OpenedPage) -> PageMarks<'d>
+        requires { HasPage self.now.database key.now }
+        ensures { result ≡ marks_on self.now.database key.now }
     {
-        self.database.plain_marks(table, found, span)
+        PageMarks::new(self.database, key)
     }
 
     /// The words of the row in this slot, from 0, of an opened page, which pays for the row.

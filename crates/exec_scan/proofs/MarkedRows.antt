@@ -9,12 +9,16 @@ use Rattle.query_block.specs.Conditions.{FilterTree}
 use Rattle.query_block.specs.Meaning.{meets_filter}
 use Rattle.query_block.specs.Parameters.{fixed_of}
 use Rattle.narrow_columns.specs.Marks.{marks_of}
-use Rattle.heap_pages.specs.Rows.{rows_per_page}
+use Rattle.heap_pages.specs.Rows.{row_number, rows_per_page}
+use Rattle.heap_pages.specs.Spans.{rows_of_span}
+use Rattle.heap_pages.specs.declared.spans.RowSpan.{RowSpan}
+use Rattle.row_filter.specs.RowFilters.{AreMarks, FilterRanges, IsFilterOf}
 use Rattle.db_catalog.specs.Database.{DatabaseState, table_at}
+use Rattle.db_catalog.specs.Opened.{PageMarksState}
 use Rattle.exec_scan.specs.declared.marks.NextMarks.{NextMarks}
 use Rattle.exec_scan.specs.NextMarks.{AreNextMarks, IsFirstMarked}
 use Rattle.exec_scan.specs.Reading.{IsFirstRow, kept_ahead}
-use Rattle.exec_scan.specs.TableReading.{TableReaderState, table_ahead, table_from}
+use Rattle.exec_scan.specs.TableReading.{TableReaderState, marks_at_hand, page_of, table_ahead, table_from}
 use Rattle.exec_scan.specs.TableWays.{LooksUpTo}
 use Rattle.exec_scan.proofs.Relations.{first-kept}
 
@@ -73,8 +77,8 @@ further : (database : DatabaseState) (reader : TableReaderState) (slot more : �
 further database reader slot more =
     let table = table_at database reader.table in
     let per = rows_per_page (length table.columns) in
-    let same : reader.page * per + slot + more ≡ reader.page * per + (slot + more) = omega arith in
-    drop-drop more (reader.page * per + slot) table.rows ∙ ap (λ n. drop n table.rows) same
+    let same : page_of reader * per + slot + more ≡ page_of reader * per + (slot + more) = omega arith in
+    drop-drop more (page_of reader * per + slot) table.rows ∙ ap (λ n. drop n table.rows) same
 
 module _ (database : DatabaseState) (own : RelationTree) (closed : fixed_of own.filter ≡ own.filter) (exact : Bool) (reader : TableReaderState) (next : NextMarks)
     (is : AreNextMarks database own.filter exact reader next) where
@@ -142,6 +146,20 @@ module _ (database : DatabaseState) (own : RelationTree) (closed : fixed_of own.
             };
             asked = is.asked;
           }
+
+-- the marks of a block of the rows ahead, as the page's marks tell them
+pub block-marks : (database : DatabaseState) (conditions : List FilterTree) (filter : FilterRanges) (reader : TableReaderState) (page : PageMarksState) → page ≡ marks_at_hand database reader
+    → (table : ℕ) → table ≡ reader.table → IsFilterOf database table conditions filter → (end : ℕ) (span : RowSpan) → span.first ≡ page.first + reader.slot → span.count ≡ end - reader.slot
+    → (marks : ℕ) → ((conditions : List FilterTree) → IsFilterOf page.database table conditions filter → AreMarks conditions filter.exact (rows_of_span span (table_at page.database table).rows) marks)
+    → AreMarks conditions filter.exact (take (end - reader.slot) (table_ahead database reader)) marks
+block-marks database conditions filter reader page is table same made end span first count marks told =
+    let seen : page.database ≡ database = ap (λ (p : PageMarksState). p.database) is in
+    let begins : page.first ≡ row_number (length (table_at database reader.table).columns) (page_of reader) 0 = ap (λ (p : PageMarksState). p.first) is in
+    let at : span.first ≡ row_number (length (table_at database reader.table).columns) (page_of reader) reader.slot = omega (arith, first, begins) in
+    let rows : rows_of_span span (table_at page.database table).rows ≡ take (end - reader.slot) (table_ahead database reader) =
+    λ i. take (count i) (drop (at i) (table_at (seen i) (same i)).rows) in
+    subst (λ rows. AreMarks conditions filter.exact rows marks) rows
+    (told conditions (subst (λ (d : DatabaseState). IsFilterOf d table conditions filter) (sym seen) made))
 
 -- without marks none are to be told
 pub no-marks : (database : DatabaseState) (conditions : List FilterTree) (exact : Bool) (reader : TableReaderState) → AreNextMarks database conditions exact reader (record { marks = 0; end = 0 })

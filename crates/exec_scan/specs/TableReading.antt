@@ -1,5 +1,5 @@
 -- What is seen of a reader of a whole table, what it has left to read, and what is always so of it.
-use Rattle.std.specs.Prelude.{◌≡◌, ℕ, ℤ, ◌+◌, ◌-◌, ◌*◌, ◌<◌, ◌≤◌, min, Bool, true, false, List, [], length, drop}
+use Rattle.std.specs.Prelude.{◌≡◌, ℕ, ℤ, ◌+◌, ◌-◌, ◌*◌, ◌<◌, ◌≤◌, min, Bool, true, false, List, [], MatchOption, Option, Some, None, length, drop}
 use Rattle.sql_values.specs.Limits.{max_columns}
 use Rattle.sql_values.specs.Stored.{ValueRow}
 use Rattle.heap_pages.specs.Rows.{rows_per_page, row_number}
@@ -8,16 +8,26 @@ use Rattle.work_ledger.specs.Charges.{page_charge}
 use Rattle.db_catalog.specs.Database.{DatabaseState, table_at}
 use Rattle.db_catalog.specs.ColumnRanges.{slot_words}
 use Rattle.db_catalog.specs.Meter.{IsRowIn, table_pages}
+use Rattle.db_catalog.specs.Opened.{OpenedPageState, PageMarksState}
 
--- the table; how many pages it has, and how many of them are opened; the last of these by its number, how many rows stand
--- on it, and how many of those are looked at
+-- the table; how many pages it has, and how many of them are opened; the key to the last of these, how many rows stand on it,
+-- and how many of those are looked at
 pub record TableReaderState : Type 0 where
   pub table : ℕ
   pub pages : ℕ
   pub opened : ℕ
-  pub page : ℕ
+  pub key : Option OpenedPageState
   pub slots : ℕ
   pub slot : ℕ
+
+-- the number of the page to which a key is, from 0
+abbrev pub page_by : Option OpenedPageState → ℕ
+page_by None = 0
+page_by (Some key) = key.page
+
+-- the number of the page at hand: the last that is opened, or before that the first
+abbrev pub page_of : TableReaderState → ℕ
+page_of reader = page_by reader.key
 
 -- the table is there, and rows of it stand on a page
 pub record HasTable (database : DatabaseState) (table : ℕ) : Type 0 where
@@ -25,14 +35,15 @@ pub record HasTable (database : DatabaseState) (table : ℕ) : Type 0 where
   pub some : 1 ≤ length (table_at database table).columns
   pub few : length (table_at database table).columns ≤ max_columns
 
--- the table is there and has so many pages; the page at hand is the last that is opened, and its rows are the last on the
--- opened pages
+-- the table is there and has so many pages; the key is that of the page at hand, once one is opened, and the rows on it are
+-- the last on the opened pages
 pub record IsTableReader (database : DatabaseState) (reader : TableReaderState) : Type 0 where
   pub table : HasTable database reader.table
   pub pages : reader.pages ≡ table_pages database reader.table
   pub opened : reader.opened ≤ reader.pages
-  pub page : reader.page ≡ reader.opened - 1
-  pub rows : row_number (length (table_at database reader.table).columns) reader.page reader.slots
+  pub key : MatchOption reader.key (reader.opened ≡ 0) (λ key. (key.table ≡ reader.table) × (0 < reader.opened))
+  pub page : page_of reader ≡ reader.opened - 1
+  pub rows : row_number (length (table_at database reader.table).columns) (page_of reader) reader.slots
       ≡ min (reader.opened * rows_per_page (length (table_at database reader.table).columns))
       (length (table_at database reader.table).rows)
   pub slot : reader.slot ≤ reader.slots
@@ -40,12 +51,21 @@ pub record IsTableReader (database : DatabaseState) (reader : TableReaderState) 
 -- the words of the rows on the page at hand, one row after another
 pub record ArePageWords (database : DatabaseState) (reader : TableReaderState) (page : List ℤ) : Type 0 where
   pub filled : length page ≡ reader.slots * length (table_at database reader.table).columns
-  pub rows : (slot : ℕ) → slot < reader.slots → IsRowIn database reader.table reader.page slot (slot_words page (length (table_at database reader.table).columns) slot)
+  pub rows : (slot : ℕ) → slot < reader.slots → IsRowIn database reader.table (page_of reader) slot (slot_words page (length (table_at database reader.table).columns) slot)
+
+-- the marks of the rows on the page at hand
+abbrev pub marks_at_hand : DatabaseState → TableReaderState → PageMarksState
+marks_at_hand database reader = record {
+  database = database;
+  table = reader.table;
+  first = row_number (length (table_at database reader.table).columns) (page_of reader) 0;
+  rows = reader.slots;
+}
 
 -- the rows of the table from a slot of the page at hand on
 abbrev pub table_from : DatabaseState → TableReaderState → (slot : ℕ) → List ValueRow
 table_from database reader slot =
-    let table = table_at database reader.table in drop (row_number (length table.columns) reader.page slot) table.rows
+    let table = table_at database reader.table in drop (row_number (length table.columns) (page_of reader) slot) table.rows
 
 -- the rows that aren't looked at yet
 abbrev pub table_ahead : DatabaseState → TableReaderState → List ValueRow
@@ -75,5 +95,5 @@ OpensNext database old new false = (table_ahead database old ≡ []) × ((table_
 
 -- it goes on in its table, and only where it is in it changes
 pub record ReadsTableOn (database : DatabaseState) (old new : TableReaderState) : Type 0 where
-  pub moves : new ≡ record old { opened = new.opened; page = new.page; slots = new.slots; slot = new.slot }
+  pub moves : new ≡ record old { opened = new.opened; key = new.key; slots = new.slots; slot = new.slot }
   pub reader : IsTableReader database new

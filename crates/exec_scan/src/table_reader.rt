@@ -1,13 +1,11 @@
-// The rows of a whole table, page after page. It relies on the meter to open each page for pay, that of all rows on it, and
-// never looks at a row twice.
-ghost use Rattle.std.specs.Prelude.{◌≡◌, ◌+◌, ◌-◌, ◌*◌, ◌<◌, ◌≤◌, max, min, IfOk, length};
-ghost use Rattle.heap_pages.specs.Rows.{row_number};
+// The rows of a whole table, page after page. It relies on the meter to open each page for pay, that of all rows on it, which
+// gives the key to read them by, and never looks at a row twice.
+ghost use Rattle.std.specs.Prelude.{◌≡◌, ◌+◌, ◌-◌, ◌*◌, ◌<◌, ◌≤◌, max, min, IfOk, MatchOption, length};
 ghost use Rattle.db_catalog.specs.ColumnRanges.{slot_words};
-ghost use Rattle.db_catalog.specs.Database.{table_at};
 ghost use Rattle.exec_scan.specs.Stepping.{PaysFor};
-ghost use Rattle.exec_scan.specs.TableReading.{ArePageWords, HasTable, IsTableReader, OpensNext, ReadsTableOn, StartsTable, table_due};
+ghost use Rattle.exec_scan.specs.TableReading.{ArePageWords, HasTable, IsTableReader, OpensNext, ReadsTableOn, StartsTable, marks_at_hand, table_due};
 
-use db_catalog::{Metered, RowSpan, row_in};
+use db_catalog::{Metered, OpenedPage, PageMarks, RowSpan, row_in};
 use std::marker::Model;
 use work_ledger::Exhausted;
 
@@ -17,8 +15,8 @@ pub(crate) struct TableReader {
     table: u32,
     pages: u64,
     opened: u64,
-    // The number of the last page that was opened. Before that it has no rows.
-    page: u64,
+    // The key to the last page that was opened, and its rows. Before that it has none.
+    key: Option<OpenedPage>,
     slots: usize,
     slot: usize,
 }
@@ -32,7 +30,7 @@ impl Model for TableReader {
       table = reader.table;
       pages = reader.pages;
       opened = reader.opened;
-      page = reader.page;
+      key = reader.key;
       slots = reader.slots;
       slot = reader.slot;
     } };
@@ -48,7 +46,7 @@ impl TableReader {
             table,
             pages: meter.pages(table),
             opened: 0,
-            page: 0,
+            key: None,
             slots: 0,
             slot: 0,
         }
@@ -67,9 +65,10 @@ impl TableReader {
         if self.opened == self.pages {
             return Ok(false);
         }
-        self.slots = meter.open_page(self.table, self.opened)?;
-        self.page = self.opened;
+        let rows = meter.rows_on_page(self.table, self.opened);
+        self.key = Some(meter.open_page(self.table, self.opened)?);
         self.opened += 1;
+        self.slots = rows;
         self.slot = 0;
         Ok(true)
     }
@@ -90,20 +89,15 @@ impl TableReader {
         self.slot + (self.slots - self.slot).min(most)
     }
 
-    /// The next rows of the page, up to the slot `end`, by their numbers in the table.
-    pub(crate) fn rows_to(&self, end: usize, meter: &Metered<'_>) -> RowSpan
-        requires reader { IsTableReader meter.now.database self.now }
-        requires on_page { self.now.slot < end × end ≤ self.now.slots }
-        ensures first { result.first
-            ≡ row_number (length (table_at meter.now.database self.now.table).columns)
-            self.now.page self.now.slot }
-        ensures count { result.count ≡ end - self.now.slot }
+    /// Whoever marks the rows of the page at hand. None where no page is opened.
+    pub(crate) fn marks<'d>(&self, meter: &Metered<'d>) -> Option<PageMarks<'d>>
+        requires { IsTableReader meter.now.database self.now }
+        ensures { MatchOption result (self.now.slots ≡ 0)
+            (λ marks. marks ≡ marks_at_hand meter.now.database self.now) }
     {
-        // A table has few enough rows for the sum.
-        let _ = meter.rows(self.table);
-        RowSpan {
-            first: meter.first_row(self.table, self.page) + self.slot as u64,
-            count: end - self.slot,
+        match &self.key {
+            Some(key) => Some(meter.opened_marks(key)),
+            None => None,
         }
     }
 
@@ -124,13 +118,24 @@ impl TableReader {
         self.slot = self.slot.max(end);
     }
 
+    /// The next rows of the page that these marks are of, up to the slot `end`, by their numbers in the table.
+    pub(crate) fn rows_to(&self, end: usize, page: &PageMarks<'_>) -> RowSpan
+        requires { self.now.slot ≤ end × end ≤ page.now.rows }
+        ensures first { result.first ≡ page.now.first + self.now.slot }
+        ensures count { result.count ≡ end - self.now.slot }
+    {
+        page.span(self.slot, end)
+    }
+
     /// The words of the rows on the page at hand, one row after another. They are paid since the page is opened.
     pub(crate) fn page<'d>(&self, meter: &Metered<'d>) -> &'d [i64]
-        requires reader { IsTableReader meter.now.database self.now }
-        requires some { 0 < self.now.slots }
+        requires { IsTableReader meter.now.database self.now }
         ensures { ArePageWords meter.now.database self.now result.now }
     {
-        meter.opened_page(self.table, self.page)
+        match &self.key {
+            Some(key) => meter.opened_page(key),
+            None => &[],
+        }
     }
 
     /// The row that was looked at last, of this page, whose rows have `width` words each.

@@ -61,8 +61,11 @@ impl TableWay {
             return false;
         }
         let end = self.reader.block_end(BLOCK_ROWS);
-        let rows = self.reader.rows_to(end, meter);
-        let marks = self.filter.marks(meter, relation.table, rows);
+        let Some(page) = self.reader.marks(meter) else {
+            return false;
+        };
+        let rows = self.reader.rows_to(end, &page);
+        let marks = self.filter.marks(&page, relation.table, rows);
         self.next = NextMarks { marks, end };
         true
     }

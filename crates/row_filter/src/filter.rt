@@ -104,6 +104,7 @@ impl RowFilter {
     pub fn marks<R: RowMarks>(&self, rows: &R, table: u32, span: RowSpan) -> u64
         requires filter { IsFilterIn (R.database rows.now) table self.now }
         requires span { IsSpanIn (R.database rows.now) table span }
+        requires told { R.tells rows.now table span }
         ensures { (conditions : List FilterTree)
             → IsFilterOf (R.database rows.now) table conditions self.now
             → AreMarks conditions self.now.exact

@@ -71,6 +71,7 @@ impl RangeUnion {
         requires union { (test : ValueRow → Bool)
             × IsUnionIn (R.database rows.now) table test self.now }
         requires span { IsSpanIn (R.database rows.now) table span }
+        requires told { R.tells rows.now table span }
         ensures { (test : ValueRow → Bool) → IsUnionIn (R.database rows.now) table test self.now
             → result ≡ marks_of (map test
             (rows_of_span span (table_at (R.database rows.now) table).rows)) }

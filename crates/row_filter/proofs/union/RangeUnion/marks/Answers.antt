@@ -16,8 +16,8 @@ none-marked (row ∷ rows) = grind (arith, none-marked rows)
 pub slice_bounds-found-items-end : goal.slice_bounds-found-items-end
 slice_bounds-found-items-end g c = omega (arith, c.requires.union.1.few, c.requires.union.1.room)
 
-pub marks-marks-requires : goal.marks-marks-requires
-marks-marks-requires g c =
+pub marks-marks-requires-clause-span : goal.marks-marks-requires-clause-span
+marks-marks-requires-clause-span g c =
     let is = c.requires.union.1 in
     record {
       column = column-at (g.R.RowMarks.database c.args.rows.now) c.args.table is.tests (take c.args.self.now.count c.args.self.now.ranges) is.told c.loop-found.found-index c.loop-found-test.true;
