@@ -23,7 +23,7 @@ use Rattle.cost_model.specs.Optimal.{best_plan}
 use Rattle.cost_model.proofs.BestPlans.{best-only}
 use Rattle.cost_model.proofs.Covers.{greedy-same}
 use Rattle.plan_space.specs.FrontierPlans.{HoldsBest, nth_point}
-use Rattle.anorexic.specs.Turns.{IsCoverTable, is_marked, cover_order, plan_at, turn_order}
+use Rattle.anorexic.specs.Turns.{AreCoverCounts, IsCoverTable, is_marked, cover_order, plan_at, turn_order}
 use Rattle.anorexic.proofs.Turns.{one-turn}
 
 -- ---- the first candidate
@@ -37,6 +37,12 @@ pub first-itself : (plans : List Plan) (table : List Bool) (uncovered : List ℕ
 first-itself plans table uncovered other less =
     let same : 0 ≡ other = omega (arith, less) in
     subst (λ one. is_gt (turn_order plans table uncovered 0 one) ≡ false) same (ap is_gt (tied_itself (turn-total plans table uncovered) 0))
+
+-- the count of a candidate
+pub counted-at : (plans : List Plan) (table : List Bool) (uncovered counts : List ℕ) → length counts ≡ length plans → AreCoverCounts table uncovered counts → (candidate : ℕ)
+    → candidate < length plans → slice_index_or counts candidate 0 ≡ count_by (is_marked table (length plans) candidate) uncovered
+counted-at plans table uncovered counts long are candidate few =
+    are candidate (omega (arith, long, few)) ∙ ap (λ width. count_by (is_marked table width candidate) uncovered) long
 
 -- it is what the code compares
 pub turn-order-is : (plans : List Plan) (table : List Bool) (uncovered : List ℕ) (first candidate most count : ℕ) (p other : Plan)

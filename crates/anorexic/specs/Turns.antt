@@ -1,5 +1,5 @@
 -- What the turns of greedy reduction keep: a table of who covers what, and the places of the points that no plan covers yet.
-use Rattle.std.specs.Prelude.{◌≡◌, ℕ, ◌+◌, ◌*◌, ◌<◌, All, Bool, false, List, count_by, length, map, slice_index_or}
+use Rattle.std.specs.Prelude.{◌≡◌, ℕ, ◌+◌, ◌*◌, ◌<◌, All, Bool, false, List, count_by, if◌then◌else◌, length, map, slice_index_or}
 use Rattle.std.specs.List.{flat_map}
 use Rattle.std.specs.Ordering.{nat_cmp, ordering_then}
 use Rattle.std.specs.declared.cmp.Ordering.{Ordering}
@@ -25,6 +25,18 @@ IsCoverTable costing threshold points plans table = table ≡ flat_map (cover_ro
 -- what the table says of a candidate and the point at a place
 abbrev pub is_marked : (table : List Bool) → (width candidate place : ℕ) → Bool
 is_marked table width candidate place = slice_index_or table (place * width + candidate) false
+
+-- these are the counts, one more for each candidate that the row of a point marks
+abbrev pub AreMore : (row : List Bool) → (counts more : List ℕ) → Type 0
+AreMore row counts more =
+    (candidate : ℕ) → candidate < length row
+    → slice_index_or more candidate 0 ≡ slice_index_or counts candidate 0 + (if slice_index_or row candidate false then 1 else 0)
+
+-- each candidate covers so many of the open points
+abbrev pub AreCoverCounts : (table : List Bool) → (uncovered counts : List ℕ) → Type 0
+AreCoverCounts table uncovered counts =
+    (candidate : ℕ) → candidate < length counts
+    → slice_index_or counts candidate 0 ≡ count_by (is_marked table (length counts) candidate) uncovered
 
 -- the numbers of the candidates that turns take for so many points, where the table says who covers what
 pub record AreTaken (count : ℕ) (plans : List Plan) (table : List Bool) (taken : List ℕ) : Type 0 where

@@ -42,11 +42,17 @@ fn turns(
 {
     let mut taken = Vec::new(alloc);
     let mut uncovered = all_places(alloc, points)?;
+    let mut counts = vec![in alloc; 0; candidates.len()]?;
     for _turn in 0..points {
         if uncovered.is_empty() {
             return Ok(taken);
         }
-        let candidate = first_candidate(candidates, table, uncovered.as_slice());
+        let candidate = first_candidate(
+            candidates,
+            table,
+            uncovered.as_slice(),
+            counts.as_mut_slice(),
+        );
         close(table, candidates.len(), candidate, &mut uncovered);
         taken.push(candidate)?;
     }

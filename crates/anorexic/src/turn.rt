@@ -1,26 +1,38 @@
 // One turn: the candidate that covers the most of the open points is found, and its points are closed. The row of a point
-// in the table has as many tests as there are candidates.
-ghost use Rattle.std.specs.Prelude.{◌≡◌, ◌+◌, ◌*◌, ◌<◌, ◌≤◌, ℕ, All, count_by, false, filter, length, not};
+// in the table has as many tests as there are candidates. One pass over the rows of the open points counts for all candidates.
+ghost use Rattle.std.specs.Prelude.{◌≡◌, ◌+◌, ◌*◌, ◌^◌, ◌<◌, ◌≤◌, ℕ, All, false, filter, length, not};
 ghost use Rattle.std.specs.Ordering.{is_gt};
 ghost use Rattle.plan_tree.specs.Plans.{plan_tree, FitsSet};
-ghost use Rattle.anorexic.specs.Turns.{is_marked, cover_order, turn_order};
+ghost use Rattle.anorexic.specs.Turns.{is_marked, cover_order, turn_order, AreMore, AreCoverCounts};
 
 use plan_tree::{Plan, plan_order};
 use std::cmp::Ordering;
 
-// How many of the open points a candidate covers.
-fn covered(table: &[bool], width: usize, candidate: usize, uncovered: &[usize]) -> usize
-    requires candidate { candidate < width }
-    requires rows { All (λ place. place * width + width ≤ length table.now) uncovered.now }
-    ensures { result ≡ count_by (is_marked table.now width candidate) uncovered.now }
+// Adds a point to the counts of the candidates that cover it, where this is its row.
+fn count_point(counts: &mut [usize], row: &[bool])
+    requires row { length row.now ≡ length counts.old }
+    requires room { All (λ count. count < 2 ^ 63) counts.old }
+    ensures counted { AreMore row.now counts.old counts.new }
+    ensures long { length counts.new ≡ length counts.old }
 {
-    let mut count = 0;
-    for place in uncovered {
-        if table[*place * width + candidate] {
-            count += 1;
-        }
+    for candidate in 0..row.len() {
+        counts[candidate] += if row[candidate] { 1 } else { 0 };
     }
-    count
+}
+
+// Counts how many of the open points each candidate covers.
+fn count_points(counts: &mut [usize], table: &[bool], uncovered: &[usize])
+    requires rows { All (λ place. place * length counts.old + length counts.old
+        ≤ length table.now) uncovered.now }
+    ensures counted { AreCoverCounts table.now uncovered.now counts.new }
+    ensures long { length counts.new ≡ length counts.old }
+{
+    counts.fill(0);
+    for place in uncovered {
+        let first = *place * counts.len();
+        let row = &table[first..first + counts.len()];
+        count_point(counts, row);
+    }
 }
 
 // Which of two plans is taken first, where they cover so many open points: the one that covers more, and of equals the
@@ -36,27 +48,52 @@ fn cover_order(count: usize, p: &Plan, other_count: usize, other: &Plan) -> Orde
     }
 }
 
-/// The candidate that this turn takes.
-pub(crate) fn first_candidate(candidates: &[Plan], table: &[bool], uncovered: &[usize]) -> usize
+// The candidate that is taken where they cover so many open points.
+fn first_by_counts(
+    candidates: &[Plan],
+    table: &[bool],
+    uncovered: &[usize],
+    counts: &[usize],
+) -> usize
     requires fit { All (λ p. FitsSet (plan_tree p)) candidates.now }
     requires some { 0 < length candidates.now }
-    requires rows { All (λ place. place * length candidates.now + length candidates.now
-        ≤ length table.now) uncovered.now }
+    requires long { length counts.now ≡ length candidates.now }
+    requires counts { AreCoverCounts table.now uncovered.now counts.now }
     ensures candidate { result < length candidates.now }
     ensures first { (other : ℕ) → other < length candidates.now
         → is_gt (turn_order candidates.now table.now uncovered.now result other) ≡ false }
 {
-    let width = candidates.len();
     let mut first = 0;
-    let mut most = covered(table, width, 0, uncovered);
-    for candidate in 1..width {
-        let count = covered(table, width, candidate, uncovered);
+    let mut most = counts[0];
+    for candidate in 1..candidates.len() {
+        let count = counts[candidate];
         if cover_order(most, &candidates[first], count, &candidates[candidate]).is_gt() {
             first = candidate;
             most = count;
         }
     }
     first
+}
+
+/// The candidate that this turn takes. How many open points each one covers is counted in the room that is lent.
+pub(crate) fn first_candidate(
+    candidates: &[Plan],
+    table: &[bool],
+    uncovered: &[usize],
+    counts: &mut [usize],
+) -> usize
+    requires fit { All (λ p. FitsSet (plan_tree p)) candidates.now }
+    requires some { 0 < length candidates.now }
+    requires rows { All (λ place. place * length candidates.now + length candidates.now
+        ≤ length table.now) uncovered.now }
+    requires long { length counts.old ≡ length candidates.now }
+    ensures candidate { result < length candidates.now }
+    ensures first { (other : ℕ) → other < length candidates.now
+        → is_gt (turn_order candidates.now table.now uncovered.now result other) ≡ false }
+    ensures long { length counts.new ≡ length candidates.now }
+{
+    count_points(counts, table, uncovered);
+    first_by_counts(candidates, table, uncovered, counts)
 }
 
 /// Keeps the open points that a candidate doesn't cover.

@@ -142,9 +142,9 @@ add-product at products end next product long small is before last =
 -- ---- edges
 
 -- for no edge yet a set isn't halved
-pub not-halved : (at : Pricing) (halvings : List ℕ) → ((set : ℕ) → set < 64 → get_or halvings set 0 ≡ 0) → IsCosting (costing_tree at.costing) → AreHalvings at halvings 0
-not-halved at halvings none is set below =
-    let here : get_or halvings set 0 ≡ 0 = none set (set-small (costing_tree at.costing) set is below) in
+pub not-halved : (at : Pricing) (halvings : List ℕ) → ((set : ℕ) → set < 64 → get_or halvings set 0 ≡ 0) → AreHalvings at halvings 0
+not-halved at halvings none set small =
+    let here : get_or halvings set 0 ≡ 0 = none set small in
     record { all = omega (arith, here); few = omega (arith, here) }
 
 -- one edge more
@@ -159,14 +159,14 @@ halved-next at set edge halvings more below before few is =
 
 -- one set more
 pub add-halved : (at : Pricing) (halvings : List ℕ) (end edge number : ℕ) → length halvings ≡ 64 → end < 64
-    → ((set : ℕ) → set < end → IsSetOf (block_at at) set → IsHalved at set (edge + 1) (get_or halvings set 0))
-    → ((set : ℕ) → end ≤ set → IsSetOf (block_at at) set → IsHalved at set edge (get_or halvings set 0)) → IsHalved at end (edge + 1) number
-    → ((set : ℕ) → set < end + 1 → IsSetOf (block_at at) set → IsHalved at set (edge + 1) (get_or (slice_set halvings end number) set 0))
-    × ((set : ℕ) → end + 1 ≤ set → IsSetOf (block_at at) set → IsHalved at set edge (get_or (slice_set halvings end number) set 0)) × (length (slice_set halvings end number) ≡ 64)
+    → ((set : ℕ) → set < end → IsHalved at set (edge + 1) (get_or halvings set 0))
+    → ((set : ℕ) → end ≤ set → set < 64 → IsHalved at set edge (get_or halvings set 0)) → IsHalved at end (edge + 1) number
+    → ((set : ℕ) → set < end + 1 → IsHalved at set (edge + 1) (get_or (slice_set halvings end number) set 0))
+    × ((set : ℕ) → end + 1 ≤ set → set < 64 → IsHalved at set edge (get_or (slice_set halvings end number) set 0)) × (length (slice_set halvings end number) ≡ 64)
 add-halved at halvings end edge number long small before after here =
     let lt : end < length halvings = omega (arith, long, small) in (
-      below_more (λ set. IsSetOf (block_at at) set → IsHalved at set (edge + 1) (get_or (slice_set halvings end number) set 0)) end
-          (λ k h. let ne : k ≢ end = omega arith in rw get_or-set_other (before k h)) (rw get_or-set_same (λ of_block. here)),
+      below_more (λ set. IsHalved at set (edge + 1) (get_or (slice_set halvings end number) set 0)) end
+          (λ k h. let ne : k ≢ end = omega arith in rw get_or-set_other (before k h)) (rw get_or-set_same here),
       λ set above below. let ne : set ≢ end = omega (arith, above) in rw get_or-set_other (after set (omega (arith, above)) below),
       omega (arith, length-set {A = ℕ}, long),
     )

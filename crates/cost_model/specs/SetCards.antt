@@ -7,7 +7,7 @@ use Rattle.cost_model.specs.AtPoint.{stats_at}
 use Rattle.cost_model.specs.Cards.{kept_product}
 use Rattle.cost_model.specs.Rounding.{halvings_inside}
 use Rattle.cost_model.specs.Pricing.{Pricing}
-use Rattle.cost_model.specs.Prices.{IsSetOf, block_at}
+use Rattle.cost_model.specs.Prices.{block_at}
 
 -- the products of the filtered counts of the sets that are numbers below the end
 abbrev pub AreProducts : Pricing → (products : List ℕ) → (end : ℕ) → Type 0
@@ -20,6 +20,6 @@ pub record IsHalved (at : Pricing) (set edge number : ℕ) : Type 0 where
       ≡ halvings_inside at.costing.grid at.point (set_of set) 0 (block_at at).edges
   pub few : number ≤ selectivity_bits * edge
 
--- so for all sets
+-- so for all sets of the table
 abbrev pub AreHalvings : Pricing → (halvings : List ℕ) → (edge : ℕ) → Type 0
-AreHalvings at halvings edge = (set : ℕ) → IsSetOf (block_at at) set → IsHalved at set edge (slice_index halvings set)
+AreHalvings at halvings edge = (set : ℕ) → set < 64 → IsHalved at set edge (slice_index halvings set)

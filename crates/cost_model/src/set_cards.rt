@@ -43,18 +43,17 @@ fn fill_products(costing: &Costing<'_>, q: &Point, products: &mut [u128; 64])
     }
 }
 
-// Counts how often the sets that this edge is inside are halved for it.
+// Counts how often the sets that this edge is inside are halved for it: all of the table at once, whatever the block has.
 fn halve_by_edge(costing: &Costing<'_>, q: &Point, halvings: &mut [u8; 64], edge: usize)
     requires edge { edge < length costing.now.block.edges }
     requires point { IsPoint costing.now.grid q.now }
     requires before { AreHalvings (record { costing = costing.now; point = q.now }) halvings.old edge }
     ensures { AreHalvings (record { costing = costing.now; point = q.now }) halvings.new (edge + 1) }
 {
-    let block = costing.block();
-    let ends = &block.edges()[edge];
+    let ends = costing.block().edges()[edge];
     let more = costing.halvings(edge as u8, q);
-    for set in 0..set_count(block) {
-        let inside = Subset::new(set).has_both(ends);
+    for set in 0..64 {
+        let inside = Subset::new(set).has_both(&ends);
         halvings[set as usize] += if inside { more } else { 0 };
     }
 }

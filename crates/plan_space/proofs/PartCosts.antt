@@ -15,7 +15,7 @@ use Rattle.cost_model.specs.Pricing.{Pricing}
 use Rattle.cost_model.specs.Prices.{IsSetOf, block_at, own_at, sum_of}
 use Rattle.cost_model.proofs.Sums.{costs-are-sums}
 use Rattle.plan_space.specs.declared.node.Node.{Node}
-use Rattle.plan_space.specs.Parts.{PartsShape, nth_plan, plan_over, parts_behind, AreSidesBelow, node_at, AreNodes, ArePartCosts, sides_cost}
+use Rattle.plan_space.specs.Parts.{PartsShape, nth_plan, plan_over, parts_behind, AreSidesBelow, node_at, AreNodes, ArePartCosts, own_part, sides_cost}
 use Rattle.plan_space.proofs.PartNumbers.{parts-long, part-of}
 
 -- what is known of the node of a number and of its part
@@ -56,6 +56,10 @@ node-stands at parts node number is =
 
 pub is-set : (at : Pricing) (parts : List PlanTree) (node : Node) (number : ℕ) → IsKnown at parts node number → IsSetOf (block_at at) node.set
 is-set at parts node number is = subst (IsSetOf (block_at at)) (sym is.covers) (covers-below (block_at at) (nth_plan parts number) is.plan)
+
+-- what it costs by itself
+pub own-is : (at : Pricing) (parts : List PlanTree) (node : Node) (number : ℕ) → IsKnown at parts node number → own_at at node.root node.set ≡ own_part at parts number
+own-is at parts node number is = λ i. own_at at (is.outermost i) (is.covers i)
 
 -- the node of a plan over parts costs what it costs by itself beside its sides
 sum-over : (at : Pricing) (parts : List PlanTree) (costs : List ℕ) (number : ℕ) (node : Root) (left right : ℕ) → ArePartCosts at parts costs number

@@ -8,8 +8,16 @@ use Rattle.query_block.specs.Blocks.{BlockTree}
 use Rattle.plan_tree.specs.Plans.{PlanTree, Scan, Nest, Hash, Merge, IndexLoop, covers_of}
 use Rattle.plan_tree.specs.declared.roots.Root.{Root}
 use Rattle.plan_tree.specs.declared.roots.Root.TheVariants as root
+use Rattle.plan_tree.specs.Roots.{root_of}
 use Rattle.plan_space.specs.declared.node.Node.{Node}
 use Rattle.plan_space.specs.Parts.{PartsShape, nth_plan, plan_over, parts_behind, AreSidesBelow, IsNodeOver, node_at, IsSameNode, IsNodeAt, AreNodes, KeepsParts}
+
+-- the node of a part is its outermost one
+pub root-of-part : (block : BlockTree) (nodes : List Node) (number : ℕ) → AreNodes block nodes → number < length nodes
+    → (node_at nodes number).root ≡ root_of (nth_plan (parts_behind [] nodes) number)
+root-of-part block nodes number all less =
+    let is = all number less in
+    is.over.outermost ∙ ap root_of (sym is.part)
 
 -- ---- one more part
 

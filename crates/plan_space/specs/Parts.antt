@@ -10,6 +10,7 @@ use Rattle.plan_tree.specs.Roots.{root_of}
 use Rattle.cost_model.specs.Costing.{costing_tree}
 use Rattle.cost_model.specs.Costs.{cost_of}
 use Rattle.cost_model.specs.Pricing.{Pricing}
+use Rattle.cost_model.specs.Prices.{own_at}
 use Rattle.plan_space.specs.declared.node.Node.{Node}
 
 -- parts of plans of a block, in the order of their numbers
@@ -85,6 +86,10 @@ pub record KeepsParts (before after : PartsShape) : Type 0 where
 abbrev pub ArePartCosts : Pricing → (parts : List PlanTree) → (costs : List ℕ) → (end : ℕ) → Type 0
 ArePartCosts at parts costs end =
     (number : ℕ) → number < end → slice_index costs number ≡ cost_of (costing_tree at.costing) (nth_plan parts number) at.point
+
+-- what the node of a part costs by itself
+abbrev pub own_part : Pricing → (parts : List PlanTree) → (number : ℕ) → ℕ
+own_part at parts number = own_at at (root_of (nth_plan parts number)) (covers_of (nth_plan parts number))
 
 -- what the sides of a node cost
 abbrev pub sides_cost : Root → (costs : List ℕ) → (left right : ℕ) → ℕ

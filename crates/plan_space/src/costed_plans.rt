@@ -24,6 +24,8 @@ pub struct CostedPlans<'c> {
     parts: Parts<'c>,
     // The number of each plan among the parts.
     numbers: Vec<usize>,
+    // For each part one that may have the same node over the same sets.
+    likes: Vec<usize>,
     // What the parts cost at the point; 0 where there is none.
     costs: Vec<u128>,
     room: PriceRoom,
@@ -83,11 +85,13 @@ impl<'c> CostedPlans<'c> {
         let block = costing.block();
         let mut parts = Parts::new(alloc, block, plans.len())?;
         let numbers = numbers_of(alloc, &mut parts, plans)?;
+        let likes = parts.likes(alloc)?;
         let costs = vec![in alloc; 0; parts.count()]?;
         Ok(CostedPlans {
             costing,
             parts,
             numbers,
+            likes,
             costs,
             room: PriceRoom::new(),
             point: None,
@@ -100,7 +104,8 @@ impl<'c> CostedPlans<'c> {
         ensures { self.new ≡ costed_at self.old q.now }
     {
         let prices = Prices::new(self.costing, q, &mut self.room);
-        self.parts.fill_costs(&prices, self.costs.as_mut_slice());
+        self.parts
+            .fill_costs(&prices, self.likes.as_slice(), self.costs.as_mut_slice());
         self.point = Some(*q);
     }
 

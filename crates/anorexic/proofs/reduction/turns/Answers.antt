@@ -1,9 +1,10 @@
-use Rattle.std.proofs.Common.{ℕ, ◌≡◌, ◌-◌, ◌+◌, ◌<◌, ◌++◌, [], ◌∷◌, All, length, map, arith, ap, subst, sym, ◌∙◌}
+use Rattle.std.proofs.Common.{ℕ, ◌≡◌, ◌-◌, ◌+◌, ◌<◌, ◌++◌, [], ◌∷◌, All, drop, length, map, arith, ap, subst, sym, ◌∙◌}
 use Rattle.std.specs.Prelude.{false, not, filter, slice_index_or}
 use Rattle.std.specs.List.{range_with_len}
 use Rattle.std.specs.Ordering.{is_gt}
 use Rattle.std.proofs.lemmas.Bool.{eqb-true, eqb-false}
-use Rattle.std.proofs.lemmas.List.{append-nil, nil_from_length}
+use Rattle.std.proofs.Math.ListN.{length-append}
+use Rattle.std.proofs.lemmas.List.{append-nil, length-replicate, length-take-le, nil_from_length}
 use Rattle.std.proofs.lemmas.List.Elements.{All-nil, All-push, All-filter}
 use Rattle.std.proofs.lemmas.Result.{IfOk-from_err}
 use Rattle.plan_tree.specs.Plans.{plan_tree}
@@ -23,6 +24,7 @@ loop-turn-init c =
     let all = c.in_ok-uncovered.ensures in (
       subst (All (λ number. number < length plans)) (sym none) (All-nil (λ number. number < length plans)),
       subst (All (λ place. place < count)) (sym all) (places-within count),
+      ap length (c.in_ok-counts.ensures.items_if_clones_equal (λ x same. same)) ∙ length-replicate _ 0,
       λ costing threshold points long _.
           let whole : count - 0 ≡ count = omega arith in
           let places = ap (map (nth_point points)) (all ∙ ap (range_with_len 0) (sym long)) ∙ all-points points in
@@ -43,7 +45,7 @@ returns-then-is_empty c =
           sym (append-nil taken)
           ∙ ap (λ rest. taken ++ rest) (sym (none-left costing threshold (map plan_tree plans) turns))
           ∙ ap (λ places. taken ++ greedy_turns costing threshold (map plan_tree plans) turns (map (nth_point points) places)) (sym none)
-          ∙ c.loop-turn.invariant.2 costing threshold points long is;
+          ∙ c.loop-turn.invariant.3 costing threshold points long is;
     }
 
 pub first_candidate-candidate-requires-clause-some : goal.first_candidate-candidate-requires-clause-some
@@ -68,16 +70,23 @@ loop-turn-preserved c =
     let taken = c.loop-turn.taken.items in
     let uncovered = c.loop-turn.uncovered.items in
     let turn = c.loop-turn._turn in
+    let counts = c.loop-turn.counts in
+    let counted = c.first_candidate-candidate.new.counts in
+    let rest = drop (length counted) counts.items in
     let few = c.first_candidate-candidate.ensures.candidate in
     let more : c.push.new.self.items ≡ taken ++ candidate ∷ [] = c.in_ok-push.ensures.items in
     let left : c.close.new.uncovered.items ≡ filter (λ place. not (is_marked table (length plans) candidate place)) uncovered = c.close.ensures in
     let some = eqb-false _ _ (sym c.is_empty.ensures ∙ c.if-is_empty.false) in
     let first = λ (other : ℕ) (less : other < length plans).
     subst (λ places. is_gt (turn_order plans table places candidate other) ≡ false) c.as_slice.ensures.value (c.first_candidate-candidate.ensures.first other less) in
-    let next = takes-more count plans table taken uncovered candidate turn c.loop-turn-test.true c.loop-turn.invariant.1 (omega (arith, some)) few first c.loop-turn.invariant.2 in (
+    let next = takes-more count plans table taken uncovered candidate turn c.loop-turn-test.true c.loop-turn.invariant.1 (omega (arith, some)) few first c.loop-turn.invariant.3 in (
       subst (All (λ number. number < length plans)) (sym more) (All-push (λ number. number < length plans) taken candidate c.loop-turn.invariant.0 few),
       subst (All (λ place. place < count)) (sym left)
           (All-filter (λ place. not (is_marked table (length plans) candidate place)) (λ place. place < count) uncovered c.loop-turn.invariant.1),
+      length-take-le counts.len (counted ++ rest)
+          (omega (arith, counts.ok.0, c.loop-turn.invariant.2, c.first_candidate-candidate.ensures.long, length-append counted rest))
+          ∙ counts.ok.0
+          ∙ c.loop-turn.invariant.2,
       λ costing threshold points long is.
           (λ i. map (plan_at plans) (more i) ++ greedy_turns costing threshold (map plan_tree plans) (count - (turn + 1)) (map (nth_point points) (left i)))
           ∙ next costing threshold points long is,
@@ -97,5 +106,5 @@ returns c =
           sym (append-nil taken)
           ∙ ap (λ rest. taken ++ rest) (sym (no-turns costing threshold trees left_open))
           ∙ ap (λ n. taken ++ greedy_turns costing threshold trees n left_open) (sym none)
-          ∙ c.loop-turn.invariant.2 costing threshold points long is;
+          ∙ c.loop-turn.invariant.3 costing threshold points long is;
     }

@@ -1,4 +1,4 @@
-use Rattle.std.proofs.Common.{◌^◌, length, ap, ◌∙◌, arith}
+use Rattle.std.proofs.Common.{◌^◌, ◌<◌, length, ap, ◌∙◌, arith}
 use Rattle.plan_tree.specs.Sets.{set_of}
 use Rattle.query_block.specs.Blocks.{block_tree}
 use Rattle.cost_model.specs.Costing.{costing_tree}
@@ -22,6 +22,7 @@ loop-set-preserved c =
     let set = c.loop-set.set in
     let count = c.set_count-set-end.ensures.count ∙ ap (λ block. 2 ^ length (block_tree block).relations) c.block.ensures.block in
     let below : IsSetOf (block_at at) set = omega (arith, c.loop-set-test.true, count) in
-    let card = halved-card at set _ _ (c.requires.halvings set below) (c.loop-set.invariant.1 set (omega arith) below) in
-    add-card at c.loop-set.cards set c.halved.result c.loop-set.invariant.2 (omega (arith, c.loop-set-test.true, c.set_count-set-end.ensures.few))
+    let small : set < 64 = omega (arith, c.loop-set-test.true, c.set_count-set-end.ensures.few) in
+    let card = halved-card at set _ _ (c.requires.halvings set small) (c.loop-set.invariant.1 set (omega arith) below) in
+    add-card at c.loop-set.cards set c.halved.result c.loop-set.invariant.2 small
     c.loop-set.invariant.0 c.loop-set.invariant.1 (c.halved.ensures.halved ∙ card)
