@@ -2,6 +2,10 @@ pub mod Fixed
 pub mod Told
 pub mod Marked
 pub mod Tests
+pub mod Words
 pub mod Nulls
+pub mod Covers
+pub mod Narrower
 pub mod OrParts
+pub mod AndParts
 pub mod Equals

@@ -35,8 +35,8 @@ module _ (database : DatabaseState) (table : ℕ) (tests : List (ValueRow → Bo
   seen view now is told = subst (λ (f : FilterRanges). AllZip (IsUnionIn database table) tests f.unions) (sym is) told
 
   pub union-at : (unions : List RangeUnion) (i : ℕ) → AllZip (IsUnionIn database table) tests unions → i < length unions
-      → IsUnionIn database table (get_or tests i any) (get_or unions i (record { ranges = []; count = 0 }))
-  union-at unions i told below = zip-at (IsUnionIn database table) tests unions i any (record { ranges = []; count = 0 }) told below
+      → IsUnionIn database table (get_or tests i any) (get_or unions i (record { regions = []; count = 0; exact = false }))
+  union-at unions i told below = zip-at (IsUnionIn database table) tests unions i any (record { regions = []; count = 0; exact = false }) told below
 
 -- so marks by all tests of a filter are its marks
 pub filter-marks : (texts : List (List ℕ)) (kinds : List ColumnType) (conditions : List FilterTree) (filter : FilterRanges) (is : IsRowFilter texts kinds conditions filter) (rows : List ValueRow) (marks : ℕ)

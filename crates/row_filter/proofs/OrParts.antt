@@ -1,7 +1,6 @@
--- The parts of an OR, one after another, and unions of ranges by the tests that they tell.
+-- The parts of an OR, one after another.
 use Rattle.std.proofs.Common.{◌≡◌, ℕ, ◌+◌, ◌<◌, ◌||◌, Bool, true, false, List, [], ◌∷◌, ◌++◌, length, get_or, map, take, refl, sym, ap, ◌∙◌, arith}
 use Rattle.std.proofs.lemmas.List.{take_more}
-use Rattle.sql_values.specs.declared.column.ColumnType.{ColumnType}
 use Rattle.sql_values.specs.declared.truth.Truth.{Truth}
 use Rattle.sql_values.specs.Stored.{ValueRow}
 use Rattle.sql_values.specs.Truth.{truth_or}
@@ -9,8 +8,6 @@ use Rattle.query_block.specs.declared.condition.Condition.{Condition}
 use Rattle.query_block.specs.Conditions.{chain, filter_tree}
 use Rattle.query_block.specs.Meaning.{is_true}
 use Rattle.query_block.specs.Truth.{truth_of, truth_of_any}
-use Rattle.row_filter.specs.declared.union.RangeUnion.{RangeUnion}
-use Rattle.row_filter.specs.Unions.{IsUnionOf}
 
 pub true-or : (a b : Truth) → is_true (truth_or a b) ≡ (is_true a || is_true b)
 true-or a b = grind arith
@@ -38,8 +35,3 @@ part-more parts i part before row below is =
     sym (or-first before (whole (take i parts)) (is_true (truth_of (filter_tree part) row)))
     ∙ ap (λ b. before || b)
     (sym (any-append (take i parts) part row) ∙ ap (λ (one : Condition). whole (take i parts ++ one ∷ [])) is ∙ ap whole (sym (take_more parts i part below)))
-
--- a union tells any test that the same rows pass
-pub same-union : (texts : List (List ℕ)) (kinds : List ColumnType) (test other : ValueRow → Bool) (union : RangeUnion) → IsUnionOf texts kinds test union → ((row : ValueRow) → test row ≡ other row)
-    → IsUnionOf texts kinds other union
-same-union texts kinds test other union is same = record { room = is.room; few = is.few; tests = is.tests; told = is.told; any = λ row. is.any row ∙ same row }

@@ -1,5 +1,5 @@
 -- A filter of which ranges tell one condition more, or one less than all.
-use Rattle.std.proofs.Common.{◌≡◌, ◌&&◌, ℕ, Bool, true, false, List, [], ◌∷◌, ◌++◌, sym, ap, subst, ◌∙◌, inl, inr, arith}
+use Rattle.std.proofs.Common.{◌≡◌, ◌&&◌, ℕ, Bool, true, false, List, [], ◌∷◌, ◌++◌, refl, sym, ap, subst, ◌∙◌, inl, inr, arith}
 use Rattle.std.specs.Prelude.{Some}
 use Rattle.std.specs.List.{AllZip}
 use Rattle.sql_values.specs.declared.column.ColumnType.{ColumnType}
@@ -10,9 +10,9 @@ use Rattle.query_block.specs.Parameters.{fixed_of, is_open}
 use Rattle.query_block.specs.Truth.{truth_of}
 use Rattle.row_filter.specs.declared.union.RangeUnion.{RangeUnion}
 use Rattle.row_filter.specs.Unions.{IsKnownUnion, IsUnionOf}
-use Rattle.row_filter.specs.RowFilters.{FilterRanges, HasMore, IsRowFilter, PutsUnion}
+use Rattle.row_filter.specs.RowFilters.{FilterRanges, HasMore, IsRowFilter, PutsUnion, passes_all}
+use Rattle.row_filter.proofs.Covers.{both-true}
 use Rattle.row_filter.proofs.Fixed.{fixed-more, open-more}
-use Rattle.row_filter.proofs.Tests.{all-more, zip-push}
 
 both : (a b c : Bool) → a ≡ (b && c) → a ≡ true → (b ≡ true) × (c ≡ true)
 both a b c is met = (grind arith, grind arith)
@@ -39,18 +39,27 @@ module _ (texts : List (List ℕ)) (kinds : List ColumnType) (conditions : List 
   }
 
   -- one that a range tells
-  told : (new : FilterRanges) (union : RangeUnion) → is_open tree ≡ false → HasMore union old new → IsKnownUnion texts kinds tree (Some union) → IsRowFilter texts kinds (conditions ++ tree ∷ []) new
-  told new union fixed more known =
+  told : (before new : FilterRanges) (union : RangeUnion) → is_open tree ≡ false → before.unions ≡ old.unions → before.exact ≡ (old.exact && union.exact) → HasMore union before new
+      → IsKnownUnion texts kinds tree (Some union) → IsRowFilter texts kinds (conditions ++ tree ∷ []) new
+  told before new union fixed unions exact more known =
       let test : ValueRow → Bool = λ row. is_true (truth_of tree row) in
+      let all = more.tells texts kinds (passes_all is.tests) known.passed
+      (record { tests = is.tests; told = subst (AllZip (IsUnionOf texts kinds) is.tests) (sym unions) is.told; all = λ row. refl }) known.told in
       record {
-        tests = is.tests ++ test ∷ [];
-        told = subst (AllZip (IsUnionOf texts kinds) (is.tests ++ test ∷ [])) (sym more.unions) (zip-push (IsUnionOf texts kinds) is.tests old.unions test union is.told known);
+        tests = all.tests;
+        told = all.told;
         none_missed = λ row met.
             let each = both _ (meets_filter (fixed_of conditions) row) (test row) (fixed-more conditions tree row fixed) met in
-            all-more is.tests test row ∙ grind (arith, is.none_missed row each.0, each.1);
-        exact = λ all row.
-            all-more is.tests test row ∙ ap (λ b. b && test row) (is.exact (sym more.exact ∙ all) row) ∙ sym (fixed-more conditions tree row fixed);
+            all.all row ∙ both-true (passes_all is.tests row) (known.passed row) (is.none_missed row each.0) (known.covers.none_missed row each.1);
+        exact = λ whole row.
+            let each = both _ old.exact union.exact (more.exact ∙ exact) whole in
+            all.all row
+            ∙ ap (λ b. b && known.passed row) (is.exact each.0 row)
+            ∙ ap (λ b. meets_filter (fixed_of conditions) row && b) (known.covers.exact each.1 row)
+            ∙ sym (fixed-more conditions tree row fixed);
       }
 
-  pub put : (new : FilterRanges) (union : RangeUnion) → is_open tree ≡ false → PutsUnion union old new → IsKnownUnion texts kinds tree (Some union) → IsRowFilter texts kinds (conditions ++ tree ∷ []) new
-  put new union fixed puts known = elim puts [ inl more ↦ told new union fixed more known | inr none ↦ asked new fixed none.unions none.inexact ]
+  pub put : (before new : FilterRanges) (union : RangeUnion) → is_open tree ≡ false → before.unions ≡ old.unions → before.exact ≡ (old.exact && union.exact) → PutsUnion union before new
+      → IsKnownUnion texts kinds tree (Some union) → IsRowFilter texts kinds (conditions ++ tree ∷ []) new
+  put before new union fixed unions exact puts known =
+      elim puts [ inl more ↦ told before new union fixed unions exact more known | inr none ↦ asked new fixed (none.unions ∙ unions) none.inexact ]

@@ -1,5 +1,5 @@
 -- A filter of which ranges of words tell some conditions, and the marks that it gives to rows.
-use Rattle.std.specs.Prelude.{◌≡◌, ◌⊎◌, ℕ, ◌+◌, ◌≤◌, length, Bool, true, false, IfSome, IsTrue, List, [], ◌∷◌, ◌++◌, Option, map}
+use Rattle.std.specs.Prelude.{◌≡◌, ◌⊎◌, ℕ, ◌+◌, ◌<◌, ◌≤◌, ◌&&◌, get_or, length, Bool, true, false, IfSome, IsTrue, List, Option, map}
 use Rattle.std.specs.List.{AllZip, list_all}
 use Rattle.sql_values.specs.declared.column.ColumnType.{ColumnType}
 use Rattle.sql_values.specs.Stored.{ValueRow}
@@ -12,6 +12,7 @@ use Rattle.db_catalog.specs.declared.column_range.ColumnRange.{ColumnRange}
 use Rattle.db_catalog.specs.Database.{DatabaseState, table_at}
 use Rattle.db_catalog.specs.ColumnRanges.{IsWordsOf}
 use Rattle.row_filter.specs.declared.union.RangeUnion.{RangeUnion}
+use Rattle.row_filter.specs.declared.filter.Narrowed.{Narrowed}
 use Rattle.row_filter.specs.Unions.{IsUnionOf}
 use Rattle.heap_pages.specs.declared.spans.RowSpan.{RowSpan}
 
@@ -35,9 +36,22 @@ pub record IsRowFilter (texts : List (List ℕ)) (kinds : List ColumnType) (cond
   pub none_missed : (row : ValueRow) → meets_filter (fixed_of conditions) row ≡ true → passes_all tests row ≡ true
   pub exact : IsTrue filter.exact → (row : ValueRow) → passes_all tests row ≡ meets_filter (fixed_of conditions) row
 
--- a union more, or there is no room for it, and ranges no longer tell all
+-- each of some unions tells which rows pass a test, and a row passes all of these tests exactly where it passes this one
+pub record TellAll (texts : List (List ℕ)) (kinds : List ColumnType) (test : ValueRow → Bool) (unions : List RangeUnion) : Type 0 where
+  pub tests : List (ValueRow → Bool)
+  pub told : AllZip (IsUnionOf texts kinds) tests unions
+  pub all : (row : ValueRow) → passes_all tests row ≡ test row
+
+-- a union that stands among those of a filter, narrowed to the rows that another tells too
+pub record IsNarrower (union : RangeUnion) (filter : FilterRanges) (narrowed : Narrowed) : Type 0 where
+  pub there : narrowed.place < length filter.unions
+  pub tells : (texts : List (List ℕ)) (kinds : List ColumnType) (test other : ValueRow → Bool) → IsUnionOf texts kinds test (get_or filter.unions narrowed.place union) → IsUnionOf texts kinds other union
+      → IsUnionOf texts kinds (λ row. test row && other row) narrowed.union
+
+-- a filter also tells the rows that a union tells, or there is no room for it, and ranges no longer tell all
 pub record HasMore (union : RangeUnion) (old new : FilterRanges) : Type 0 where
-  pub unions : new.unions ≡ old.unions ++ union ∷ []
+  pub tells : (texts : List (List ℕ)) (kinds : List ColumnType) (test other : ValueRow → Bool) → TellAll texts kinds test old.unions → IsUnionOf texts kinds other union
+      → TellAll texts kinds (λ row. test row && other row) new.unions
   pub exact : new.exact ≡ old.exact
 
 pub record HasNoRoom (old new : FilterRanges) : Type 0 where

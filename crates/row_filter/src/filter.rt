@@ -1,5 +1,5 @@
 // A relation's filter made ready for many rows. What stands in it is asked once, and not for each row.
-ghost use Rattle.std.specs.Prelude.{◌≡◌, ◌+◌, ◌^◌, ◌≤◌, [], ◌∷◌, ◌++◌, All, IfSome, List, count_by, false, length, map};
+ghost use Rattle.std.specs.Prelude.{◌≡◌, ◌≤◌, [], ◌∷◌, ◌++◌, All, IfSome, List, count_by, false, length, map};
 ghost use Rattle.sql_values.specs.Limits.{max_columns};
 ghost use Rattle.query_block.specs.Blocks.{FitsColumns};
 ghost use Rattle.query_block.specs.Conditions.{FilterTree, filter_tree};
@@ -7,8 +7,9 @@ ghost use Rattle.query_block.specs.Meaning.{meets_filter};
 ghost use Rattle.query_block.specs.Parameters.{fixed_of, is_open};
 ghost use Rattle.heap_pages.specs.Spans.{rows_of_span};
 ghost use Rattle.db_catalog.specs.Database.{table_at};
-ghost use Rattle.row_filter.specs.RowFilters.{AreMarks, FilterRanges, IsFilterIn, IsFilterOf, IsRowFilter, IsSpanIn, PutsUnion};
+ghost use Rattle.row_filter.specs.RowFilters.{AreMarks, FilterRanges, IsFilterIn, IsFilterOf, IsNarrower, IsRowFilter, IsSpanIn, PutsUnion};
 
+use crate::every::every_row;
 use crate::parts::known_union;
 use crate::union::RangeUnion;
 use db_catalog::{Database, RowMarks, RowSpan};
@@ -38,22 +39,35 @@ impl Model for RowFilter {
     ghost invariant = { λ f. f.count ≤ 4 };
 }
 
-// Marks of so many rows.
-fn every_row(count: usize) -> u64
-    requires { count ≤ 64 }
-    ensures { result + 1 ≡ 2 ^ count }
-{
-    if count == 64 {
-        return u64::MAX;
-    }
-    (1 << count) - 1
+// A union that stands at a place, narrowed to the rows of another.
+#[derive(Clone, Copy)]
+struct Narrowed {
+    place: usize,
+    union: RangeUnion,
 }
 
 impl RowFilter {
-    // Puts the ranges of a condition behind the others. Where there is no room, the condition isn't told.
+    // The first union that is one range of a column of which another is one range too, narrowed to that.
+    fn narrowed(&self, union: &RangeUnion) -> Option<Narrowed>
+        ensures { IfSome result (IsNarrower union.now self.now) }
+    {
+        let found = union.single()?;
+        for place in 0..self.count {
+            if let Some(both) = self.unions[place].narrowed(found) {
+                return Some(Narrowed { place, union: both });
+            }
+        }
+        None
+    }
+
+    // Puts the ranges of a condition to the others. Where there is no room, the condition isn't told.
     fn put(&mut self, union: RangeUnion)
         ensures { PutsUnion union self.old self.new }
     {
+        if let Some(narrowed) = self.narrowed(&union) {
+            self.unions[narrowed.place] = narrowed.union;
+            return;
+        }
         if self.count == MOST_CONDITIONS {
             self.exact = false;
             return;
@@ -76,7 +90,10 @@ impl RowFilter {
             return;
         }
         match known_union(columns, condition, texts) {
-            Some(union) => self.put(union),
+            Some(union) => {
+                self.exact &= union.is_exact();
+                self.put(union);
+            }
             None => self.exact = false,
         }
     }

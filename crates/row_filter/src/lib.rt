@@ -4,9 +4,13 @@
 //! It never takes memory, never asks a condition of a row, and looks up a text once, when it is made.
 #![tactic(auto)]
 
+mod every;
 mod filter;
+mod join;
 mod known;
+mod known_region;
 mod parts;
+mod region;
 mod union;
 mod values;
 

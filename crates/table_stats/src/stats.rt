@@ -20,7 +20,7 @@ use sql_values::Sequence;
 use std::alloc::{AllocError, Global};
 
 // A range that holds more than one of so many rows is wide: then marks of all rows are quicker.
-const WIDE: u64 = 16;
+const WIDE: u64 = 100;
 
 // How many rows of its table the fixed conjuncts of a relation's filter keep. Without one these are all; where they ask for
 // nothing that an index can't use, its matches; else the rows that a narrow range of an index leads to are tried, or all rows

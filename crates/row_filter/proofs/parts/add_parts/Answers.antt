@@ -6,7 +6,8 @@ use Rattle.query_block.specs.Conditions.{chain, filter_tree}
 use Rattle.query_block.specs.Meaning.{is_true}
 use Rattle.query_block.specs.Truth.{truth_of, truth_of_any}
 use Rattle.query_block.proofs.Chains.{part-fits}
-use Rattle.row_filter.proofs.OrParts.{part-more, same-union}
+use Rattle.row_filter.proofs.OrParts.{part-more}
+use Rattle.row_filter.proofs.Covers.{same-cover}
 use Rattle.row_filter.proofs.parts.add_parts.Goals as goal
 
 pub add_part-requires-clause-fits : goal.add_part-requires-clause-fits
@@ -19,7 +20,7 @@ loop-part-preserved c = λ test is.
     let i = c.loop-part.part-index in
     let part = c.part-item.result in
     let before : ValueRow → Bool = λ row. test row || is_true (truth_of_any (chain (map filter_tree (take i parts))) row) in
-    same-union c.args.texts.now c.args.columns.now (λ row. before row || is_true (truth_of (filter_tree part) row)) _ c.add_part.new.union
+    same-cover c.args.texts.now c.args.columns.now (λ row. before row || is_true (truth_of (filter_tree part) row)) _ c.add_part.new.union
     (c.add_part.ensures before c.if-not-add_part.false (c.loop-part.invariant test is))
     (λ row. part-more parts i part (test row) row c.loop-part-test.true c.part-item.is)
 
@@ -27,5 +28,5 @@ pub returns : goal.returns
 returns c = λ test added is.
     let parts = c.args.parts.now in
     let whole = take_all c.loop-part.part-index parts c.loop-part-test.false in
-    same-union c.args.texts.now c.args.columns.now _ _ c.loop-part.union (c.loop-part.invariant test is)
+    same-cover c.args.texts.now c.args.columns.now _ _ c.loop-part.union (c.loop-part.invariant test is)
     (λ row. ap (λ (some : List Condition). test row || is_true (truth_of_any (chain (map filter_tree some)) row)) whole)

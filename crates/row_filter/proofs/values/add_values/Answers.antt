@@ -7,7 +7,7 @@ use Rattle.query_block.specs.declared.condition.Operand.{Operand}
 use Rattle.query_block.specs.Meaning.{is_true}
 use Rattle.query_block.specs.Truth.{one_of, operand_value}
 use Rattle.row_filter.proofs.Equals.{value-more}
-use Rattle.row_filter.proofs.OrParts.{same-union}
+use Rattle.row_filter.proofs.Covers.{same-cover}
 use Rattle.row_filter.proofs.values.add_values.Goals as goal
 
 pub loop-operand-preserved : goal.loop-operand-preserved
@@ -18,7 +18,7 @@ loop-operand-preserved c = λ test is.
     let operand = c.operand-item.result in
     let before : ValueRow → Bool = λ row. test row || is_true (one_of row (operand_value row of) (take i operands)) in
     let equal : ValueRow → Bool = λ row. is_true (comparison Eq (operand_value row of) (operand_value row operand)) in
-    same-union c.args.texts.now c.args.columns.now (λ row. before row || equal row) _ c.put.new.self
+    same-cover c.args.texts.now c.args.columns.now (λ row. before row || equal row) _ c.put.new.self
     (c.put.ensures c.args.texts.now c.args.columns.now equal c.in-Some.ensures before c.if-not-put.false (c.loop-operand.invariant test is))
     (λ row. value-more operands i operand (test row) row (operand_value row of) c.loop-operand-test.true c.operand-item.is)
 
@@ -27,5 +27,5 @@ returns c = λ test added is.
     let of = c.args.of.now in
     let operands = c.args.operands.now in
     let whole = take_all c.loop-operand.operand-index operands c.loop-operand-test.false in
-    same-union c.args.texts.now c.args.columns.now _ _ c.loop-operand.union (c.loop-operand.invariant test is)
+    same-cover c.args.texts.now c.args.columns.now _ _ c.loop-operand.union (c.loop-operand.invariant test is)
     (λ row. ap (λ (some : List Operand). test row || is_true (one_of row (operand_value row of) some)) whole)

@@ -3,11 +3,11 @@ use Rattle.sql_values.specs.Stored.{ValueRow}
 use Rattle.query_block.specs.Conditions.{OneOf}
 use Rattle.query_block.specs.Meaning.{is_true}
 use Rattle.query_block.specs.Truth.{truth_of}
-use Rattle.row_filter.specs.Unions.{IsUnionOf}
+use Rattle.row_filter.specs.Unions.{IsUnionCover}
 use Rattle.row_filter.proofs.values.add_values.Given as goal
 
 -- the words of the values before are put to the others
 abbrev pub invariant-loop-operand : goal.invariant-loop-operand
 invariant-loop-operand l =
-    (test : ValueRow → Bool) → IsUnionOf l.texts l.columns test l.initial.union
-    → IsUnionOf l.texts l.columns (λ row. test row || is_true (truth_of (OneOf l.of (take l.operand-index l.operands)) row)) l.union
+    (test : ValueRow → Bool) → IsUnionCover l.texts l.columns test l.initial.union
+    → IsUnionCover l.texts l.columns (λ row. test row || is_true (truth_of (OneOf l.of (take l.operand-index l.operands)) row)) l.union

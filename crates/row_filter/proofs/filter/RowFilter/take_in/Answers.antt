@@ -1,4 +1,4 @@
-use Rattle.std.proofs.Common.{refl, sym, ap, ◌∙◌}
+use Rattle.std.proofs.Common.{◌&&◌, refl, sym, ap, ◌∙◌}
 use Rattle.query_block.specs.Conditions.{filter_tree}
 use Rattle.row_filter.specs.RowFilters.{FilterRanges}
 use Rattle.row_filter.proofs.Told.{asked, left-out, put}
@@ -10,9 +10,10 @@ returns-then-is_open c = λ conditions is.
 
 pub returns-in-Some : goal.returns-in-Some
 returns-in-Some c = λ conditions is.
-    put c.args.texts.now c.args.columns.now conditions (filter_tree c.args.condition.now) c.args.self.now is c.put.new.self c.in-Some.union (sym c.is_open.ensures ∙ c.if-is_open.false) c.put.ensures c.in-Some.ensures
+    put c.args.texts.now c.args.columns.now conditions (filter_tree c.args.condition.now) c.args.self.now is _ c.put.new.self c.in-Some.union (sym c.is_open.ensures ∙ c.if-is_open.false)
+    (ap (λ (f : FilterRanges). f.unions) c.self.view_is) (λ k. (c.self.view_is k).exact && c.is_exact.ensures k) c.put.ensures c.in-Some.ensures
 
 pub returns-in-None : goal.returns-in-None
 returns-in-None c = λ conditions is.
     asked c.args.texts.now c.args.columns.now conditions (filter_tree c.args.condition.now) c.args.self.now is _ (sym c.is_open.ensures ∙ c.if-is_open.false)
-    (ap (λ (f : FilterRanges). f.unions) c.self.view_is) refl
+    (ap (λ (f : FilterRanges). f.unions) c.self-in-None.view_is) refl
