@@ -293,6 +293,7 @@ class Integers:
         commas = joined.count(",")
         joined = joined.replace(",", ".")
         fields = joined.split("\n")
+        counts[f"multiplied by {power_word(scale)}"] += len(fields) - fields.count("") - fields.count("0")
         if max(parts) > scale:
             made = [rounded_text(it, scale) if it else "" for it in fields]
             counts[self.rounding()] += sum(1 for it in fields if it.partition(".")[2][scale:].strip("0"))
@@ -303,7 +304,6 @@ class Integers:
                 str(int(whole + part.ljust(scale, "0"))) if whole else ""
                 for whole, _, part in map(operator.methodcaller("partition", "."), fields)
             ]
-        counts[f"multiplied by {power_word(scale)}"] += len(fields) - fields.count("") - fields.count("0")
         if commas:
             counts["with a decimal comma"] += commas
         return made
@@ -427,6 +427,7 @@ SHAPE = {ord(it): "0" for it in "123456789"}
 PLAIN = re.compile("-?(0{1,18})(?:([.,])(0{1,60}))?")
 PART = re.compile("[.,]0*[1-9]")
 PADDED = re.compile("(?:^|\n)-?0[0-9]")
+MINUS_ZERO = re.compile("(?:^|\n)-0(?:\n|$)")
 TRAILING = re.compile("\\.[0-9]*[0-9]0(?=\n|$)")
 # Of a column of other values it is enough to know so many, where they are three of four.
 MANY_OTHERS = 1_000
@@ -594,6 +595,8 @@ class Column:
             if found:
                 at = joined.count("\n", 0, found.end() - 1)
                 numbers.padded = Place(batch.line(at), values[at])
+        if numbers.is_whole and ("\n-0" in joined or joined.startswith("-0")):
+            numbers.is_whole = not MINUS_ZERO.search(joined)
         if parts and not numbers.trailing and max(numbers.parts, default=0) > 1:
             found = TRAILING.search(joined)
             if found:
