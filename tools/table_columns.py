@@ -103,10 +103,6 @@ class Notation:
             yield "without the minus sign of 0"
 
 
-def first_of(*places):
-    return min(filter(None, places), default=None)
-
-
 def scaled_size(size, decimals, scale):
     """A number's digits when it has `scale` decimals in place of `decimals`."""
     return size * 10 ** (scale - decimals) if scale >= decimals else divided(size, decimals - scale)
