@@ -1,7 +1,8 @@
 #!/usr/bin/env python3
-"""Times OPEN and SAVE of a file with as many contours and plans as one may have, and CHECK of bouquets.
+"""Times OPEN and SAVE of a file with as many contours and plans as one may have, CHECK of bouquets, and tools/table.
 
-  python3 bench/files.py [--contours N] [--plans N] [--runs N] [--only files|checks] [--clock wall|cpu] [--program PATH]
+  python3 bench/files.py [--contours N] [--plans N] [--rows N] [--runs N] [--only files|checks|table] [--clock wall|cpu]
+                         [--program PATH]
 
 The proved program is the one that `rt run` left in crates/bouquet/out. Timed are whole processes, by turns; a time is a
 difference of medians of two scripts, divided by how often one does what the other doesn't. With `--clock cpu` times are
@@ -13,10 +14,13 @@ the processor's, for a machine that is at other work.
           compiled, and checked some times. Then its file is filled up: each of its contours gets random nested loops
           until it has `--plans` plans, behind its own plans (an honest file) or before them (a chosen one, in which
           the plans that fit come last).
+  table   tools/table --indexes turns two files of the same 3,600,000 rows into tables, one that LOAD takes as it is, and one of
+          148 MB as a spreadsheet saves it, with semicolons, decimal commas and other dates. Beside it SQLite's `.import` reads
+          the first one, with an index of two columns.
 
 Wanted: a file of 128 contours of 4096 plans each is opened, and saved, in a few seconds. A check takes at most twice as long
-as the compilation, that of the honest file less than a second, and that of the chosen one at most ten. The status is 1 if a
-sound bouquet isn't found sound.
+as the compilation, that of the honest file less than a second, and that of the chosen one at most ten. 148 MB become a table in 20 s.
+The status is 1 if a sound bouquet isn't found sound.
 """
 import argparse
 import itertools
@@ -26,9 +30,9 @@ import random
 import statistics
 import sys
 
-from beside_sqlite import DATA, PROCESSOR, PROGRAM, SEED, WALL, by_turns, run, write_csv
+from beside_sqlite import DATA, HERE, PROCESSOR, PROGRAM, SEED, SQLITE, WALL, by_turns, run, write_csv
 
-SECONDS = 5
+SECONDS, TABLE_SECONDS = 5, 20
 TABLES = 6
 QUERY = "SELECT * FROM " + ", ".join(f"T{i}" for i in range(TABLES))
 MADE = "".join(f"CREATE TABLE T{i} (A INTEGER);\nLOAD 'files-row.csv' INTO T{i};\n" for i in range(TABLES))
@@ -159,20 +163,61 @@ def checks(program, plans_each, runs, clock):
     return all_sound
 
 
+# Tables.
+
+TOOL = [sys.executable, os.path.join(HERE, "..", "tools", "table"), "--indexes", "--replace", "--into", "files-clean"]
+CITIES = "Berlin", "Hamburg", "New York", "Rio de Janeiro", "Ulm", "Rome"
+IMPORTED = """CREATE TABLE T (ID INTEGER, CUSTOMER INTEGER, DAY TEXT, PRICE REAL, CITY TEXT);
+CREATE INDEX BY_ID ON T (ID);
+CREATE INDEX BY_CUSTOMER ON T (CUSTOMER);
+.mode csv
+.import --skip 1 files-plain.csv T
+"""
+
+
+def sales(rows, is_plain):
+    """Rows of sales: their number, a customer, a day, a price and a city."""
+    source = random.Random(SEED)
+    for number in range(rows):
+        month, day, cents = source.randrange(1, 13), source.randrange(1, 29), source.randrange(10_000_000)
+        price = str(cents) if is_plain else f"{cents // 100},{cents % 100:02}"
+        date = f"2025-{month:02}-{day:02}" if is_plain else f"{day}.{month}.2025"
+        yield str(number), str(source.randrange(300_000)), date, price, source.choice(CITIES)
+
+
+def table(rows, runs, clock):
+    names = {"plain": "files-plain.csv", "saved": "files-saved.csv"}
+    write_csv(os.path.join(DATA, names["plain"]), "ID,CUSTOMER,DAY,PRICE,CITY", sales(rows, True))
+    saved = ([";".join(it)] for it in sales(rows, False))
+    write_csv(os.path.join(DATA, names["saved"]), "Id;Customer;Day;Price;City", saved)
+    sides = {side: ([*TOOL, name], "") for side, name in names.items()}
+    measured = by_turns({**sides, "import": (SQLITE, IMPORTED)}, runs, clock)
+    for side, name in names.items():
+        seconds = statistics.median(it[0] for it in measured[side])
+        beside = statistics.median(it[0] for it in measured["import"])
+        print(
+            f"table: {side} file of {os.path.getsize(os.path.join(DATA, name)) / 1e6:.0f} MB in {seconds:.1f} s, wanted "
+            f"{TABLE_SECONDS} at most; peak {max(it[1] for it in measured[side]):.0f} MB; sqlite3's import {beside:.1f} s"
+        )
+
+
 def main():
     words = argparse.ArgumentParser(description=__doc__, formatter_class=argparse.RawDescriptionHelpFormatter)
     words.add_argument("--contours", type=int, default=128)
     words.add_argument("--plans", type=int, default=4096)
+    words.add_argument("--rows", type=int, default=3_600_000)
     words.add_argument("--runs", type=int, default=3)
-    words.add_argument("--only", choices=("files", "checks"))
+    words.add_argument("--only", choices=("files", "checks", "table"))
     words.add_argument("--clock", choices=(WALL, PROCESSOR), default=WALL)
     words.add_argument("--program", default=PROGRAM)
     given = words.parse_args()
     os.makedirs(DATA, exist_ok=True)
     program = [os.path.abspath(given.program)]
-    if given.only != "checks":
+    if given.only in (None, "table"):
+        table(given.rows, given.runs, given.clock)
+    if given.only in (None, "files"):
         files(program, given.contours, given.plans, given.runs, given.clock)
-    if given.only != "files" and not checks(program, given.plans, given.runs, given.clock):
+    if given.only in (None, "checks") and not checks(program, given.plans, given.runs, given.clock):
         sys.exit(1)
 
 
