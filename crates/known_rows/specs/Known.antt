@@ -1,6 +1,6 @@
 -- What is known of numbers, at the least: how many rows sets of relations have, and how many entries of indexes edges find for
--- these rows.
-use Rattle.std.specs.Prelude.{ℕ, ◌≤◌, List, [], length, max, replicate, slice_index_or, slice_set}
+-- these rows. And how much work may go into listing more.
+use Rattle.std.specs.Prelude.{ℕ, ◌+◌, ◌-◌, ◌^◌, ◌≤◌, List, [], length, max, min, replicate, slice_index_or, slice_set}
 use Rattle.sql_values.specs.Limits.{max_axes}
 use Rattle.sql_values.specs.Stored.{StoredTable}
 use Rattle.query_block.specs.Blocks.{BlockTree}
@@ -8,10 +8,12 @@ use Rattle.query_block.specs.Meaning.{rows_of}
 use Rattle.plan_tree.specs.Sets.{set_of}
 use Rattle.known_rows.specs.Entries.{entries_found}
 
--- of each set how many rows, and of each edge, for each set, how many entries; a set by its number, bit r for relation r
+-- of each set how many rows, and of each edge, for each set, how many entries; a set by its number, bit r for relation r. And
+-- how many units of work may go into listing
 pub record KnownState : Type 0 where
   pub rows : List ℕ
   pub entries : List (List ℕ)
+  pub allowance : ℕ
 
 -- how many rows a set is known to have, at the least
 abbrev pub known_rows_of : (known : KnownState) → (set : ℕ) → ℕ
@@ -38,4 +40,12 @@ learned_entries known edge set entries =
 
 -- nothing is known of the sets of six relations
 abbrev pub nothing_known : KnownState
-nothing_known = record { rows = replicate 64 0; entries = replicate max_axes (replicate 64 0) }
+nothing_known = record { rows = replicate 64 0; entries = replicate max_axes (replicate 64 0); allowance = 0 }
+
+-- so many units more may go into listing; the greatest number stands for more
+abbrev pub allowed : (known : KnownState) → (units : ℕ) → KnownState
+allowed known units = record known { allowance = min (known.allowance + units) (2 ^ 128 - 1) }
+
+-- so many units went into it
+abbrev pub listed : (known : KnownState) → (units : ℕ) → KnownState
+listed known units = record known { allowance = known.allowance - units }

@@ -1,7 +1,7 @@
 // How many rows sets of relations are known to have, at the least, and how many entries edges find for these rows, by the
-// numbers of the sets and the edges.
+// numbers of the sets and the edges. And how much work may go into listing more.
 ghost use Rattle.std.specs.Prelude.{◌≡◌};
-ghost use Rattle.known_rows.specs.Known.{known_entries, known_rows_of, learned, learned_entries, nothing_known};
+ghost use Rattle.known_rows.specs.Known.{allowed, known_entries, known_rows_of, learned, learned_entries, listed, nothing_known};
 
 use plan_tree::Subset;
 use sql_values::MAX_AXES;
@@ -13,6 +13,8 @@ use std::marker::Model;
 pub struct KnownRows {
     rows: [u64; 64],
     entries: [[u64; 64]; MAX_AXES],
+    // Units of work: those of executions that were made in vain, without those that listing took.
+    allowance: u128,
 }
 
 impl Model for KnownRows {
@@ -23,18 +25,42 @@ impl Model for KnownRows {
     ghost view = { λ k. record {
       rows = k.rows;
       entries = k.entries;
+      allowance = k.allowance;
     } };
 }
 
 impl KnownRows {
-    /// Nothing is known: 0 of each set.
+    /// Nothing is known: 0 of each set. Nothing may be listed.
     pub fn new() -> KnownRows
         ensures { result ≡ nothing_known }
     {
         KnownRows {
             rows: [0; 64],
             entries: [[0; 64]; MAX_AXES],
+            allowance: 0,
         }
+    }
+
+    /// An execution was made and exhausted, and paid so many units of work: as many more may go into listing.
+    pub fn allow(&mut self, units: u128)
+        ensures { self.new ≡ allowed self.old units }
+    {
+        self.allowance = self.allowance.saturating_add(units);
+    }
+
+    /// How many units of work may go into listing: as many as exhausted executions that were made have paid, without those that
+    /// it took.
+    pub fn allowance(&self) -> u128
+        ensures { result ≡ self.now.allowance }
+    {
+        self.allowance
+    }
+
+    /// So many units of work went into listing.
+    pub fn note_listed(&mut self, units: u128)
+        ensures { self.new ≡ listed self.old units }
+    {
+        self.allowance = self.allowance.saturating_sub(units);
     }
 
     /// A set has at least so many rows. Of a set with a relation above 5 nothing is learned.
@@ -71,8 +97,8 @@ impl KnownRows {
         }
     }
 
-    /// How many entries an edge is known to find for the rows of a set.
-    pub(crate) fn entries(&self, edge: u8, set: Subset) -> u64
+    /// How many entries an edge is known to find for the rows of a set, at the least.
+    pub fn entries(&self, edge: u8, set: Subset) -> u64
         ensures { result ≡ known_entries self.now edge set }
     {
         let edge = edge as usize;

@@ -12,6 +12,6 @@ mod least;
 
 pub use known::KnownRows;
 pub use law::{
-    no_plan_works_less_than_the_least, nothing_is_known_at_first, what_is_found_is_known,
-    what_is_learned_is_known,
+    no_plan_works_less_than_the_least, nothing_is_known_at_first, what_is_allowed_is_known,
+    what_is_found_is_known, what_is_learned_is_known,
 };
