@@ -63,7 +63,8 @@ impl<'c> Model for Outlook<'c> {
     ghost invariant = { λ o. IsOutlook o.best o.costs.items o.bottom o.top };
 }
 
-// Whether one of these plans is the best one at the point of which this is the row.
+// Whether one of these plans is the best one at the point of which this is the row. The last ones are looked at first, since
+// points that lie together often have the same plan.
 fn has_plan(costing: &Costing<'_>, row: &[Entry; 64], plans: &[Plan]) -> bool
     requires { AllStand (block_tree costing.now.block) row.now }
     ensures { IsTrue result → (point : List ℕ) → LeastAt costing.now row.now point →
@@ -71,8 +72,9 @@ fn has_plan(costing: &Costing<'_>, row: &[Entry; 64], plans: &[Plan]) -> bool
 {
     let block = costing.block();
     let all = set_of_all(block);
-    for p in plans {
-        if tells(block, row, all, p) {
+    for later in 0..plans.len() {
+        let number = plans.len() - 1 - later;
+        if tells(block, row, all, &plans[number]) {
             return true;
         }
     }
