@@ -48,6 +48,7 @@ NAME_BYTES = 128
 DEPTH = 32
 COLUMNS, CHARACTERS = 256, 65_535
 KILLED, KILLED_AT = 26, 10_000
+FILES = 1000
 CONTOURS, PLANS = 128, 4096
 MAX_WORK = 1_000_000
 WORD = 2**64 - 1
@@ -90,6 +91,7 @@ RULES = {
     "zeros": "It may have any number of leading zeros, and no white space.",
     "range": "it is an integer that no INTEGER is",
     "totals": "The last four are numbers as they would be after the LOAD, and are looked at when all entries are good.",
+    "loaded": "and the number of rows loaded",
     "file": "It has at most 268435456 bytes.",
     "order": "Rows are in ascending order, the leftmost column first: NULL, then numbers by value",
     "work": "a query whose work is past N is refused with `error E16 work N`",
@@ -418,6 +420,21 @@ def rows(part):
     yield Trial("one row more", table(), past, "totals", REFUSED, {"t.csv": joined("A\n", numbers(ROWS + 1))})
     yield Trial("one row more, in a second file", f"{table()}LOAD 'u.csv' INTO T;\n", f"-- load rows={ROWS}\n{past}",
                 "totals", REFUSED, {"t.csv": joined("A\n", numbers(ROWS)), "u.csv": "A\n1\n"})
+
+
+def appends(part):
+    """Many LOADs of a row each into a table with indexes, whose words fall, and of files of a header alone."""
+    for columns, count in ((1, 80_000 // part), (32, 20_000 // part)):
+        named = [f"C{i}" for i in range(columns)]
+        script = f"CREATE TABLE T ({', '.join(f'{name} INTEGER' for name in named)});\n"
+        script += "".join(f"CREATE INDEX I{name} ON T ({name});\n" for name in named)
+        for rows, what in ((1, "a row"), (0, "no row")):
+            files = {f"{i}.csv": ",".join(named) + "\n" + rows * f"{','.join([str(FILES - i)] * columns)}\n"
+                     for i in range(FILES)}
+            loads = "".join(f"LOAD '{i * FILES // count}.csv' INTO T;\n" for i in range(count))
+            some = "an index" if columns == 1 else f"{columns} indexes"
+            yield Trial(f"LOADs of {what}, {some}", script + loads, repeated(f"-- load rows={rows}\n", count),
+                        "loaded", files=files, sized=True)
 
 
 def texts(part):
@@ -846,6 +863,7 @@ EXTREMES = {
     "different": different_texts_file,
     "past-file": past_file,
     "rows": rows,
+    "appends": appends,
     "texts": texts,
     "text-bytes": text_bytes,
     "combinations": combinations,

@@ -42,5 +42,5 @@ pub record IsOlderNext (older newer : List IndexEntry) (first second : ℕ) : Ty
   pub before : (d : IndexEntry) → second < length newer → is_gt (entry_order (slice_index_or older first d) (slice_index_or newer second d)) ≡ false
 
 -- the row of the entry at a place
-abbrev pub IsRowAt : (entries : List IndexEntry) → (place row : ℕ) → Type 0
-IsRowAt entries place row = (d : IndexEntry) → row ≡ (slice_index_or entries place d).1
+abbrev pub IsRowOfPlace : (entries : List IndexEntry) → (place row : ℕ) → Type 0
+IsRowOfPlace entries place row = (d : IndexEntry) → row ≡ (slice_index_or entries place d).1

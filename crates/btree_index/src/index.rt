@@ -10,7 +10,7 @@ ghost use Rattle.btree_index.specs.Height.{height_of};
 ghost use Rattle.btree_index.specs.Entries.{HaveWords, IsInOrder, IsOn, entries_left, is_within, next_charge, ordered};
 ghost use Rattle.btree_index.specs.Cursors.{IsOnRange, MovesOn};
 ghost use Rattle.btree_index.specs.Nodes.{nodes_of, nodes_up_to};
-ghost use Rattle.btree_index.specs.Runs.{IsRowAt};
+ghost use Rattle.btree_index.specs.Runs.{IsRowOfPlace};
 
 use crate::both::entry_at;
 use crate::node::NODE_ENTRIES;
@@ -248,7 +248,7 @@ impl Index {
     // it do is guessed.
     fn row_at(&self, place: usize, guess: usize) -> (u64, usize)
         requires { place < length self.now }
-        ensures { IsRowAt self.now place result.0 }
+        ensures { IsRowOfPlace self.now place result.0 }
     {
         let (entry, older) = entry_at(self.older.entries(), self.newer.entries(), place, guess);
         (entry.1, older)
