@@ -54,8 +54,15 @@ fn index_of(alloc: Global, rows: u32) -> Option<Index> {
 // An index of so many entries: its nodes, its height, and how many entries it has for all its words.
 pub(crate) fn index(alloc: Global, asked: &[u32]) -> Option<String> {
     let index = index_of(alloc, *asked.first()?)?;
-    let found = index.within(0, i64::MAX).len() as u64;
-    numbers_text(alloc, &[index.nodes(), u64::from(index.height()), found])
+    let found = index.within(0, i64::MAX);
+    numbers_text(
+        alloc,
+        &[
+            index.nodes(),
+            u64::from(index.height()),
+            found.older.len() as u64 + found.newer.len() as u64,
+        ],
+    )
 }
 
 // Appends so many rows to a heap that has room for them, each with its number in every column.

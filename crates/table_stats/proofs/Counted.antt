@@ -1,15 +1,16 @@
 -- Rows that are counted one after another, block after block, or by the entries of an index.
-use Rattle.std.proofs.Common.{◌≡◌, ℕ, ℤ, ◌+◌, ◌*◌, ◌^◌, ◌<◌, ◌≤◌, Bool, true, false, List, ◌++◌, length, map, filter, count_by, get_or, take, drop, cond, Fits, w64, sym, ap, ap₂, ◌∙◌, inl, inr, refl, arith}
+use Rattle.std.proofs.Common.{◌≡◌, ℕ, ℤ, ◌+◌, ◌*◌, ◌^◌, ◌<◌, ◌≤◌, Bool, All, true, false, List, ◌++◌, length, map, filter, count_by, get_or, take, drop, cond, Fits, w64, sym, subst, ap, ap₂, ◌∙◌, inl, inr, refl, arith}
 use mir.Val.{bool_byte}
 use Rattle.std.specs.Prelude.{IsTrue, min}
 use Rattle.std.specs.Int.{div_ceil}
 use Rattle.std.proofs.Math.Seq.{take-add}
 use Rattle.std.proofs.lemmas.Bool.{cases_Bool}
 use Rattle.std.proofs.lemmas.Grind.{div_ceil_times}
-use Rattle.std.proofs.lemmas.List.{length-append, length-drop, length-take, take_min, take_all}
+use Rattle.std.proofs.lemmas.List.{get_or_append_left, length-append, map-append, length-drop, length-take, take_min, take_all}
 use Rattle.std.proofs.lemmas.List.Elements.{filter-append}
 use Rattle.std.proofs.lemmas.List.Sums.{count_by_more_yes, count_by_more_no, count_by-le-length, length-filter}
-use Rattle.std.proofs.lemmas.List.Sorted.{length_permutation}
+use Rattle.std.proofs.lemmas.List.Sorted.{length_permutation, All-permutation, IsPermutation-append_comm, IsPermutation-map, IsPermutation-trans}
+use Rattle.std.specs.List.Sorted.{IsPermutation}
 use Rattle.sql_values.specs.Words.{word_of}
 use Rattle.sql_values.specs.Stored.{ValueRow, StandsFor}
 use Rattle.heap_pages.specs.Spans.{rows_of_span}
@@ -27,6 +28,7 @@ use Rattle.db_catalog.specs.Fits.{FitsTable}
 use Rattle.db_catalog.specs.Indexes.{index_at, row_of_entry}
 use Rattle.db_catalog.proofs.IndexEntries.{found-rows}
 use Rattle.db_catalog.proofs.OfRelations.{relation_words, relation_values}
+use Rattle.db_catalog.proofs.Permutations.{permuted}
 use Rattle.db_catalog.proofs.Picked.{in-range}
 use Rattle.table_stats.specs.Kept.{IsRowBlock}
 use Rattle.table_stats.specs.Narrow.{uses_some}
@@ -74,6 +76,22 @@ pub count-append : {X : Type 0} (test : X → Bool) (xs ys : List X) → count_b
 count-append test xs ys =
     sym (length-filter test (xs ++ ys)) ∙ ap length (filter-append test xs ys) ∙ length-append (filter test xs) (filter test ys)
     ∙ ap₂ (λ m n. m + n) (length-filter test xs) (length-filter test ys)
+
+-- what holds of entries in another order holds of both parts of these
+pub all-left : {X : Type 0} (P : X → Type 0) (all xs ys : List X) → IsPermutation all (xs ++ ys) → All P all → All P xs
+all-left P all xs ys same each k d there =
+    subst P (get_or_append_left xs ys k d there) (All-permutation P all (xs ++ ys) same each k d (omega (arith, there, length-append xs ys)))
+
+pub all-right : {X : Type 0} (P : X → Type 0) (all xs ys : List X) → IsPermutation all (xs ++ ys) → All P all → All P ys
+all-right P all xs ys same each = all-left P all ys xs (IsPermutation-trans _ _ _ same (IsPermutation-append_comm xs ys)) each
+
+-- and the rows of both parts that pass are those of all
+pub counted-both : {X Y : Type 0} (test : Y → Bool) (f : X → Y) (all xs ys : List X) → IsPermutation all (xs ++ ys)
+    → count_by test (map f xs) + count_by test (map f ys) ≡ count_by test (map f all)
+counted-both test f all xs ys same =
+    sym (count-append test (map f xs) (map f ys)) ∙ ap (count_by test) (sym (map-append f xs ys))
+    ∙ sym (length-filter test (map f (xs ++ ys))) ∙ length_permutation (filter test (map f all)) (filter test (map f (xs ++ ys))) (permuted (filter test) (filter-append test) (IsPermutation-map f all (xs ++ ys) same))
+    ∙ length-filter test (map f all)
 
 -- ---- a block of 64 rows more
 

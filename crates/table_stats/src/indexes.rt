@@ -25,8 +25,8 @@ fn matches(db: &Database, relation: &Relation, column: u8) -> Option<u64>
         return None;
     }
     let range = range_of(column, filter, db.texts());
-    let entries = db.entries_within(relation.table, column, range.from, range.to);
-    Some(entries.len() as u64)
+    let found = db.entries_within(relation.table, column, range.from, range.to);
+    Some(found.older.len() as u64 + found.newer.len() as u64)
 }
 
 // The counts of an indexed column.

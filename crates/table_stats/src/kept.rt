@@ -1,9 +1,11 @@
 // How many rows of a relation's table the fixed conjuncts of its filter keep. They are found through a range of an index, or
 // among all rows, 64 at a time; both ways lead to one number.
-ghost use Rattle.std.specs.Prelude.{◌≡◌, ◌*◌, ◌<◌, false, Contains, IfSome, IsTrue, count_by, length};
+ghost use Rattle.std.specs.Prelude.{◌≡◌, ◌*◌, ◌^◌, ◌<◌, All, false, Contains, IfSome, IsTrue, count_by, length, map};
 ghost use Rattle.cost_model.specs.Counts.{relation_stats_of};
 ghost use Rattle.heap_pages.specs.Spans.{rows_of_span};
+ghost use Rattle.btree_index.specs.Entries.{IndexEntry};
 ghost use Rattle.db_catalog.specs.Database.{table_at};
+ghost use Rattle.db_catalog.specs.Indexes.{row_of_entry};
 ghost use Rattle.row_filter.specs.RowFilters.{AreMarks, IsFilterOf, IsSpanIn};
 ghost use Rattle.table_stats.specs.Kept.{IsRowBlock, IsOver};
 ghost use Rattle.table_stats.specs.Narrow.{uses_some};
@@ -101,6 +103,24 @@ pub(crate) fn kept_by_marks(db: &Database, filter: &ReadyFilter<'_>) -> u64
     }
 }
 
+// Among the rows of these entries.
+fn kept_among(db: &Database, filter: &ReadyFilter<'_>, entries: &[(i64, u64)]) -> u64
+    requires over { IsOver db.now filter.now }
+    requires there { All (λ (entry : IndexEntry).
+        entry.1 < length (table_at db.now filter.now.relation.now.table).rows) entries.now }
+    ensures count { result ≡ count_by (is_kept filter.now)
+        (map (row_of_entry db.now filter.now.relation.now.table) entries.now) }
+    ensures few { result < 2 ^ 63 }
+{
+    let table = filter.relation.table;
+    let mut kept = 0;
+    for entry in entries {
+        let row = db.plain_row(table, entry.1);
+        kept += u64::from(filter.keeps(row));
+    }
+    kept
+}
+
 /// Among the rows that meet each fixed conjunct that the index on a column can use: no other row meets all of them.
 pub(crate) fn kept_within(db: &Database, filter: &ReadyFilter<'_>, column: u8) -> u64
     requires over { IsOver db.now filter.now }
@@ -110,10 +130,6 @@ pub(crate) fn kept_within(db: &Database, filter: &ReadyFilter<'_>, column: u8) -
 {
     let table = filter.relation.table;
     let range = range_of(column, filter.relation.filter.as_slice(), filter.texts);
-    let mut kept = 0;
-    for entry in db.entries_within(table, column, range.from, range.to) {
-        let row = db.plain_row(table, entry.1);
-        kept += u64::from(filter.keeps(row));
-    }
-    kept
+    let found = db.entries_within(table, column, range.from, range.to);
+    kept_among(db, filter, found.older) + kept_among(db, filter, found.newer)
 }
