@@ -16,7 +16,7 @@ use Rattle.plan_tree.proofs.Digits.{sort-le}
 use Rattle.plan_tree.proofs.LeafSets.{set-of-plan}
 use Rattle.exec_join.proofs.Sets.{leaf-apart}
 use Rattle.known_rows.specs.Entries.{entries_found}
-use Rattle.known_rows.specs.Known.{AreKnown, KnownState, allowed, known_entries, known_rows_of, learned, learned_entries, listed, nothing_known}
+use Rattle.known_rows.specs.Known.{AreKnown, KnownState, allowed, known_entries, known_rows_of, learned, learned_entries, listed_units, nothing_known}
 use Rattle.known_rows.specs.LeastWork.{are_joined, least_of_leaf, least_rows, least_work}
 use Rattle.known_rows.proofs.Outs.{candidates-loop, found-loop, out-candidates, out-leaf, out-matches, out-product}
 
@@ -67,7 +67,7 @@ found-known tables block known edge set entries is few =
     }
 
 -- what may be listed, and was, is no part of it
-pub allowed-known : (tables : List StoredTable) (block : BlockTree) (known : KnownState) (units : ℕ) → AreKnown tables block known → AreKnown tables block (allowed known units) × AreKnown tables block (listed known units)
+pub allowed-known : (tables : List StoredTable) (block : BlockTree) (known : KnownState) (units : ℕ) → AreKnown tables block known → AreKnown tables block (allowed known units) × AreKnown tables block (listed_units known units)
 allowed-known tables block known units is = (record { rows = is.rows; entries = is.entries }, record { rows = is.rows; entries = is.entries })
 
 -- ---- rows

@@ -47,5 +47,5 @@ abbrev pub allowed : (known : KnownState) → (units : ℕ) → KnownState
 allowed known units = record known { allowance = min (known.allowance + units) (2 ^ 128 - 1) }
 
 -- so many units went into it
-abbrev pub listed : (known : KnownState) → (units : ℕ) → KnownState
-listed known units = record known { allowance = known.allowance - units }
+abbrev pub listed_units : (known : KnownState) → (units : ℕ) → KnownState
+listed_units known units = record known { allowance = known.allowance - units }

@@ -1,7 +1,7 @@
 // How many rows sets of relations are known to have, at the least, and how many entries edges find for these rows, by the
 // numbers of the sets and the edges. And how much work may go into listing more.
 ghost use Rattle.std.specs.Prelude.{◌≡◌};
-ghost use Rattle.known_rows.specs.Known.{allowed, known_entries, known_rows_of, learned, learned_entries, listed, nothing_known};
+ghost use Rattle.known_rows.specs.Known.{allowed, known_entries, known_rows_of, learned, learned_entries, listed_units, nothing_known};
 
 use plan_tree::Subset;
 use sql_values::MAX_AXES;
@@ -58,7 +58,7 @@ impl KnownRows {
 
     /// So many units of work went into listing.
     pub fn note_listed(&mut self, units: u128)
-        ensures { self.new ≡ listed self.old units }
+        ensures { self.new ≡ listed_units self.old units }
     {
         self.allowance = self.allowance.saturating_sub(units);
     }

@@ -8,7 +8,7 @@ ghost use Rattle.plan_tree.specs.Enumerated.{IsSubPlan};
 ghost use Rattle.plan_tree.specs.Sets.{set_of};
 ghost use Rattle.plan_tree.specs.Work.{work_of};
 ghost use Rattle.known_rows.specs.Entries.{entries_found};
-ghost use Rattle.known_rows.specs.Known.{AreKnown, KnownState, allowed, learned, learned_entries, listed, nothing_known};
+ghost use Rattle.known_rows.specs.Known.{AreKnown, KnownState, allowed, learned, learned_entries, listed_units, nothing_known};
 ghost use Rattle.known_rows.specs.LeastWork.{least_work};
 
 /// The law of the beginning: that nothing is known is so of all tables and blocks.
@@ -35,7 +35,7 @@ pub fn what_is_found_is_known()
 pub fn what_is_allowed_is_known()
     ensures { (tables : List StoredTable) (block : BlockTree) (known : KnownState) (units : ℕ) →
         AreKnown tables block known →
-        AreKnown tables block (allowed known units) × AreKnown tables block (listed known units) }
+        AreKnown tables block (allowed known units) × AreKnown tables block (listed_units known units) }
 {}
 
 /// The law of the least work: where what is known is so, no plan works less.
