@@ -8,8 +8,8 @@ another. Inputs are made in a temporary folder, each removed before the next is 
 Each trial has the answer and the status that are due, and a sentence of a document in docs/ that says so;
 `--rules` prints the sentences. Seconds are those of the processor. Where a trial has a size it is run with half of it
 too: `times half` is how many times longer the whole takes. The peak memory is never less than this script's own, some
-20 MB; `input MB` are those of the script and the files. `--part N` makes what has a size N times smaller; figures are
-right from a few thousand bytes on.
+20 MB; `input MB` are those of the script and the files, `printed MB` those of the answer. `--part N` makes what has a
+size N times smaller; figures are right from a few thousand bytes on.
 
 A run may take 8 GB of address space, 6 GB of memory and 600 seconds. It is a finding where an answer, a status or what
 is left in the folder differs; where it is out of memory; where standard error has anything but the one line that is due
@@ -50,6 +50,10 @@ COLUMNS, CHARACTERS = 256, 65_535
 KILLED, KILLED_AT = 26, 10_000
 CONTOURS, PLANS = 128, 4096
 MAX_WORK = 1_000_000
+RUNS, RUN_OPERANDS = 4000, 40_000
+UNIT_OPERANDS, UNIT_ROWS = 300_001, 1000
+JOBS, JOBS_PART = 64, 16
+SIDE = 3000
 WORD = 2**64 - 1
 # the hash of a key in a join; and a hash of texts by fixed keys, of which the first is the one that the kit's maps have if
 # they are given none
@@ -111,6 +115,9 @@ RULES = {
     "printed": "A printed row costs 1 unit, however long it is.",
     "replaced": "SAVE replaces only a file that is empty or begins with `{\"bouquet\":`.",
     "done": "every statement was carried out",
+    "turn": "Behind them the jobs take turns round by round, in that order.",
+    "skip": "Plan PLAN of contour K is skipped if it covers no point of the contour's frontier at or above Q.",
+    "equal": "Equal rows are printed as often as they were found.",
     "script": "16777217, for a script of more than 16777216 bytes",
     "most": "It has at most 16777216 bytes.",
     "words": "If the arguments are invalid, nothing is read, the status is 2, and this is printed:",
@@ -550,6 +557,30 @@ def conditions(part):
                         sized=True)
 
 
+def long_runs(part):
+    """RUNs of a query of many operands over an empty table: each works 1 unit. Of half the size there are half of the
+    RUNs."""
+    count = RUNS // part
+    for name in ("AND", "IN"):
+        numbers = range(1, RUN_OPERANDS + 1)
+        condition = separated(" AND ", (f"A <> {i}" for i in numbers)) if name == "AND" else joined(
+            "A IN (", separated(",", map(str, numbers)), ")")
+        script = joined(table(), "COMPILE Q AS SELECT * FROM T WHERE ", condition, ";\n", repeated("RUN Q;\n", count))
+        answer = joined("-- load rows=0\n-- compile points=1 contours=1 r=1\n", repeated(f"A\n{report(0, 0)}", count))
+        yield Trial(f"RUNs of {name}", script, answer, "rows", files={"t.csv": "A\n"}, sized=True)
+
+
+def long_units(part):
+    """One conjunct of very many operands over some rows, of which one is kept."""
+    count = UNIT_OPERANDS // part
+    rows = "A\n" + "".join(f"{-i}\n" for i in range(1, UNIT_ROWS)) + f"{count - 1}\n"
+    answer = f"-- load rows={UNIT_ROWS}\nA\n{count - 1}\n{report(UNIT_ROWS, 1)}"
+    for name, condition in {"IN": joined("A IN (", separated(",", map(str, range(count))), ")"),
+                            "OR": separated(" OR ", (f"A = {i}" for i in range(count)))}.items():
+        script = joined(table(), "SELECT * FROM T WHERE ", condition, ";\n")
+        yield Trial(f"{name} over some rows", script, answer, "rows", files={"t.csv": rows}, sized=True)
+
+
 def wide_rows(part):
     """A gigabyte for little work: the 64 pairs of eight rows, with the longest text in each of the most columns. The
     rows come from one entry, which is loaded eight times."""
@@ -563,6 +594,21 @@ def wide_rows(part):
                     f"-- rows=64 work={work} runs=1 contour=1 plan=N(S0,S1)\n")
     yield Trial("256 columns of the longest text, --max-work 300", script, answer, "printed",
                 files={"t.csv": f"A\n{text}\n"}, words=("--max-work", "300"), sized=True)
+
+
+def many_rows(part):
+    """The pairs of two tables' rows, of which one column is asked for. Of half the size the second table has half of the
+    rows."""
+    others = SIDE // part
+    made = table() + table(file="u.csv", name="U")
+    files = {"t.csv": "A\n" + "".join(f"{i}\n" for i in range(SIDE)), "u.csv": "A\n" + "1\n" * others}
+    # two scans, and a nested loop that keeps the second table's rows, looks at all pairs and gives them
+    work = work_of(SIDE, SIDE) + work_of(others, others) + others + 2 * SIDE * others
+    rows = (f"{i}\n" * others for i in range(SIDE))
+    answer = joined(f"-- load rows={SIDE}\n-- load rows={others}\nA\n", rows,
+                    f"-- rows={SIDE * others} work={work} runs=1 contour=1 plan=N(S0,S1)\n")
+    yield Trial("nine million, one column asked for", f"{made}SELECT X.A FROM T X, U Y;\n", answer, "equal",
+                files=files, sized=True)
 
 
 TEXTS_OF_PLANS = 2 * 720
@@ -626,6 +672,51 @@ def plans(part):
         wide = {"q.bq": joined("[", repeated(f"{value},", count), f"{value}]"), "t.csv": "A\n1\n"}
         yield Trial(f"{size >> 20} MiB of a list of {value}", opened, f"{loaded}error E14 file bouquet\n", "object",
                     REFUSED, wide)
+
+
+def free_bouquet(contours):
+    """A bouquet of SIX whose executions are free, since no contour costs anything: its tables and OPEN, what these print,
+    the files, and the plan that is executed in the end. That works six scans and five joins: 6 * 11 + 5 * 3."""
+    made = "".join(table(file="t.csv", name=f"T{i}") for i in range(6))
+    opened = f"{made}OPEN Z FROM 'q.bq' AS {SIX};\n"
+    line = "-- load rows=1\n" * 6 + f"-- open points=1 contours={contours} r={PLANS}\n"
+    last = next(itertools.islice(plan_texts(), (contours * PLANS - 1) % TEXTS_OF_PLANS, None))
+    return opened, line, {"t.csv": "A\n1\n", "q.bq": bouquet_file(contours, PLANS, "0")}, last
+
+
+def tried_plans(contours):
+    """The contours and the plans of its executions under budgets."""
+    for place, text in enumerate(itertools.islice(itertools.cycle(plan_texts()), contours * PLANS)):
+        yield place // PLANS + 1, text
+
+
+def free_executions(part):
+    """RUN, and TURNS of the most jobs, of which each takes a turn for each execution."""
+    def end(contours, last):
+        return f"A,A,A,A,A,A\n1,1,1,1,1,1\n-- rows=1 work=81 runs={contours * PLANS + 1} contour=0 plan={last}\n"
+
+    def turns(contour, text, spent):
+        return "".join(f"-- turn job={job} contour={contour} plan={text} spent={spent}\n" for job in range(1, JOBS + 1))
+
+    contours = max(1, CONTOURS // part)
+    opened, line, files, last = free_bouquet(contours)
+    yield Trial("RUN", f"{opened}RUN Z;\n", line + end(contours, last), "last", files=files, sized=True)
+    contours = max(1, CONTOURS // JOBS_PART // part)
+    opened, line, files, last = free_bouquet(contours)
+    tried = (turns(contour, text, 0) for contour, text in tried_plans(contours))
+    answer = joined(line, tried, turns(0, last, 81), repeated(end(contours, last), JOBS))
+    script = f"{opened}TURNS {', '.join(['Z'] * JOBS)};\n"
+    yield Trial(f"TURNS of {JOBS} jobs", script, answer, "turn", files=files, sized=True)
+
+
+def skips(part):
+    """LEARN: its first execution rules out no point, and the contours have no frontier, so each other one is skipped."""
+    contours = max(1, CONTOURS // part)
+    opened, line, files, last = free_bouquet(contours)
+    skipped = (f"-- skip contour={contour} plan={text} point=-\n" for contour, text in tried_plans(contours))
+    end = f"-- rows=1 work=81 runs=2 contour=0 plan={last}\n"
+    answer = joined(line, "A,A,A,A,A,A\n1,1,1,1,1,1\n", itertools.islice(skipped, 1, None), end)
+    yield Trial("LEARN", f"{opened}LEARN Z;\n", answer, "skip", files=files, sized=True)
 
 
 # Names.
@@ -851,8 +942,13 @@ EXTREMES = {
     "combinations": combinations,
     "collisions": collisions,
     "conditions": conditions,
+    "long-runs": long_runs,
+    "long-units": long_units,
     "wide": wide_rows,
+    "many-rows": many_rows,
     "plans": plans,
+    "free-executions": free_executions,
+    "skips": skips,
     "names": names,
     "folder": folder_faults,
     "outputs": outputs,
@@ -969,7 +1065,7 @@ def kill_in_save(trial, program, folder, script):
 
 
 def run(trial, program):
-    """Runs a trial. Returns what differs or None, its seconds, its peak memory and the bytes of its input."""
+    """Runs a trial. Returns what differs or None, its seconds, its peak memory, and the bytes of its input and answer."""
     folder = tempfile.mkdtemp(prefix="extremes-")
     outside = tempfile.mkdtemp(prefix="extremes-")
     script, output, errors = (os.path.join(outside, it) for it in ("script.sql", "output", "errors"))
@@ -1015,7 +1111,8 @@ def run(trial, program):
         found.append(trial.left(folder))
         found.append(wrong_line(errors, status))
         differs = "; ".join(filter(None, found)) or None
-        return differs, usage.ru_utime + usage.ru_stime, usage.ru_maxrss * 1024, size
+        printed = os.path.getsize(output) if trial.output == "file" else 0
+        return differs, usage.ru_utime + usage.ru_stime, usage.ru_maxrss * 1024, size, printed
     finally:
         if os.path.ismount(os.path.join(folder, "small")):
             subprocess.run(["umount", os.path.join(folder, "small")], check=True)
@@ -1026,7 +1123,7 @@ def run(trial, program):
 def show(extreme, trial, program, halves, rules):
     """Runs a trial, and its half if it has one, prints a line, and returns how many findings there are."""
     try:
-        differs, seconds, memory, size = run(trial, program)
+        differs, seconds, memory, size, printed = run(trial, program)
     except PermissionError:
         print(f"{extreme} | {trial.name} | left out: it needs root", flush=True)
         return 0
@@ -1034,7 +1131,7 @@ def show(extreme, trial, program, halves, rules):
     times = ""
     half = next((it for it in halves if it.name == trial.name), None) if trial.sized else None
     if half:
-        half_differs, half_seconds, _, _ = run(half, program)
+        half_differs, half_seconds, *_ = run(half, program)
         if half_differs:
             findings.append(f"of half the size: {half_differs}")
         times = f"{seconds / max(half_seconds, 0.001):.1f}"
@@ -1043,7 +1140,7 @@ def show(extreme, trial, program, halves, rules):
     if memory > FROM_MEMORY and memory > FAR_ABOVE * size:
         findings.append(f"{memory / max(size, 1):.0f} times the memory of the input")
     print(f"{extreme} | {trial.name} | status {trial.status} | {seconds:.2f} s | {times} | {memory / 1e6:.0f} MB | "
-          f"of {size / 1e6:.1f} | {'; '.join(findings) or 'as due'}", flush=True)
+          f"of {size / 1e6:.1f} | {printed / 1e6:.1f} | {'; '.join(findings) or 'as due'}", flush=True)
     if rules:
         print(f"    {RULES[trial.rule]}")
     return len(findings)
@@ -1069,7 +1166,7 @@ def main():
         return
     program = os.path.abspath(given.program)
     findings = 0
-    print("extreme | trial | status due | seconds | times half | peak | input MB | found")
+    print("extreme | trial | status due | seconds | times half | peak | input MB | printed MB | found")
     for extreme in given.names or EXTREMES:
         halves = EXTREMES[extreme](2 * given.part)
         halves = list(halves)

@@ -10,6 +10,7 @@ use Rattle.plan_tree.specs.Enumerated.{IsPlan}
 use Rattle.plan_tree.proofs.PutPlans.{put-plan}
 use Rattle.db_catalog.specs.Database.{DatabaseState}
 use Rattle.db_catalog.specs.Meter.{MeterState}
+use Rattle.known_rows.proofs.Remembering.{remembers-on}
 use Rattle.exec_pipe.specs.Engines.{KeepsEngine, MayExecute}
 use Rattle.exec_pipe.specs.Runs.{OnlyRuns, OnlyRunsWithin}
 use Rattle.exec_pipe.specs.declared.engine.Engine.{Engine}
@@ -149,6 +150,7 @@ keeps-on first old new before after = record {
     within = subst (λ most. new.meter.now.account.spent ≤ most) before.lent.most after.leaves.within;
     leaves = stays-on first.meter.now old.meter.now new.meter.now first.space.now old.space.now new.space.now before.leaves.leaves after.leaves.leaves;
   };
+  remembers = remembers-on before.remembers after.remembers;
   lent = record {
     block = after.lent.block ∙ before.lent.block;
     most = after.lent.most ∙ before.lent.most;

@@ -40,7 +40,7 @@ pub nothing-known : (tables : List StoredTable) (block : BlockTree) → AreKnown
 nothing-known tables block = record { rows = λ set. omega (arith, none-known 64 set); entries = λ edge set. omega (arith, none-found max_axes edge set) }
 
 -- what holds at each place, and of what is put at one, holds at each place then
-once-set : {X : Type 0} (d : X) (xs : List X) (place : ℕ) (x : X) (P : ℕ → X → Type 0) → ((other : ℕ) → P other (slice_index_or xs other d)) → P place x → (other : ℕ) → P other (slice_index_or (slice_set xs place x) other d)
+pub once-set : {X : Type 0} (d : X) (xs : List X) (place : ℕ) (x : X) (P : ℕ → X → Type 0) → ((other : ℕ) → P other (slice_index_or xs other d)) → P place x → (other : ℕ) → P other (slice_index_or (slice_set xs place x) other d)
 once-set d [] place x P each here other = each other
 once-set d (y ∷ xs) zero x P each here zero = here
 once-set d (y ∷ xs) zero x P each here (suc other) = each (suc other)

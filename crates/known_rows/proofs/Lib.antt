@@ -6,3 +6,4 @@ mod Capped
 mod Nodes
 mod Tables
 pub mod Laws
+pub mod Remembering

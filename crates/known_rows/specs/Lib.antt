@@ -1,3 +1,4 @@
 pub mod Entries
 pub mod Known
 pub mod LeastWork
+pub mod Remembering
