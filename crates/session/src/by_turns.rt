@@ -67,7 +67,13 @@ fn jobs_of<'u>(alloc: Global, asked: &Asked<'u>) -> Result<Vec<Job<'u>>, AllocEr
     let all = asked.all;
     let mut jobs = Vec::new(alloc);
     for used in all {
-        jobs.push(Job::new(alloc, database, used.bouquet, &used.block, asked.max_work))?;
+        jobs.push(Job::new(
+            alloc,
+            database,
+            used.bouquet,
+            used.block.block(),
+            asked.max_work,
+        ))?;
     }
     Ok(jobs)
 }

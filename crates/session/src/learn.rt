@@ -44,7 +44,7 @@ fn print_learned(
         (bouquet_tree used.now.bouquet.now) (block_tree used.now.block)
         learned.now.skips.items (told_end learned.now.report)) }
 {
-    let mut text = rows_text(alloc, database, &used.block, rows)?;
+    let mut text = rows_text(alloc, database, used.block.block(), rows)?;
     lines::push_skips(alloc, &mut text, used.bouquet, learned.skips.as_slice())?;
     lines::push_report(alloc, &mut text, &learned.report)?;
     Ok(text)
@@ -63,7 +63,7 @@ fn learned_answer(
         result (world_of workspace.now) }
 {
     let database = workspace.database();
-    let block = &used.block;
+    let block = used.block.block();
     block.relations();
     let mut space = Space::new(alloc, block.width());
     let mut meter = Metered::new(database);

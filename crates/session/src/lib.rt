@@ -12,6 +12,7 @@ mod audit;
 mod by_turns;
 mod learn;
 mod lines;
+mod put_block;
 mod run;
 mod select;
 mod session;

@@ -36,7 +36,14 @@ impl Session {
         ensures pays { PaysAtMost max_work book.old book.new }
     {
         let ladder = Kept::new(used.bouquet);
-        block_answer(alloc, max_work, &self.workspace, ladder, &used.block, book)
+        block_answer(
+            alloc,
+            max_work,
+            &self.workspace,
+            ladder,
+            used.block.block(),
+            book,
+        )
     }
 
     /// Answers the query of the bouquet of this name with the statement's values. What it paid is entered in the book, whatever

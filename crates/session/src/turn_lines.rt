@@ -87,7 +87,7 @@ fn push_answer(
     let Some(report) = job.report() else {
         return Ok(());
     };
-    let answer = print_answer(alloc, database, &used.block, rows, report)?;
+    let answer = print_answer(alloc, database, used.block.block(), rows, report)?;
     text.extend_from_slice(&answer)
 }
 

@@ -9,10 +9,10 @@ ghost use Rattle.session.specs.Answered.{used_due};
 ghost use Rattle.session.specs.Turns.{tasks_due};
 ghost use Rattle.session.specs.Uses.{AreUsedOf, IsUsedOf, task_of_use};
 
+use crate::put_block::PutBlock;
 use crate::session::Session;
 use bouquet_type::Bouquet;
 use db_catalog::Database;
-use query_block::Block;
 use sql_parse::RunDef;
 use std::alloc::{AllocError, Global};
 use workspace::Stop;
@@ -21,7 +21,7 @@ use workspace::Stop;
 #[derive(Drop)]
 pub(crate) struct Used<'s> {
     pub(crate) bouquet: &'s Bouquet,
-    pub(crate) block: Block,
+    pub(crate) block: PutBlock<'s>,
 }
 
 /// What is asked of several jobs: the queries of bouquets over a database, each for at most so many units of work.
@@ -50,7 +50,7 @@ impl Session {
         let bouquet = self.workspace.present(&run.name)?;
         let values = run.values.as_slice();
         bouquet.block().fits_values(values)?;
-        let block = bouquet.block().put(alloc, values)?;
+        let block = PutBlock::new(alloc, bouquet.block(), values)?;
         Ok(Used { bouquet, block })
     }
 

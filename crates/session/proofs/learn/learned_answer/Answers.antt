@@ -25,7 +25,7 @@ use Rattle.session.proofs.learn.learned_answer.Goals as goal
 
 pub new-space-requires : goal.new-space-requires
 new-space-requires c = record {
-  some_words = omega (arith, c.width.ensures.width, words_some (block_tree c.args.used.now.block) c.relations.ensures.block);
+  some_words = omega (arith, c.width.ensures.width, words_some (block_tree c.block-block.result.now) c.relations.ensures.block);
   few_words = search rules;
 }
 
@@ -36,7 +36,7 @@ returns-in-Ok c =
     let whole = bouquet_tree c.args.used.now.bouquet.now in
     let block = block_tree c.args.used.now.block in
     let learned = c.in-Ok.learned in
-    let runs = c.in-Ok.ensures.answers.0 in
+    let runs = rw c.block-block.ensures at c.in-Ok.ensures.answers.0 in
     let due : DatabaseState → List Skip → RunEnd → Outcome = λ database skips end.
     if nat_le end.total c.args.max_work then Prints (learned_text database whole block skips end) 0 world else Refuses (refusal.PastWork c.args.max_work false) in
     let seen : world.database ≡ c.new-meter.result.database = is ∙ sym (ap (λ (meter : MeterState). meter.database) c.new-meter.ensures) in
@@ -60,5 +60,5 @@ returns c =
     let block = block_tree c.args.used.now.block in
     let fault : RunFault = c.in-Err.fault in
     let seen : c.new-meter.result.database ≡ world.database = ap (λ (meter : MeterState). meter.database) c.new-meter.ensures ∙ c.database-database.ensures in
-    let refuses = subst (λ (database : DatabaseState). RefusesRun c.args.max_work (learned_end whole (works_over database block)) c.learn.new.meter.account.spent fault) seen c.in-Err.ensures.answers.0 in
+    let refuses = subst (λ (database : DatabaseState). RefusesRun c.args.max_work (learned_end whole (works_over database block)) c.learn.new.meter.account.spent fault) seen (rw c.block-block.ensures at c.in-Err.ensures.answers.0) in
     rw c.stop_of_run.ensures (refused c.args.max_work world whole block _ fault refuses)

@@ -18,7 +18,7 @@ returns c =
     let skips = flat_map (skip_line (bouquet_tree c.args.used.now.bouquet.now)) learned.skips.items in
     let skipped : c.push_skips.new.text.items ≡ rows ++ skips =
     c.in_ok-push_skips.ensures
-    ∙ (λ i. c.in_ok-text.ensures i ++ flat_map (skip_line (bouquet_tree c.args.used.now.bouquet.now)) (c.as_slice.ensures.value i)) in
+    ∙ (λ i. (rw c.block.ensures at c.in_ok-text.ensures) i ++ flat_map (skip_line (bouquet_tree c.args.used.now.bouquet.now)) (c.as_slice.ensures.value i)) in
     c.in_ok-push_report.ensures
     ∙ (λ i. skipped i ++ report_line (c.requires.count i) (told_end learned.report))
     ∙ append_assoc rows skips (report_line _ (told_end learned.report))
