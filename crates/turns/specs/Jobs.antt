@@ -7,6 +7,7 @@ use Rattle.query_block.specs.Blocks.{BlockTree, IsPutOf, block_tree, width_of}
 use Rattle.query_block.specs.Shape.{BlockShape}
 use Rattle.db_catalog.specs.Database.{DatabaseState}
 use Rattle.db_catalog.specs.Meter.{MeterState}
+use Rattle.known_rows.specs.Known.{KnownState}
 use Rattle.exec_pipe.specs.Runs.{OnlyRunsWithin}
 use Rattle.exec_pipe.specs.Scenes.{IsContext}
 use Rattle.bouquet_type.specs.Cursor.{ScheduleState, members_left}
@@ -24,11 +25,12 @@ use Rattle.turns.specs.declared.progress.Progress.TheVariants.{Running, Answered
 use Rattle.turns.specs.declared.state.JobState.{JobState}
 use Rattle.turns.specs.declared.state.JobState.TheVariants as state
 
--- its meter and its two stacks; its schedule: the contours, and of that at hand how many plans were given, the budget and the
--- number; the block that is executed, and the most work; and how far it is
+-- its meter, its two stacks and what its executions learned; its schedule: the contours, and of that at hand how many plans were
+-- given, the budget and the number; the block that is executed, and the most work; and how far it is
 pub record JobShape : Type 0 where
   pub meter : MeterState
   pub space : Space
+  pub known : KnownState
   pub ladder : KeptState
   pub given : ℕ
   pub budget : Option ℕ

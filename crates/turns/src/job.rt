@@ -2,6 +2,7 @@
 ghost use Rattle.std.specs.Prelude.{◌≡◌, ◌≤◌, false, option_map};
 ghost use Rattle.query_block.specs.Blocks.{block_tree, IsPutOf};
 ghost use Rattle.db_catalog.specs.Fits.{Fits};
+ghost use Rattle.known_rows.specs.Remembering.{Remembers};
 ghost use Rattle.exec_pipe.specs.Counting.{Knows};
 ghost use Rattle.exec_pipe.specs.Runs.{OnlyRunsWithin};
 ghost use Rattle.exec_pipe.specs.Scenes.{MayRun};
@@ -56,6 +57,7 @@ fn execute_over(
     ensures leaves { OnlyRunsWithin executor.old.most executor.old.meter.now executor.new.meter.now
         space.old space.new }
     ensures known { Knows executor.old.meter.now executor.old.block.now executor.new.known.now }
+    ensures remembers { Remembers executor.old.known.now executor.new.known.now }
     ensures lent { (executor.new.meter.ghost_name ≡ executor.old.meter.ghost_name)
         × (executor.new.known.ghost_name ≡ executor.old.known.ghost_name) }
 {
@@ -95,6 +97,7 @@ impl<'d> Model for Job<'d> {
     ghost view = { λ j. record {
       meter = j.meter;
       space = j.space;
+      known = j.known;
       ladder = j.schedule.ladder;
       given = j.schedule.given;
       budget = j.schedule.budget;
@@ -107,6 +110,7 @@ impl<'d> Model for Job<'d> {
     ghost invariant = { λ j. IsJob (record {
       meter = j.meter;
       space = j.space;
+      known = j.known;
       ladder = j.schedule.ladder;
       given = j.schedule.given;
       budget = j.schedule.budget;
@@ -191,6 +195,7 @@ impl<'d> Job<'d> {
     // is broken. Where it doesn't run, nothing changes at all, and only a broken one answers an error.
     pub(crate) fn turn(&mut self, alloc: Global, number: u32) -> Result<Option<Turn>, AllocError>
         ensures takes { TakesTurn number (job_tree self.old) (job_tree self.new) result }
+        ensures remembers { Remembers self.old.known self.new.known }
         ensures idle { is_running (job_tree self.old).standing ≡ false → self.new ≡ self.old }
     {
         match self.progress {
@@ -200,10 +205,11 @@ impl<'d> Job<'d> {
         }
     }
 
-    // The next execution of a job that has taken so many turns.
+    // The next execution of a job that has taken so many turns. Nothing that it knew is forgotten.
     fn step(&mut self, alloc: Global, number: u32, place: u32) -> Result<Option<Turn>, AllocError>
         requires { self.old.progress ≡ Running place }
-        ensures { TakesTurn number (job_tree self.old) (job_tree self.new) result }
+        ensures takes { TakesTurn number (job_tree self.old) (job_tree self.new) result }
+        ensures remembers { Remembers self.old.known self.new.known }
     {
         self.schedule.next(alloc)?;
         let attempt = self.schedule.attempt();
