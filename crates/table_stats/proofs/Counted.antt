@@ -80,7 +80,7 @@ count-append test xs ys =
 -- what holds of entries in another order holds of both parts of these
 pub all-left : {X : Type 0} (P : X → Type 0) (all xs ys : List X) → IsPermutation all (xs ++ ys) → All P all → All P xs
 all-left P all xs ys same each k d there =
-    subst P (get_or_append_left xs ys k d there) (All-permutation P all (xs ++ ys) same each k d (omega (arith, there, length-append xs ys)))
+    subst P (get_or_append_left xs ys d k there) (All-permutation P all (xs ++ ys) same each k d (omega (arith, there, length-append xs ys)))
 
 pub all-right : {X : Type 0} (P : X → Type 0) (all xs ys : List X) → IsPermutation all (xs ++ ys) → All P all → All P ys
 all-right P all xs ys same each = all-left P all ys xs (IsPermutation-trans _ _ _ same (IsPermutation-append_comm xs ys)) each

@@ -32,8 +32,8 @@ returns c =
     let to : SFits w64 range.to = search rules in
     let found = c.entries_within-found.result in
     let entries : IsPermutation (filter (is_within range.from range.to) (index_at database own.table c.args.column)) (found.older.now ++ found.newer.now) = simp to_z-of_z at c.entries_within-found.ensures.entries in
-    let counted : c.len.result + c.len-2.result ≡ length (filter (is_within range.from range.to) (index_at database own.table c.args.column)) =
-    (λ i. c.len.ensures i + c.len-2.ensures i) ∙ sym (length-append found.older.now found.newer.now) ∙ length_permutation _ _ entries in
+    let counted : length found.older.now + length found.newer.now ≡ length (filter (is_within range.from range.to) (index_at database own.table c.args.column)) =
+    sym (length-append found.older.now found.newer.now) ∙ length_permutation _ _ entries in
     let finds = rw (c.as_slice-filter.ensures, c.texts.ensures.texts) at (c.range_of-range.ensures c.requires.stands.well_formed.kinds own.columns) in
     let usable = rw (c.as_slice-filter.ensures, c.as_slice.ensures) at c.has_usable.ensures in
     let some : Option ℕ = Some (matches_in database.tables own c.args.column) in
