@@ -588,12 +588,13 @@ def long_runs(part):
 
 
 def long_units(part):
-    """One conjunct of very many operands over some rows, of which one is kept."""
+    """One conjunct of very many even operands over some rows, of which all but one are odd."""
     count = UNIT_OPERANDS // part
-    rows = "A\n" + "".join(f"{-i}\n" for i in range(1, UNIT_ROWS)) + f"{count - 1}\n"
-    answer = f"-- load rows={UNIT_ROWS}\nA\n{count - 1}\n{report(UNIT_ROWS, 1)}"
-    for name, condition in {"IN": joined("A IN (", separated(",", map(str, range(count))), ")"),
-                            "OR": separated(" OR ", (f"A = {i}" for i in range(count)))}.items():
+    rows = "A\n" + "".join(f"{2 * i + 1}\n" for i in range(1, UNIT_ROWS)) + f"{2 * count - 2}\n"
+    answer = f"-- load rows={UNIT_ROWS}\nA\n{2 * count - 2}\n{report(UNIT_ROWS, 1)}"
+    evens = range(0, 2 * count, 2)
+    for name, condition in {"IN": joined("A IN (", separated(",", map(str, evens)), ")"),
+                            "OR": separated(" OR ", (f"A = {i}" for i in evens))}.items():
         script = joined(table(), "SELECT * FROM T WHERE ", condition, ";\n")
         yield Trial(f"{name} over some rows", script, answer, "rows", files={"t.csv": rows}, sized=True)
 

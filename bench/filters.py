@@ -9,7 +9,7 @@ Both are whole processes over the same file in the same run, by turns, with thei
 has two numbers and a text of 1,000 values. There are four queries of each form: a comparison, BETWEEN, IN of ten
 numbers, equality of a text, and two ANDs under an OR.
 
-Wanted: the rows are the same, and all twenty together are answered 2.5 times as fast. The status is 1 where rows differ.
+Wanted: the rows are the same, and all twenty together are answered 10 times as fast. The status is 1 where rows differ.
 """
 import os
 import random
@@ -19,7 +19,7 @@ from beside_sqlite import DATA, SEED, arguments, beside, first_difference, write
 
 FORMS = 5
 QUERIES_OF_A_FORM = 4
-TIMES = 2.5
+TIMES = 10
 MOST_A = 10**6
 MOST_B = 10**4
 CREATED = "CREATE TABLE T (A INTEGER, B INTEGER, S {});\n"
