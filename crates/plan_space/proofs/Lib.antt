@@ -13,6 +13,7 @@ pub mod FrontierPoints
 pub mod HeldPlans
 pub mod PartNumbers
 pub mod PartCosts
+pub mod PartSums
 pub mod Added
 pub mod RowsKept
 pub mod Lower

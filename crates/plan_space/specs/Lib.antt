@@ -11,4 +11,5 @@ pub mod Places
 pub mod CostedPlans
 -- what only proofs need
 pub mod Parts
+pub mod PartSums
 pub mod PlanCodes

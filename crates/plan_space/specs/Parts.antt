@@ -1,5 +1,5 @@
 -- The parts of some plans, each a number from 0: a node over parts before it.
-use Rattle.std.specs.Prelude.{◌≡◌, ℕ, ◌+◌, ◌<◌, ◌≤◌, List, [], ◌∷◌, ◌++◌, length, slice_index, slice_index_or, take}
+use Rattle.std.specs.Prelude.{◌≡◌, ℕ, ◌<◌, ◌≤◌, List, [], ◌∷◌, ◌++◌, length, slice_index, slice_index_or, take}
 use Rattle.query_block.specs.Shape.{BlockShape}
 use Rattle.query_block.specs.Blocks.{BlockTree}
 use Rattle.plan_tree.specs.Plans.{PlanTree, Scan, IndexScan, Nest, Hash, Merge, IndexLoop, covers_of}
@@ -10,7 +10,6 @@ use Rattle.plan_tree.specs.Roots.{root_of}
 use Rattle.cost_model.specs.Costing.{costing_tree}
 use Rattle.cost_model.specs.Costs.{cost_of}
 use Rattle.cost_model.specs.Pricing.{Pricing}
-use Rattle.cost_model.specs.Prices.{own_at}
 use Rattle.plan_space.specs.declared.node.Node.{Node}
 
 -- parts of plans of a block, in the order of their numbers
@@ -86,16 +85,3 @@ pub record KeepsParts (before after : PartsShape) : Type 0 where
 abbrev pub ArePartCosts : Pricing → (parts : List PlanTree) → (costs : List ℕ) → (end : ℕ) → Type 0
 ArePartCosts at parts costs end =
     (number : ℕ) → number < end → slice_index costs number ≡ cost_of (costing_tree at.costing) (nth_plan parts number) at.point
-
--- what the node of a part costs by itself
-abbrev pub own_part : Pricing → (parts : List PlanTree) → (number : ℕ) → ℕ
-own_part at parts number = own_at at (root_of (nth_plan parts number)) (covers_of (nth_plan parts number))
-
--- what the sides of a node cost
-abbrev pub sides_cost : Root → (costs : List ℕ) → (left right : ℕ) → ℕ
-sides_cost (root.Scan relation) costs left right = 0
-sides_cost (root.IndexScan relation column) costs left right = 0
-sides_cost (root.Nest set) costs left right = slice_index costs left + slice_index costs right
-sides_cost (root.Hash edge set) costs left right = slice_index costs left + slice_index costs right
-sides_cost (root.Merge edge set) costs left right = slice_index costs left + slice_index costs right
-sides_cost (root.IndexLoop edge set relation) costs left right = slice_index costs left

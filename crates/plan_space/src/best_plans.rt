@@ -10,10 +10,10 @@ ghost use Rattle.plan_space.specs.Table.{AllStand};
 ghost use Rattle.plan_space.specs.Alike.{AreEarlier, LeastAt};
 
 use crate::alike::axes_inside_sets;
-use crate::entry::Entry;
+use crate::entry::{Entry, no_entries};
 use crate::kept_rows::KeptRows;
 use crate::sets::set_of_all;
-use crate::table::filled;
+use crate::table::fill;
 use cost_model::{Costing, PriceRoom, Prices};
 use sql_values::MAX_AXES;
 use std::alloc::{AllocError, Global};
@@ -28,6 +28,8 @@ pub(crate) struct BestPlans<'c> {
     // The entries of all sets at the points that were asked for.
     rows: KeptRows,
     room: PriceRoom,
+    // Lent to each point that is looked at.
+    table: [Entry; 64],
 }
 
 impl<'c> Model for BestPlans<'c> {
@@ -45,20 +47,21 @@ impl<'c> Model for BestPlans<'c> {
     ghost invariant = { λ best. AreEarlierPoints best.costing.now best.inside best.rows };
 }
 
-// The entries at the point at this place, where these rows are kept.
-fn found_row(
+// Fills a table with the entries at the point at this place, where these rows are kept.
+fn fill_at(
     costing: &Costing<'_>,
     room: &mut PriceRoom,
     inside: &[[bool; MAX_AXES]; 64],
     rows: &KeptRows,
     place: usize,
-) -> [Entry; 64]
+    table: &mut [Entry; 64],
+)
     requires earlier { AreEarlier costing.now inside.now rows.now }
     requires place { place < length (points_of costing.now.grid) }
-    ensures { HoldsAt costing.now.grid place (LeastAt costing.now result) }
+    ensures { HoldsAt costing.now.grid place (LeastAt costing.now table.new) }
 {
     let q = costing.grid().point(place);
-    filled(&Prices::new(costing, &q, room), inside, rows)
+    fill(&Prices::new(costing, &q, room), inside, rows, table);
 }
 
 impl<'c> BestPlans<'c> {
@@ -73,6 +76,7 @@ impl<'c> BestPlans<'c> {
             inside,
             rows,
             room: PriceRoom::new(),
+            table: no_entries(),
         })
     }
 
@@ -94,7 +98,16 @@ impl<'c> BestPlans<'c> {
             return *row;
         }
         let mut room = PriceRoom::new();
-        found_row(self.costing, &mut room, &self.inside, &self.rows, place)
+        let mut table = no_entries();
+        fill_at(
+            self.costing,
+            &mut room,
+            &self.inside,
+            &self.rows,
+            place,
+            &mut table,
+        );
+        table
     }
 
     /// What the best plan costs at the point at this place of the grid, from 0: the optimal cost there. What is found is kept.
@@ -110,8 +123,15 @@ impl<'c> BestPlans<'c> {
         if let Some(row) = self.rows.row(place) {
             return Ok(row[all.number() as usize].cost);
         }
-        let row = found_row(costing, &mut self.room, &self.inside, &self.rows, place);
-        self.rows.keep(place, &row)?;
-        Ok(row[all.number() as usize].cost)
+        fill_at(
+            costing,
+            &mut self.room,
+            &self.inside,
+            &self.rows,
+            place,
+            &mut self.table,
+        );
+        self.rows.keep(place, &self.table)?;
+        Ok(self.table[all.number() as usize].cost)
     }
 }

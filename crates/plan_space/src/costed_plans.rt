@@ -10,6 +10,8 @@ ghost use Rattle.cost_model.specs.Costs.{cost_of};
 ghost use Rattle.plan_space.specs.Parts.{nth_plan};
 ghost use Rattle.plan_space.specs.CostedPlans.{AreNumbersOf, HoldsPlans, costed_at};
 
+use crate::part_costs::fill_own_costs;
+use crate::part_sums::PartSums;
 use crate::parts::Parts;
 use cost_model::{Costing, PriceRoom, Prices};
 use ess_grid::Point;
@@ -24,9 +26,11 @@ pub struct CostedPlans<'c> {
     parts: Parts<'c>,
     // The number of each plan among the parts.
     numbers: Vec<usize>,
-    // For each part one that may have the same node over the same sets.
-    likes: Vec<usize>,
-    // What the parts cost at the point; 0 where there is none.
+    // The parts as sums.
+    sums: PartSums,
+    // What nodes cost by themselves at the point; 0 where there is none.
+    own_costs: Vec<u128>,
+    // What the parts cost there, and 0 behind them.
     costs: Vec<u128>,
     room: PriceRoom,
     point: Option<Point>,
@@ -50,7 +54,8 @@ impl<'c> Model for CostedPlans<'c> {
       point = c.point;
     } };
 
-    ghost invariant = { λ c. KeepsCosts c.costing.now c.parts c.numbers.items c.costs.items c.point };
+    ghost invariant = { λ c. KeepsCosts c.costing.now c.parts c.sums c.numbers.items
+        c.own_costs.items c.costs.items c.point };
 }
 
 // The number of each of some plans among the parts, in their order. Parts that aren't there are added.
@@ -85,13 +90,15 @@ impl<'c> CostedPlans<'c> {
         let block = costing.block();
         let mut parts = Parts::new(alloc, block, plans.len())?;
         let numbers = numbers_of(alloc, &mut parts, plans)?;
-        let likes = parts.likes(alloc)?;
-        let costs = vec![in alloc; 0; parts.count()]?;
+        let sums = parts.sums(alloc)?;
+        let own_costs = vec![in alloc; 0; sums.nodes.len()]?;
+        let costs = vec![in alloc; 0; sums.parts.len() + 1]?;
         Ok(CostedPlans {
             costing,
             parts,
             numbers,
-            likes,
+            sums,
+            own_costs,
             costs,
             room: PriceRoom::new(),
             point: None,
@@ -104,8 +111,18 @@ impl<'c> CostedPlans<'c> {
         ensures { self.new ≡ costed_at self.old q.now }
     {
         let prices = Prices::new(self.costing, q, &mut self.room);
-        self.parts
-            .fill_costs(&prices, self.likes.as_slice(), self.costs.as_mut_slice());
+        fill_own_costs(
+            &prices,
+            self.sums.nodes.as_slice(),
+            self.own_costs.as_mut_slice(),
+        );
+        self.parts.fill_costs(
+            &prices,
+            self.sums.nodes.as_slice(),
+            self.sums.parts.as_slice(),
+            self.own_costs.as_slice(),
+            self.costs.as_mut_slice(),
+        );
         self.point = Some(*q);
     }
 

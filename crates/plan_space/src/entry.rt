@@ -15,6 +15,14 @@ pub(crate) struct Entry {
     pub(crate) root: Root,
 }
 
+/// The entries of a table that isn't filled yet.
+pub(crate) fn no_entries() -> [Entry; 64] {
+    [Entry {
+        cost: 0,
+        root: Root::Scan(0),
+    }; 64]
+}
+
 // What plan order compares of an outermost node.
 fn root_numbers(root: Root) -> [u8; 5]
     ensures { result ≡ root_numbers root }

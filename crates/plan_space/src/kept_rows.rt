@@ -67,7 +67,7 @@ impl KeptRows {
         ensures same { OnErr result (self.new ≡ self.old) }
     {
         let number = self.rows.len();
-        self.rows.push(*row)?;
+        self.rows.extend_from_slice(std::slice::from_ref(row))?;
         self.numbers[place] = Some(number);
         Ok(())
     }

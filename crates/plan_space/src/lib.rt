@@ -18,6 +18,7 @@ mod leaves;
 mod node;
 mod outlook;
 mod part_costs;
+mod part_sums;
 mod parts;
 mod reach;
 mod reached;

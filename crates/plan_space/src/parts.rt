@@ -26,7 +26,7 @@ pub(crate) struct Parts<'b> {
     block: &'b Block,
     pub(crate) nodes: Vec<Node>,
     // The part that was added last to each bucket. Where there is none, a number that is no part.
-    latest: Vec<usize>,
+    pub(crate) latest: Vec<usize>,
 }
 
 impl<'b> Model for Parts<'b> {
@@ -71,8 +71,8 @@ fn root_number(root: Root) -> usize {
     }
 }
 
-// The bucket of a node, of so many: bits from the middle of products.
-fn bucket_of(node: &Node, buckets: usize) -> usize
+/// The bucket of a node, of so many: bits from the middle of products.
+pub(crate) fn bucket_of(node: &Node, buckets: usize) -> usize
     requires { 1 ≤ buckets }
     ensures { result < buckets }
 {
@@ -85,39 +85,6 @@ fn bucket_of(node: &Node, buckets: usize) -> usize
     (hash >> 40) & (buckets - 1)
 }
 
-// The set of the left side of a node; 0 where there is none.
-fn left_set(root: Root) -> u8 {
-    match root {
-        Root::Scan(_) | Root::IndexScan(..) => 0,
-        Root::Nest(left) | Root::Hash(_, left) | Root::Merge(_, left) => left,
-        Root::IndexLoop(_, left, _) => left,
-    }
-}
-
-// A part that may have the same node over the same sets as this one: the last of its bucket that wasn't like the one before it.
-// These are the parts of the buckets.
-fn like_of(nodes: &[Node], number: usize, buckets: &mut [usize]) -> usize
-    requires number { number < length nodes.now }
-    requires some { 1 ≤ length buckets.old }
-    ensures long { length buckets.new ≡ length buckets.old }
-{
-    let node = nodes[number];
-    let sets = Node {
-        left: usize::from(left_set(node.root)),
-        right: usize::from(node.set),
-        ..node
-    };
-    let bucket = bucket_of(&sets, buckets.len());
-    if let Some(other) = nodes.get(buckets[bucket])
-        && other.root == node.root
-        && other.set == node.set
-    {
-        return buckets[bucket];
-    }
-    buckets[bucket] = number;
-    number
-}
-
 // Whether two nodes are the same, wherever they are found.
 fn is_same(node: &Node, other: &Node) -> bool
     ensures { IsTrue result → IsSameNode node.now other.now }
@@ -128,8 +95,8 @@ fn is_same(node: &Node, other: &Node) -> bool
         && node.right == other.right
 }
 
-// The number of the node that is the same, among those of a chain that begins at this number.
-fn find(nodes: &[Node], node: &Node, first: usize) -> Option<usize>
+/// The number of the node that is the same, among those of a chain that begins at this number.
+pub(crate) fn find(nodes: &[Node], node: &Node, first: usize) -> Option<usize>
     ensures exists { IfSome result (λ number. number < length nodes.now) }
     ensures same { IfSome result (λ number. IsSameNode (node_at nodes.now number) node.now) }
 {
@@ -202,17 +169,6 @@ impl<'b> Parts<'b> {
         ensures { result ≡ length self.now.plans }
     {
         self.nodes.len()
-    }
-
-    /// For each part one that may have the same node over the same sets: who uses it has to look. The only error is out of memory.
-    pub(crate) fn likes(&self, alloc: Global) -> Result<Vec<usize>, AllocError> {
-        let nodes = self.nodes.as_slice();
-        let mut buckets = vec![in alloc; usize::MAX; self.latest.len()]?;
-        let mut likes = Vec::with_capacity(alloc, nodes.len())?;
-        for number in 0..nodes.len() {
-            likes.push(like_of(nodes, number, buckets.as_mut_slice()))?;
-        }
-        Ok(likes)
     }
 
     // The relations of a part.

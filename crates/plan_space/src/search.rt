@@ -11,10 +11,10 @@ ghost use Rattle.plan_space.specs.Alike.{AreInsideSets};
 ghost use Rattle.plan_space.specs.Table.{AllStand, Follows, HasEntry, IsToldPlan};
 
 use crate::alike::axes_inside_sets;
-use crate::entry::Entry;
+use crate::entry::{Entry, no_entries};
 use crate::kept_rows::KeptRows;
 use crate::sets::set_of_all;
-use crate::table::filled;
+use crate::table::fill;
 use cost_model::{Costing, PriceRoom, Prices};
 use ess_grid::Point;
 use plan_tree::{Plan, Root, Subset};
@@ -133,7 +133,8 @@ fn best_at(
         found.1 ≡ optimal_cost (costing_tree prices.now.costing) prices.now.point) }
 {
     let block = prices.block();
-    let table = filled(prices, inside, &KeptRows::none(alloc));
+    let mut table = no_entries();
+    fill(prices, inside, &KeptRows::none(alloc), &mut table);
     let all = set_of_all(block);
     let p = rebuilt(alloc, block, &table, all)?;
     Ok((p, table[all.number() as usize].cost))

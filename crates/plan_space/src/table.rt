@@ -90,27 +90,24 @@ impl Filling<'_> {
     }
 }
 
-/// The entries of all sets of the block's relations, where these are the axes inside the sets and the rows that are kept.
-pub(crate) fn filled(
+/// Fills a table with the entries of all sets of the block's relations, where these are the axes inside the sets and the rows that
+/// are kept. What is in the table before doesn't matter.
+pub(crate) fn fill(
     prices: &Prices<'_>,
     inside: &[[bool; MAX_AXES]; 64],
     rows: &KeptRows,
-) -> [Entry; 64]
+    table: &mut [Entry; 64],
+)
     requires { AreEarlier prices.now.costing inside.now rows.now }
     ensures { let block = block_at prices.now in
-        AreLeast (own_at prices.now) block result (2 ^ length block.relations) }
+        AreLeast (own_at prices.now) block table.new (2 ^ length block.relations) }
 {
-    let mut table = [Entry {
-        cost: 0,
-        root: Root::Scan(0),
-    }; 64];
     let filling = Filling {
         prices,
         inside,
         rows,
     };
     for relation in 0..prices.block().relations().len() {
-        filling.add_relation(&mut table, relation as u8);
+        filling.add_relation(table, relation as u8);
     }
-    table
 }

@@ -25,11 +25,11 @@ returns-in-Some-clause-cost c =
 pub returns-clause-cost : goal.returns-clause-cost
 returns-clause-cost c =
     let costing = c.self.inside.costing.now in
-    let row = c.found_row-row.result in
+    let row = c.fill_at.new.table in
     let all = c.set_of_all-all.ensures.all ∙ ap (λ block. 2 ^ length (block_tree block).relations - 1) c.block.ensures.block in
     subst (λ (one : CostingShape). HoldsAt one.grid c.args.place (λ q. (entry_at row c.number-2.result).cost ≡ optimal_cost (costing_tree one) q)) c.self.view_is
     (λ point there. ap (λ set. (entry_at row set).cost) c.number-2.ensures
-    ∙ (entry-optimal (record { costing = costing; point = point }) row c.set_of_all-all.result c.block.ensures.costing (c.found_row-row.ensures point there) all).0)
+    ∙ (entry-optimal (record { costing = costing; point = point }) row c.set_of_all-all.result c.block.ensures.costing (c.fill_at.ensures point there) all).0)
 
 pub invariant_of-self-2 : goal.invariant_of-self-2
 invariant_of-self-2 c =
@@ -41,7 +41,7 @@ invariant_of-self-2 c =
     record {
       earlier = record {
         axes = is.earlier.axes;
-        tables = subst (AreLeastRows costing) (sym c.in_ok-keep.ensures.kept) (add-row costing best.rows c.found_row-row.result c.args.place within is.earlier.tables c.found_row-row.ensures);
+        tables = subst (AreLeastRows costing) (sym c.in_ok-keep.ensures.kept) (add-row costing best.rows c.fill_at.new.table c.args.place within is.earlier.tables c.fill_at.ensures);
       };
-      places = ap length c.in_ok-keep.ensures.kept ∙ length-set best.rows c.args.place (Some c.found_row-row.result) ∙ is.places;
+      places = ap length c.in_ok-keep.ensures.kept ∙ length-set best.rows c.args.place (Some c.fill_at.new.table) ∙ is.places;
     }

@@ -24,7 +24,7 @@ returns-in-Some-clause-stands c =
 
 pub returns-clause-least : goal.returns-clause-least
 returns-clause-least c =
-    subst (λ (costing : CostingShape). HoldsAt costing.grid c.args.place (LeastAt costing c.found_row.result)) c.self.view_is c.found_row.ensures
+    subst (λ (costing : CostingShape). HoldsAt costing.grid c.args.place (LeastAt costing c.fill_at.new.table)) c.self.view_is c.fill_at.ensures
 
 pub returns-clause-stands : goal.returns-clause-stands
 returns-clause-stands c =

@@ -3,7 +3,7 @@ use Rattle.std.proofs.Math.ListN.{length-map}
 use Rattle.query_block.specs.Blocks.{relation_tree}
 use Rattle.plan_space.specs.Table.{AreLeast}
 use Rattle.cost_model.specs.Prices.{own_at, block_at}
-use Rattle.plan_space.proofs.table.filled.Goals as goal
+use Rattle.plan_space.proofs.table.fill.Goals as goal
 
 pub returns : goal.returns
 returns c =
