@@ -1,6 +1,6 @@
 -- The steps of the loops: candidates are gathered, the first of them is sought, and turns follow one another.
-use Rattle.std.proofs.Common.{◌≡◌, ℕ, suc, ◌+◌, ◌-◌, ◌*◌, ◌<◌, ◌≤◌, List, [], ◌∷◌, ◌++◌, All, length, map, refl, sym, ap, ◌∙◌, subst, arith, map-id}
-use Rattle.std.specs.Prelude.{Bool, true, false, not, count_by, filter, slice_index_or}
+use Rattle.std.proofs.Common.{◌≡◌, ℕ, suc, ◌+◌, ◌-◌, ◌*◌, ◌<◌, ◌≤◌, List, [], ◌∷◌, ◌++◌, All, length, map, take, drop, refl, sym, ap, ◌∙◌, subst, arith, map-id}
+use Rattle.std.specs.Prelude.{Bool, true, false, not, count_by, filter, slice_index_or, if◌then◌else◌}
 use Rattle.std.specs.List.{range_with_len}
 use Rattle.std.specs.Ordering.{is_gt, ordering_reverse}
 use Rattle.std.specs.Cmp.{IsTotalOrder}
@@ -9,7 +9,11 @@ use Rattle.std.specs.declared.cmp.Ordering.TheVariants.{Less, Equal, Greater}
 use borrow.Author.Count.{below_more}
 use Rattle.std.proofs.lemmas.Bool.{true≢false}
 use Rattle.std.proofs.lemmas.Cmp.{upto, tied_itself, nat_cmp_total, on_total, then_total, back_total}
-use Rattle.std.proofs.lemmas.List.{get_or-map, get_or-drop, length-map, map-append, append_assoc}
+use Rattle.std.proofs.Math.ListN.{drop_of_length-le}
+use Rattle.std.proofs.Math.Seq.{take-append_seam}
+use Rattle.std.proofs.lemmas.List.{get_or-map, get_or-drop, length-map, map-append, append_assoc, append-nil, take_all, drop_more}
+use Rattle.std.proofs.lemmas.List.Elements.{filter_more}
+use Rattle.std.proofs.lemmas.List.Sums.{sum_by-append, sum_by-cons}
 use Rattle.std.proofs.lemmas.List.Filters.{FiltersInPlace}
 use Rattle.std.proofs.lemmas.List.FromFn.{fill_by_all, get_or-range_with_len, length-range_with_len, map-range_with_len_more}
 use Rattle.plan_tree.specs.declared.plan.Plan.{Plan}
@@ -23,7 +27,7 @@ use Rattle.cost_model.specs.Optimal.{best_plan}
 use Rattle.cost_model.proofs.BestPlans.{best-only}
 use Rattle.cost_model.proofs.Covers.{greedy-same}
 use Rattle.plan_space.specs.FrontierPlans.{HoldsBest, nth_point}
-use Rattle.anorexic.specs.Turns.{AreCoverCounts, IsCoverTable, is_marked, cover_order, plan_at, turn_order}
+use Rattle.anorexic.specs.Turns.{AreCoverCounts, AreMore, IsCoverCounted, IsCoverTable, IsCoverRow, is_marked, cover_order, plan_at, turn_order}
 use Rattle.anorexic.proofs.Turns.{one-turn}
 
 -- ---- the first candidate
@@ -87,6 +91,66 @@ pub row-there : (table : List Bool) (width : ℕ) (test : ℕ → Bool) (xs ys :
     → FiltersInPlace test xs ys kept i → i < length xs → place ≡ slice_index_or ys i place → place * width + width ≤ length table
 row-there table width test xs ys kept i place rows is below at =
     subst (λ one. one * width + width ≤ length table) (sym (at ∙ still-there test xs ys kept i place is)) (rows i place below)
+
+-- the places that are kept of the first so many, and the rest
+abbrev pub kept_of : (test : ℕ → Bool) (xs : List ℕ) (i : ℕ) → List ℕ
+kept_of test xs i = filter test (take i xs) ++ drop i xs
+
+pub kept-all : (test : ℕ → Bool) (xs : List ℕ) (i : ℕ) → length xs ≤ i → kept_of test xs i ≡ filter test xs
+kept-all test xs i whole = (λ k. filter test (take_all i xs whole k) ++ drop_of_length-le xs whole k) ∙ append-nil (filter test xs)
+
+-- one that is kept changes nothing
+pub kept-more : (test : ℕ → Bool) (xs : List ℕ) (i d : ℕ) → i < length xs → test (slice_index_or xs i d) ≡ true → kept_of test xs (i + 1) ≡ kept_of test xs i
+kept-more test xs i d less is =
+    let x = slice_index_or xs i d in
+    let front = filter_more test xs i d less ∙ ap (λ b. filter test (take i xs) ++ (if b then x ∷ [] else [])) is in
+    ap (λ all. all ++ drop (i + 1) xs) front
+    ∙ append_assoc (filter test (take i xs)) (x ∷ []) (drop (i + 1) xs)
+    ∙ ap (λ all. filter test (take i xs) ++ all) (sym (drop_more xs i d less))
+
+-- one that isn't is no longer counted
+pub kept-less : (test other : ℕ → Bool) (xs : List ℕ) (i d : ℕ) → i < length xs → test (slice_index_or xs i d) ≡ false
+    → count_by other (kept_of test xs i) ≡ count_by other (kept_of test xs (i + 1)) + (if other (slice_index_or xs i d) then 1 else 0)
+kept-less test other xs i d less is =
+    let x = slice_index_or xs i d in
+    let one = λ (place : ℕ). if other place then 1 else 0 in
+    let front = filter_more test xs i d less ∙ ap (λ b. filter test (take i xs) ++ (if b then x ∷ [] else [])) is ∙ append-nil (filter test (take i xs)) in
+    let before = sum_by-append one (filter test (take i xs)) (drop i xs) in
+    let after = sum_by-append one (filter test (take (i + 1) xs)) (drop (i + 1) xs) in
+    let same = ap (count_by other) front in
+    let rest = ap (count_by other) (drop_more xs i d less) ∙ sum_by-cons one x (drop (i + 1) xs) in
+    omega (arith, before, after, same, rest)
+
+-- the next place, that isn't kept, is counted still
+counted-still : (test : ℕ → Bool) (table row : List Bool) (xs counts : List ℕ) (i place : ℕ) → i < length xs → place ≡ slice_index_or xs i place → test place ≡ false
+    → IsCoverRow table (length counts) place row → AreCoverCounts table (kept_of test xs i) counts → (candidate : ℕ) → candidate < length counts
+    → slice_index_or counts candidate 0
+    ≡ count_by (is_marked table (length counts) candidate) (kept_of test xs (i + 1)) + (if slice_index_or row candidate false then 1 else 0)
+counted-still test table row xs counts i place less at is its are candidate few =
+    let mark = is_marked table (length counts) candidate in
+    are candidate few
+    ∙ kept-less test mark xs i place less (ap test (sym at) ∙ is)
+    ∙ ap (λ b. count_by mark (kept_of test xs (i + 1)) + (if b then 1 else 0)) (ap mark (sym at) ∙ sym (its.tests candidate few))
+
+pub row-counted : (test : ℕ → Bool) (table row : List Bool) (xs counts : List ℕ) (i place : ℕ) → i < length xs → place ≡ slice_index_or xs i place → test place ≡ false
+    → IsCoverRow table (length counts) place row → AreCoverCounts table (kept_of test xs i) counts → IsCoverCounted row counts
+row-counted test table row xs counts i place less at is its are candidate few =
+    omega (arith, counted-still test table row xs counts i place less at is its are candidate (omega (arith, few, its.long)))
+
+-- and then no longer
+pub row-subtracted : (test : ℕ → Bool) (table row : List Bool) (xs counts fewer : List ℕ) (i place : ℕ) → i < length xs → place ≡ slice_index_or xs i place → test place ≡ false
+    → IsCoverRow table (length counts) place row → AreCoverCounts table (kept_of test xs i) counts → AreMore row fewer counts → length fewer ≡ length counts
+    → AreCoverCounts table (kept_of test xs (i + 1)) fewer
+row-subtracted test table row xs counts fewer i place less at is its are more long candidate few =
+    let short : candidate < length counts = omega (arith, few, long) in
+    let before = counted-still test table row xs counts i place less at is its are candidate short in
+    let after = more candidate (omega (arith, short, its.long)) in
+    let same : slice_index_or fewer candidate 0 ≡ count_by (is_marked table (length counts) candidate) (kept_of test xs (i + 1)) = omega (arith, before, after) in
+    same ∙ ap (λ width. count_by (is_marked table width candidate) (kept_of test xs (i + 1))) (sym long)
+
+-- what a vector holds whose items were lent
+pub lent-back : (len : ℕ) (lent items : List ℕ) → len ≡ length lent → take len (lent ++ drop (length lent) items) ≡ lent
+lent-back len lent items long = ap (λ n. take n (lent ++ drop (length lent) items)) long ∙ take-append_seam lent (drop (length lent) items)
 
 -- ---- turns
 

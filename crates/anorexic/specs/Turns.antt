@@ -1,5 +1,5 @@
 -- What the turns of greedy reduction keep: a table of who covers what, and the places of the points that no plan covers yet.
-use Rattle.std.specs.Prelude.{◌≡◌, ℕ, ◌+◌, ◌*◌, ◌<◌, All, Bool, false, List, count_by, if◌then◌else◌, length, map, slice_index_or}
+use Rattle.std.specs.Prelude.{◌≡◌, ℕ, ◌+◌, ◌*◌, ◌<◌, ◌≤◌, All, Bool, false, List, count_by, if◌then◌else◌, length, map, slice_index_or}
 use Rattle.std.specs.List.{flat_map}
 use Rattle.std.specs.Ordering.{nat_cmp, ordering_then}
 use Rattle.std.specs.declared.cmp.Ordering.{Ordering}
@@ -26,11 +26,21 @@ IsCoverTable costing threshold points plans table = table ≡ flat_map (cover_ro
 abbrev pub is_marked : (table : List Bool) → (width candidate place : ℕ) → Bool
 is_marked table width candidate place = slice_index_or table (place * width + candidate) false
 
+-- the tests of the point at a place
+pub record IsCoverRow (table : List Bool) (width place : ℕ) (row : List Bool) : Type 0 where
+  pub long : length row ≡ width
+  pub tests : (candidate : ℕ) → candidate < width → slice_index_or row candidate false ≡ is_marked table width candidate place
+
 -- these are the counts, one more for each candidate that the row of a point marks
 abbrev pub AreMore : (row : List Bool) → (counts more : List ℕ) → Type 0
 AreMore row counts more =
     (candidate : ℕ) → candidate < length row
     → slice_index_or more candidate 0 ≡ slice_index_or counts candidate 0 + (if slice_index_or row candidate false then 1 else 0)
+
+-- the point of this row is among those that are counted: each candidate that the row marks has a count
+abbrev pub IsCoverCounted : (row : List Bool) → (counts : List ℕ) → Type 0
+IsCoverCounted row counts =
+    (candidate : ℕ) → candidate < length row → (if slice_index_or row candidate false then 1 else 0) ≤ slice_index_or counts candidate 0
 
 -- each candidate covers so many of the open points
 abbrev pub AreCoverCounts : (table : List Bool) → (uncovered counts : List ℕ) → Type 0

@@ -11,7 +11,7 @@ ghost use Rattle.plan_space.specs.FrontierPlans.{AreFrontierPlans};
 ghost use Rattle.anorexic.specs.Turns.{AreTaken, plan_at};
 
 use crate::cover::cover_table;
-use crate::turn::{close, first_candidate};
+use crate::turn::{close, count_points, first_candidate};
 use cost_model::{Costing, FrontierPoint};
 use plan_space::{CostedPlans, FrontierPlans, SurfacePoint};
 use plan_tree::{Plan, copy};
@@ -43,17 +43,19 @@ fn turns(
     let mut taken = Vec::new(alloc);
     let mut uncovered = all_places(alloc, points)?;
     let mut counts = vec![in alloc; 0; candidates.len()]?;
+    count_points(counts.as_mut_slice(), table, uncovered.as_slice());
     for _turn in 0..points {
         if uncovered.is_empty() {
             return Ok(taken);
         }
-        let candidate = first_candidate(
-            candidates,
+        let candidate = first_candidate(candidates, table, uncovered.as_slice(), counts.as_slice());
+        close(
             table,
-            uncovered.as_slice(),
+            candidates.len(),
+            candidate,
+            &mut uncovered,
             counts.as_mut_slice(),
         );
-        close(table, candidates.len(), candidate, &mut uncovered);
         taken.push(candidate)?;
     }
     Ok(taken)

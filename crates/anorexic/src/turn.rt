@@ -1,12 +1,22 @@
 // One turn: the candidate that covers the most of the open points is found, and its points are closed. The row of a point
-// in the table has as many tests as there are candidates. One pass over the rows of the open points counts for all candidates.
+// in the table has as many tests as there are candidates. Before the first turn one pass over the rows of the points counts
+// for all candidates. Each point that is closed is taken from the counts, so no turn counts anew.
 ghost use Rattle.std.specs.Prelude.{◌≡◌, ◌+◌, ◌*◌, ◌^◌, ◌<◌, ◌≤◌, ℕ, All, false, filter, length, not};
 ghost use Rattle.std.specs.Ordering.{is_gt};
 ghost use Rattle.plan_tree.specs.Plans.{plan_tree, FitsSet};
-ghost use Rattle.anorexic.specs.Turns.{is_marked, cover_order, turn_order, AreMore, AreCoverCounts};
+ghost use Rattle.anorexic.specs.Turns.{is_marked, cover_order, turn_order, AreMore, AreCoverCounts, IsCoverCounted, IsCoverRow};
 
 use plan_tree::{Plan, plan_order};
 use std::cmp::Ordering;
+
+// The row of the point at a place.
+fn row_at<'t>(table: &'t [bool], width: usize, place: usize) -> &'t [bool]
+    requires { place * width + width ≤ length table.now }
+    ensures { IsCoverRow table.now width place result.now }
+{
+    let first = place * width;
+    &table[first..first + width]
+}
 
 // Adds a point to the counts of the candidates that cover it, where this is its row.
 fn count_point(counts: &mut [usize], row: &[bool])
@@ -20,8 +30,20 @@ fn count_point(counts: &mut [usize], row: &[bool])
     }
 }
 
-// Counts how many of the open points each candidate covers.
-fn count_points(counts: &mut [usize], table: &[bool], uncovered: &[usize])
+// Takes a point from the counts of the candidates that cover it, where this is its row.
+fn subtract_point(counts: &mut [usize], row: &[bool])
+    requires row { length row.now ≡ length counts.old }
+    requires counted { IsCoverCounted row.now counts.old }
+    ensures subtracted { AreMore row.now counts.new counts.old }
+    ensures long { length counts.new ≡ length counts.old }
+{
+    for candidate in 0..row.len() {
+        counts[candidate] -= if row[candidate] { 1 } else { 0 };
+    }
+}
+
+/// Counts how many of the open points each candidate covers.
+pub(crate) fn count_points(counts: &mut [usize], table: &[bool], uncovered: &[usize])
     requires rows { All (λ place. place * length counts.old + length counts.old
         ≤ length table.now) uncovered.now }
     ensures counted { AreCoverCounts table.now uncovered.now counts.new }
@@ -29,8 +51,7 @@ fn count_points(counts: &mut [usize], table: &[bool], uncovered: &[usize])
 {
     counts.fill(0);
     for place in uncovered {
-        let first = *place * counts.len();
-        let row = &table[first..first + counts.len()];
+        let row = row_at(table, counts.len(), *place);
         count_point(counts, row);
     }
 }
@@ -48,8 +69,8 @@ fn cover_order(count: usize, p: &Plan, other_count: usize, other: &Plan) -> Orde
     }
 }
 
-// The candidate that is taken where they cover so many open points.
-fn first_by_counts(
+/// The candidate that this turn takes, where the candidates cover so many open points.
+pub(crate) fn first_candidate(
     candidates: &[Plan],
     table: &[bool],
     uncovered: &[usize],
@@ -75,38 +96,30 @@ fn first_by_counts(
     first
 }
 
-/// The candidate that this turn takes. How many open points each one covers is counted in the room that is lent.
-pub(crate) fn first_candidate(
-    candidates: &[Plan],
+/// Keeps the open points that a candidate doesn't cover. The others are no longer counted.
+pub(crate) fn close(
     table: &[bool],
-    uncovered: &[usize],
+    width: usize,
+    candidate: usize,
+    uncovered: &mut Vec<usize>,
     counts: &mut [usize],
-) -> usize
-    requires fit { All (λ p. FitsSet (plan_tree p)) candidates.now }
-    requires some { 0 < length candidates.now }
-    requires rows { All (λ place. place * length candidates.now + length candidates.now
-        ≤ length table.now) uncovered.now }
-    requires long { length counts.old ≡ length candidates.now }
-    ensures candidate { result < length candidates.now }
-    ensures first { (other : ℕ) → other < length candidates.now
-        → is_gt (turn_order candidates.now table.now uncovered.now result other) ≡ false }
-    ensures long { length counts.new ≡ length candidates.now }
-{
-    count_points(counts, table, uncovered);
-    first_by_counts(candidates, table, uncovered, counts)
-}
-
-/// Keeps the open points that a candidate doesn't cover.
-pub(crate) fn close(table: &[bool], width: usize, candidate: usize, uncovered: &mut Vec<usize>)
+)
     requires candidate { candidate < width }
     requires rows { All (λ place. place * width + width ≤ length table.now) uncovered.old.items }
-    ensures { uncovered.new.items
+    requires long { length counts.old ≡ width }
+    requires counts { AreCoverCounts table.now uncovered.old.items counts.old }
+    ensures uncovered { uncovered.new.items
         ≡ filter (λ place. not (is_marked table.now width candidate place)) uncovered.old.items }
+    ensures counts { AreCoverCounts table.now uncovered.new.items counts.new }
+    ensures long { length counts.new ≡ width }
 {
     let mut kept = 0;
     for i in 0..uncovered.len() {
         let place = uncovered[i];
-        if !table[place * width + candidate] {
+        let row = row_at(table, width, place);
+        if row[candidate] {
+            subtract_point(counts, row);
+        } else {
             uncovered[kept] = place;
             kept += 1;
         }

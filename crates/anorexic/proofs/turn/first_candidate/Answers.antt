@@ -4,8 +4,8 @@ use Rattle.std.specs.Ordering.{is_gt}
 use borrow.Author.Count.{below_more}
 use Rattle.anorexic.specs.Turns.{is_marked, turn_order}
 use Rattle.anorexic.proofs.Steps.{counted-at, first-itself, turn-order-is, next-first}
-use Rattle.anorexic.proofs.turn.first_by_counts.Goals as goal
-use Rattle.anorexic.proofs.turn.first_by_counts.Goals.{then-is_gt, else-is_gt}
+use Rattle.anorexic.proofs.turn.first_candidate.Goals as goal
+use Rattle.anorexic.proofs.turn.first_candidate.Goals.{then-is_gt, else-is_gt}
 
 pub loop-candidate-init : goal.loop-candidate-init
 loop-candidate-init c =

@@ -2,7 +2,7 @@ use Rattle.std.proofs.Common.{◌≡◌, ℕ, ◌<◌, count_by, length}
 use Rattle.std.specs.Prelude.{false}
 use Rattle.std.specs.Ordering.{is_gt}
 use Rattle.anorexic.specs.Turns.{is_marked, turn_order}
-use Rattle.anorexic.proofs.turn.first_by_counts.Given as goal
+use Rattle.anorexic.proofs.turn.first_candidate.Given as goal
 
 abbrev pub invariant-loop-candidate : goal.invariant-loop-candidate
 invariant-loop-candidate l =
