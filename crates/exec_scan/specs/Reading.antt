@@ -5,7 +5,9 @@ use Rattle.work_ledger.specs.Charges.{entry_charge, fetch_charge, node_charge, o
 use Rattle.sql_values.specs.Stored.{StoredTable, ValueRow, values_of}
 use Rattle.query_block.specs.Blocks.{IsRelation, RelationTree}
 use Rattle.query_block.specs.Meaning.{meets_filter}
+use Rattle.row_filter.specs.InLists.{IsFilterRecheck}
 use Rattle.row_filter.specs.RowFilters.{IsFilterOf}
+use Rattle.row_filter.specs.declared.recheck.FilterRecheck.{FilterRecheck}
 use Rattle.plan_tree.specs.Usable.{is_fixed_usable}
 use Rattle.plan_tree.specs.Work.{index_scan_work, scan_work, table_rows}
 use Rattle.plan_tree.specs.Left.{Left}
@@ -99,6 +101,10 @@ pub record IsWayTo (database : DatabaseState) (own : RelationTree) (way : Way) :
   pub relation : IsRelationIn database own
   pub table : table_of way ≡ own.table
   pub reading : IsWayIn database own way
+
+-- the filter of the relation, made ready for rows of its table
+abbrev pub IsRecheckOf : DatabaseState → RelationTree → FilterRecheck → Type 0
+IsRecheckOf database own recheck = IsFilterRecheck database.texts own.columns own.filter recheck
 
 -- the words are those of the first of these rows, which then isn't one of them
 pub record IsFirstRow (texts : List (List ℕ)) (own : RelationTree) (old new : List ValueRow) (words : List ℤ) : Type 0 where

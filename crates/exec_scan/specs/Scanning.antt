@@ -13,7 +13,7 @@ use Rattle.db_catalog.specs.Fits.{Fits}
 use Rattle.exec_scan.specs.declared.way.Way.{Way}
 use Rattle.exec_scan.specs.OnWay.{with_emits}
 use Rattle.exec_scan.specs.Places.{AreOfRelation, KeepsOtherWords, placed_row}
-use Rattle.exec_scan.specs.Reading.{IsWayIn, kept_rows, read_due, table_of}
+use Rattle.exec_scan.specs.Reading.{IsRecheckOf, IsWayIn, kept_rows, read_due, table_of}
 use Rattle.exec_scan.specs.State.{ScanState, leaf_of}
 
 -- what finding the rows of a relation has left: of the rows ahead those come that meet its filter, each in its place, and
@@ -43,6 +43,7 @@ pub record IsScanOver (database : DatabaseState) (block : BlockTree) (scan : Sca
   pub closed : block.parameters ≡ []
   pub numbers : AreOfRelation block scan.place.relation (table_of scan.way) scan.place.columns scan.place.offset
   pub reading : IsWayIn database (relation_at block.relations scan.place.relation) scan.way
+  pub recheck : IsRecheckOf database (relation_at block.relations scan.place.relation) scan.recheck
 
 -- the scan of a leaf, of which nothing is read yet: the rows of the leaf are left, and with the opening what is due is its work
 pub record BeginsLeaf (database : DatabaseState) (block : BlockTree) (plan : PlanTree) (scan : ScanState) : Type 0 where

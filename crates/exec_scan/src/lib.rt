@@ -4,8 +4,9 @@
 //! To the layers above it promises that a scan gives exactly the rows that meet the relation's filter, in some order, and
 //! pays exactly the leaf's line of the table of work: to open it, for each page and each row looked at, or for the descent
 //! and each entry with its row; and for each row given.
-//! It never takes memory, never copies a row that isn't given, and never reads a row unpaid: the meter pays for a row that it
-//! fetches, and lends those of a page, and marks of them, for the key alone that the payment for this page makes.
+//! It takes memory only as a scan begins, for its filter's ranges and lists; where there is none it does without.
+//! It never copies a row that isn't given, and never reads a row unpaid: the meter pays for a row that it fetches, and lends
+//! those of a page, and marks of them, for the key alone that the payment for this page makes.
 #![tactic(auto)]
 
 mod entry_reader;

@@ -1,10 +1,11 @@
 // The way to the rows of a relation through its whole table. It relies on marks of the relation's filter, which it takes for a
 // block of rows at once, and asks the filter itself only of a marked row, where the marks don't tell all.
 ghost use Rattle.std.specs.Prelude.{◌≡◌, [], MatchOption, None};
-ghost use Rattle.sql_values.specs.Stored.{AreWordsOf, values_of};
+ghost use Rattle.sql_values.specs.Stored.{values_of};
 ghost use Rattle.query_block.specs.Blocks.{IsRelation, relation_tree};
 ghost use Rattle.query_block.specs.Meaning.{meets_filter};
-ghost use Rattle.exec_scan.specs.Reading.{FindsOn, IsFirstRow, IsRelationIn, IsWayTo, LeadsTo, LendsKept, kept_ahead, read_due};
+ghost use Rattle.db_catalog.specs.ColumnRanges.{AreStored};
+ghost use Rattle.exec_scan.specs.Reading.{FindsOn, IsFirstRow, IsRecheckOf, IsRelationIn, IsWayTo, LeadsTo, LendsKept, kept_ahead, read_due};
 ghost use Rattle.exec_scan.specs.Stepping.{PaysFor};
 ghost use Rattle.exec_scan.specs.TableWays.{LooksAtAll, LooksOnPage, MovesOnPage, TakesBlock};
 ghost use Rattle.exec_scan.specs.declared.way.Way.TheVariants.{Table};
@@ -12,8 +13,9 @@ ghost use Rattle.exec_scan.specs.declared.way.Way.TheVariants.{Table};
 use crate::marks::{NO_MARKS, NextMarks, first_marked, marks_behind};
 use crate::table_reader::TableReader;
 use db_catalog::Metered;
-use query_block::{Relation, meets_filter};
-use row_filter::RowFilter;
+use query_block::Relation;
+use row_filter::{FilterRecheck, RowFilter};
+use std::alloc::Global;
 use work_ledger::Exhausted;
 
 /// The most rows whose marks are taken at once.
@@ -29,19 +31,25 @@ pub(crate) struct TableWay {
 
 impl TableWay {
     /// The way through a relation's table. Nothing is read yet.
-    pub(crate) fn new(relation: &Relation, meter: &Metered<'_>) -> TableWay
+    pub(crate) fn new(alloc: Global, relation: &Relation, meter: &Metered<'_>) -> TableWay
         requires { IsRelationIn meter.now.database (relation_tree relation.now) }
         ensures { LeadsTo meter.now.database (relation_tree relation.now) None (Table result) }
     {
         TableWay {
             reader: TableReader::new(relation.table, meter),
             filter: RowFilter::new(
+                alloc,
                 relation.columns.as_slice(),
                 relation.filter.as_slice(),
                 meter.texts(),
             ),
             next: NO_MARKS,
         }
+    }
+
+    /// Whether the marks of rows tell all of the relation's filter, so that no row is asked.
+    pub(crate) fn is_exact(&self) -> bool {
+        self.filter.is_exact()
     }
 
     // Looks at the rows whose marks are at hand, none of which is marked, and takes the marks of more. False where all rows of
@@ -110,8 +118,14 @@ impl TableWay {
 
     // Looks on, at the rows of the page that was opened last, for the next one that meets the relation's filter. None where all
     // of them are looked at. They are paid since the page is opened.
-    fn find_on_page<'d>(&mut self, relation: &Relation, meter: &Metered<'d>) -> Option<&'d [i64]>
+    fn find_on_page<'d>(
+        &mut self,
+        relation: &Relation,
+        recheck: &FilterRecheck,
+        meter: &Metered<'d>,
+    ) -> Option<&'d [i64]>
         requires way { IsWayTo meter.now.database (relation_tree relation.now) (Table self.old) }
+        requires recheck { IsRecheckOf meter.now.database (relation_tree relation.now) recheck.now }
         ensures row { let own = relation_tree relation.now in
             MatchOption result (LooksAtAll meter.now.database own self.old.reader self.new.reader)
             (λ lent. IsFirstRow meter.now.database.texts own
@@ -127,7 +141,7 @@ impl TableWay {
         let width = relation.columns.as_slice().len();
         while self.next_candidate(relation, meter) {
             let row = self.reader.last_row(page, width);
-            if self.filter.is_exact() || is_met(relation, row, meter) {
+            if self.filter.is_exact() || is_met(recheck, relation, row, meter) {
                 return Some(row);
             }
         }
@@ -138,9 +152,11 @@ impl TableWay {
     pub(crate) fn find<'d>(
         &mut self,
         relation: &Relation,
+        recheck: &FilterRecheck,
         meter: &mut Metered<'d>,
     ) -> Result<Option<&'d [i64]>, Exhausted>
         requires way { IsWayTo meter.old.database (relation_tree relation.now) (Table self.old) }
+        requires recheck { IsRecheckOf meter.old.database (relation_tree relation.now) recheck.now }
         ensures row { LendsKept meter.old (relation_tree relation.now) (Table self.old)
             (Table self.new) result (λ words. words.now) }
         ensures pays { PaysFor (read_due meter.old.database (relation_tree relation.now))
@@ -149,7 +165,7 @@ impl TableWay {
             (Table self.old) (Table self.new) }
     {
         'pages: loop {
-            if let Some(row) = self.find_on_page(relation, meter) {
+            if let Some(row) = self.find_on_page(relation, recheck, meter) {
                 return Ok(Some(row));
             }
             self.next = NO_MARKS;
@@ -161,13 +177,14 @@ impl TableWay {
 }
 
 // Whether a row of a relation meets its filter.
-fn is_met(relation: &Relation, row: &[i64], meter: &Metered<'_>) -> bool
+fn is_met(recheck: &FilterRecheck, relation: &Relation, row: &[i64], meter: &Metered<'_>) -> bool
     requires relation { IsRelation [] (relation_tree relation.now) }
-    requires words { AreWordsOf meter.now.database.texts relation.now.columns row.now }
+    requires recheck { IsRecheckOf meter.now.database (relation_tree relation.now) recheck.now }
+    requires words { AreStored meter.now.database.texts relation.now.columns row.now }
     ensures { let own = relation_tree relation.now in result
         ≡ meets_filter own.filter (values_of meter.now.database.texts own.columns row.now) }
 {
-    meets_filter(
+    recheck.meets(
         relation.filter.as_slice(),
         relation.columns.as_slice(),
         row,

@@ -4,7 +4,7 @@ ghost use Rattle.std.specs.Prelude.{◌≡◌, OnOk, IsSome, IfSome};
 ghost use Rattle.query_block.specs.Blocks.{relation_tree};
 ghost use Rattle.plan_tree.specs.Enumerated.{HasUsable, IsIndexed};
 ghost use Rattle.exec_scan.specs.EntryReading.{ReadsOn};
-ghost use Rattle.exec_scan.specs.Reading.{FindsOn, IsRelationIn, IsWayTo, LeadsTo, LendsFirst, LendsKept};
+ghost use Rattle.exec_scan.specs.Reading.{FindsOn, IsRecheckOf, IsRelationIn, IsWayTo, LeadsTo, LendsFirst, LendsKept};
 ghost use Rattle.exec_scan.specs.Reading.{read_due, wanted_due, wanted_entries, wanted_rows};
 ghost use Rattle.exec_scan.specs.Stepping.{PaysFor};
 ghost use Rattle.exec_scan.specs.declared.way.Way.TheVariants.{Index};
@@ -13,7 +13,9 @@ use crate::entry_reader::EntryReader;
 use crate::table_way::TableWay;
 use db_catalog::Metered;
 use plan_tree::range_of;
-use query_block::{Relation, meets_filter};
+use query_block::Relation;
+use row_filter::FilterRecheck;
+use std::alloc::Global;
 use work_ledger::Exhausted;
 
 /// By what the rows of a relation are found.
@@ -70,9 +72,11 @@ fn read_wanted<'d>(
 fn find_wanted<'d>(
     reader: &mut EntryReader,
     relation: &Relation,
+    recheck: &FilterRecheck,
     meter: &mut Metered<'d>,
 ) -> Result<Option<&'d [i64]>, Exhausted>
     requires way { IsWayTo meter.old.database (relation_tree relation.now) (Index reader.old) }
+    requires recheck { IsRecheckOf meter.old.database (relation_tree relation.now) recheck.now }
     ensures row { LendsKept meter.old (relation_tree relation.now) (Index reader.old)
         (Index reader.new) result (λ words. words.now) }
     ensures pays { PaysFor (wanted_due meter.old.database (relation_tree relation.now))
@@ -81,7 +85,7 @@ fn find_wanted<'d>(
 {
     let texts = meter.texts();
     while let Some(row) = read_wanted(reader, relation, meter)? {
-        if meets_filter(
+        if recheck.meets(
             relation.filter.as_slice(),
             relation.columns.as_slice(),
             row,
@@ -95,15 +99,28 @@ fn find_wanted<'d>(
 
 impl Way {
     /// The way to a relation's rows by the index on a column, or else through its table. Nothing is read yet.
-    pub(crate) fn new(relation: &Relation, column: Option<u8>, meter: &Metered<'_>) -> Way
+    pub(crate) fn new(
+        alloc: Global,
+        relation: &Relation,
+        column: Option<u8>,
+        meter: &Metered<'_>,
+    ) -> Way
         requires relation { IsRelationIn meter.now.database (relation_tree relation.now) }
         requires found { IfSome column (λ by. IsIndexed (relation_tree relation.now) by
             × HasUsable (relation_tree relation.now) by) }
         ensures { LeadsTo meter.now.database (relation_tree relation.now) column result }
     {
         match column {
-            None => Way::Table(TableWay::new(relation, meter)),
+            None => Way::Table(TableWay::new(alloc, relation, meter)),
             Some(column) => Way::Index(EntryReader::new(relation.table, column)),
+        }
+    }
+
+    /// Whether it finds no row that doesn't meet the relation's filter, without asking one.
+    pub(crate) fn is_exact(&self) -> bool {
+        match self {
+            Way::Table(table) => table.is_exact(),
+            Way::Index(_) => false,
         }
     }
 
@@ -111,9 +128,11 @@ impl Way {
     pub(crate) fn find<'d>(
         &mut self,
         relation: &Relation,
+        recheck: &FilterRecheck,
         meter: &mut Metered<'d>,
     ) -> Result<Option<&'d [i64]>, Exhausted>
         requires way { IsWayTo meter.old.database (relation_tree relation.now) self.old }
+        requires recheck { IsRecheckOf meter.old.database (relation_tree relation.now) recheck.now }
         ensures row { LendsKept meter.old (relation_tree relation.now) self.old self.new
             result (λ words. words.now) }
         ensures pays { PaysFor (read_due meter.old.database (relation_tree relation.now))
@@ -122,8 +141,8 @@ impl Way {
             self.old self.new }
     {
         match self {
-            Way::Table(table) => table.find(relation, meter),
-            Way::Index(reader) => find_wanted(reader, relation, meter),
+            Way::Table(table) => table.find(relation, recheck, meter),
+            Way::Index(reader) => find_wanted(reader, relation, recheck, meter),
         }
     }
 }

@@ -9,3 +9,6 @@ pub mod Narrower
 pub mod OrParts
 pub mod AndParts
 pub mod Equals
+pub mod Searched
+pub mod InLists
+pub mod Trees

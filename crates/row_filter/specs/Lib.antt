@@ -1,3 +1,4 @@
 pub mod Regions
 pub mod RowFilters
 pub mod Unions
+pub mod InLists

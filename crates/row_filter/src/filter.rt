@@ -15,6 +15,7 @@ use crate::union::RangeUnion;
 use db_catalog::{Database, RowMarks, RowSpan};
 use query_block::{Condition, is_open};
 use sql_values::{ColumnType, Texts};
+use std::alloc::Global;
 use std::marker::Model;
 
 /// The most conditions that ranges tell. More of them are asked of each row.
@@ -23,20 +24,16 @@ const MOST_CONDITIONS: usize = 4;
 /// Of some conditions of a filter the ranges of words that tell which rows meet them.
 #[derive(Drop)]
 pub struct RowFilter {
-    unions: [RangeUnion; MOST_CONDITIONS],
-    count: usize,
+    unions: Vec<RangeUnion>,
     exact: bool,
 }
 
 impl Model for RowFilter {
-    ghost use Rattle.std.specs.Prelude.{◌≤◌, take};
     ghost use Rattle.row_filter.specs.RowFilters.{FilterRanges};
 
     ghost Value = { FilterRanges };
 
-    ghost view = { λ f. record { unions = take f.count f.unions; exact = f.exact } };
-
-    ghost invariant = { λ f. f.count ≤ 4 };
+    ghost view = { λ f. record { unions = f.unions.items; exact = f.exact } };
 }
 
 // A union that stands at a place, narrowed to the rows of another.
@@ -52,7 +49,7 @@ impl RowFilter {
         ensures { IfSome result (IsNarrower union.now self.now) }
     {
         let found = union.single()?;
-        for place in 0..self.count {
+        for place in 0..self.unions.len() {
             if let Some(both) = self.unions[place].narrowed(found) {
                 return Some(Narrowed { place, union: both });
             }
@@ -60,7 +57,7 @@ impl RowFilter {
         None
     }
 
-    // Puts the ranges of a condition to the others. Where there is no room, the condition isn't told.
+    // Puts the ranges of a condition to the others. Where there is no room, or memory is wanting, the condition isn't told.
     fn put(&mut self, union: RangeUnion)
         ensures { PutsUnion union self.old self.new }
     {
@@ -68,12 +65,14 @@ impl RowFilter {
             self.unions[narrowed.place] = narrowed.union;
             return;
         }
-        if self.count == MOST_CONDITIONS {
+        if self.unions.len() >= MOST_CONDITIONS {
             self.exact = false;
             return;
         }
-        self.unions[self.count] = union;
-        self.count += 1;
+        match self.unions.push(union) {
+            Ok(()) => {}
+            Err(_) => self.exact = false,
+        }
     }
 
     // Takes in a condition behind the others. One with a parameter is left out.
@@ -98,16 +97,20 @@ impl RowFilter {
         }
     }
 
-    /// The filter of these conditions, of which those without a parameter count.
-    pub fn new(columns: &[ColumnType], conditions: &[Condition], texts: &Texts) -> RowFilter
+    /// The filter of these conditions, of which those without a parameter count. Where memory is wanting, it isn't exact.
+    pub fn new(
+        alloc: Global,
+        columns: &[ColumnType],
+        conditions: &[Condition],
+        texts: &Texts,
+    ) -> RowFilter
         requires few { length columns.now ≤ max_columns }
         requires fit { All (FitsColumns [] columns.now)
             (fixed_of (map filter_tree conditions.now)) }
         ensures { IsRowFilter texts.now columns.now (map filter_tree conditions.now) result }
     {
         let mut filter = RowFilter {
-            unions: [RangeUnion::new(); MOST_CONDITIONS],
-            count: 0,
+            unions: Vec::new(alloc),
             exact: true,
         };
         for condition in conditions {
@@ -128,7 +131,7 @@ impl RowFilter {
             (rows_of_span span (table_at (R.database rows.now) table).rows) result }
     {
         let mut marks = every_row(span.count);
-        for union in &self.unions[..self.count] {
+        for union in &self.unions {
             marks &= union.marks(rows, table, span);
             if marks == 0 {
                 return 0;
@@ -144,7 +147,7 @@ impl RowFilter {
             → IfSome result (λ count. count ≡ count_by (meets_filter (fixed_of conditions))
             (table_at db.now table).rows) }
     {
-        let unions = &self.unions[..self.count];
+        let unions = self.unions.as_slice();
         if !self.exact || unions.len() != 1 {
             return None;
         }

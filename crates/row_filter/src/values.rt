@@ -76,8 +76,8 @@ fn literal_words(
     }
 }
 
-// The words of a column in the rows in which two operands are equal: the column, and a literal.
-fn equal_words(
+/// The words of a column in the rows in which two operands are equal: the column, and a literal.
+pub(crate) fn equal_words(
     of: &Operand,
     operand: &Operand,
     columns: &[ColumnType],

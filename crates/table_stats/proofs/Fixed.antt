@@ -1,7 +1,7 @@
 -- The fixed conjuncts of a filter: found one after another, and what an index can use of them.
 use Rattle.std.proofs.Common.{◌≡◌, ℕ, ◌+◌, ◌<◌, ◌≤◌, ◌&&◌, Bool, true, false, not, cond, All, List, [], ◌∷◌, ◌++◌, filter, get_or, length, map, take, vec_len, eqb, append-nil, refl, sym, ap, subst, ◌∙◌, arith}
 use Rattle.std.proofs.lemmas.Bool.Decides.{nat_tests}
-use Rattle.std.specs.Borrow.{Bor}
+use Rattle.table_stats.specs.declared.filter.FixedConjunct.{FixedConjunct}
 use Rattle.std.proofs.lemmas.List.{get_or-map, length-map, map_more, map-append}
 use Rattle.std.proofs.lemmas.List.Elements.{All-get_or, filter-append}
 use Rattle.sql_values.specs.declared.column.ColumnType.{ColumnType}
@@ -43,7 +43,7 @@ fixed-part columns column conjuncts row is =
     ap (λ (some : List FilterTree). meets_filter some row) (fixed-usable columns column conjuncts) ∙ meets-part (is_usable columns column) (fixed_of conjuncts) row is
 
 -- a conjunct of a ready filter fits its columns without the parameters
-pub conjunct-fit : (ready : ReadyFilter) (i : ℕ) (d : Bor Condition) → IsReadyFilter ready → i < length ready.conjuncts.items → FitsColumns [] ready.relation.now.columns (own_tree (get_or ready.conjuncts.items i d))
+pub conjunct-fit : (ready : ReadyFilter) (i : ℕ) (d : FixedConjunct) → IsReadyFilter ready → i < length ready.conjuncts.items → FitsColumns [] ready.relation.now.columns (own_tree (get_or ready.conjuncts.items i d))
 conjunct-fit ready i d is below =
     let columns = ready.relation.now.columns in
     let all = fixed-all is.relation.kinds columns (own ready).filter is.relation.is.filter in
@@ -63,7 +63,7 @@ some-fixed ready is other =
 -- ---- one conjunct more
 
 module _ (conditions : List Condition) (i : ℕ) (one : Condition) (below : i < length conditions) (is : one ≡ get_or conditions i one)
-    (conjuncts : List (Bor Condition)) (so_far : map own_tree conjuncts ≡ fixed_of (map filter_tree (take i conditions))) where
+    (conjuncts : List FixedConjunct) (so_far : map own_tree conjuncts ≡ fixed_of (map filter_tree (take i conditions))) where
   found-more : map own_tree conjuncts ++ cond (not (is_open (filter_tree one))) (filter_tree one ∷ []) [] ≡ fixed_of (map filter_tree (take (i + 1) conditions))
   found-more =
       let fixed : FilterTree → Bool = λ tree. not (is_open tree) in
@@ -71,13 +71,13 @@ module _ (conditions : List Condition) (i : ℕ) (one : Condition) (below : i < 
       ap (λ trees. trees ++ last) so_far ∙ sym (filter-append fixed (map filter_tree (take i conditions)) (filter_tree one ∷ []))
       ∙ ap (filter fixed) (ap (λ (last : Condition). map filter_tree (take i conditions) ++ filter_tree last ∷ []) is ∙ sym (map_more filter_tree conditions i one below))
 
-  pub one-fixed : (conjunct : Bor Condition) (more : List (Bor Condition)) → more ≡ conjuncts ++ conjunct ∷ [] → own_tree conjunct ≡ filter_tree one → is_open (filter_tree one) ≡ false
+  pub one-fixed : (conjunct : FixedConjunct) (more : List FixedConjunct) → more ≡ conjuncts ++ conjunct ∷ [] → own_tree conjunct ≡ filter_tree one → is_open (filter_tree one) ≡ false
       → map own_tree more ≡ fixed_of (map filter_tree (take (i + 1) conditions))
   one-fixed conjunct more are same fixed =
       ap (map own_tree) are ∙ map-append own_tree conjuncts (conjunct ∷ []) ∙ ap (λ tree. map own_tree conjuncts ++ tree ∷ []) same
       ∙ ap (λ b. map own_tree conjuncts ++ cond (not b) (filter_tree one ∷ []) []) (sym fixed) ∙ found-more
 
-  pub one-open : (same : List (Bor Condition)) → same ≡ conjuncts → is_open (filter_tree one) ≡ true → map own_tree same ≡ fixed_of (map filter_tree (take (i + 1) conditions))
+  pub one-open : (same : List FixedConjunct) → same ≡ conjuncts → is_open (filter_tree one) ≡ true → map own_tree same ≡ fixed_of (map filter_tree (take (i + 1) conditions))
   one-open same are open' =
       ap (map own_tree) are ∙ sym (append-nil (map own_tree conjuncts))
       ∙ ap (λ b. map own_tree conjuncts ++ cond (not b) (filter_tree one ∷ []) []) (sym open') ∙ found-more

@@ -3,17 +3,25 @@
 ghost use Rattle.std.specs.Prelude.{◌≡◌, ◌<◌, [], IfOk, length};
 ghost use Rattle.sql_values.specs.Stored.{values_of};
 ghost use Rattle.query_block.specs.Blocks.{FitsColumns, relation_tree};
-ghost use Rattle.query_block.specs.Conditions.{filter_tree};
 ghost use Rattle.query_block.specs.Meaning.{is_true};
 ghost use Rattle.query_block.specs.Truth.{truth_of};
 ghost use Rattle.db_catalog.specs.ColumnRanges.{AreStored};
+ghost use Rattle.row_filter.specs.InLists.{IsConditionRecheck};
 ghost use Rattle.table_stats.specs.Narrow.{uses_all, uses_some};
-ghost use Rattle.table_stats.specs.Ready.{IsOfBlock, IsReadyFilter, is_kept, own, own_values};
+ghost use Rattle.table_stats.specs.Ready.{IsOfBlock, IsReadyFilter, is_kept, own, own_tree, own_values};
 
 use plan_tree::is_usable;
-use query_block::{Condition, Relation, is_open, truth};
-use sql_values::{ColumnType, Texts, Truth};
+use query_block::{Condition, Relation, is_open};
+use row_filter::ConditionRecheck;
+use sql_values::{ColumnType, Texts};
 use std::alloc::{AllocError, Global};
+
+/// A conjunct without a parameter, made ready to be asked of many rows.
+#[derive(Drop)]
+pub(crate) struct FixedConjunct<'b> {
+    pub(crate) condition: &'b Condition,
+    recheck: ConditionRecheck,
+}
 
 /// A relation's filter, made ready for words by these texts.
 #[derive(Drop)]
@@ -21,23 +29,28 @@ pub(crate) struct ReadyFilter<'b> {
     pub(crate) relation: &'b Relation,
     pub(crate) texts: &'b Texts,
     /// The fixed conjuncts, in written order.
-    pub(crate) conjuncts: Vec<&'b Condition>,
+    pub(crate) conjuncts: Vec<FixedConjunct<'b>>,
 }
 
 // Whether a fixed conjunct is true on a row.
-fn is_met(conjunct: &Condition, columns: &[ColumnType], row: &[i64], texts: &Texts) -> bool
+fn is_met(conjunct: &FixedConjunct<'_>, columns: &[ColumnType], row: &[i64], texts: &Texts) -> bool
     requires row { AreStored texts.now columns.now row.now }
-    requires fits { FitsColumns [] columns.now (filter_tree conjunct.now) }
+    requires fits { FitsColumns [] columns.now (own_tree conjunct.now) }
+    requires ready { IsConditionRecheck texts.now columns.now (own_tree conjunct.now)
+        conjunct.now.recheck }
     ensures { result ≡ is_true
-        (truth_of (filter_tree conjunct.now) (values_of texts.now columns.now row.now)) }
+        (truth_of (own_tree conjunct.now) (values_of texts.now columns.now row.now)) }
 {
-    truth(conjunct, columns, row, texts) == Truth::True
+    conjunct
+        .recheck
+        .is_met(conjunct.condition, columns, row, texts)
 }
 
 impl<'b> ReadyFilter<'b> {
-    /// The filter of a relation: what stands in it is asked once, and not for each row.
+    /// The filter of a relation, which at most so many rows are asked: what stands in it is asked once, and not for each row.
     pub(crate) fn new(
         alloc: Global,
+        rows: u64,
         relation: &'b Relation,
         texts: &'b Texts,
     ) -> Result<ReadyFilter<'b>, AllocError>
@@ -47,10 +60,14 @@ impl<'b> ReadyFilter<'b> {
         ensures ready { IfOk result IsReadyFilter }
     {
         let filter = relation.filter.as_slice();
+        let columns = relation.columns.as_slice();
         let mut conjuncts = Vec::with_capacity(alloc, filter.len())?;
         for condition in filter {
             if !is_open(condition) {
-                conjuncts.push(condition)?;
+                conjuncts.push(FixedConjunct {
+                    condition,
+                    recheck: ConditionRecheck::new(alloc, rows, columns, condition, texts),
+                })?;
             }
         }
         Ok(ReadyFilter {
@@ -68,7 +85,7 @@ impl<'b> ReadyFilter<'b> {
     {
         let columns = self.relation.columns.as_slice();
         for conjunct in &self.conjuncts {
-            if is_usable(columns, column, conjunct) {
+            if is_usable(columns, column, conjunct.condition) {
                 return true;
             }
         }
@@ -83,7 +100,7 @@ impl<'b> ReadyFilter<'b> {
     {
         let columns = self.relation.columns.as_slice();
         for conjunct in &self.conjuncts {
-            if !is_usable(columns, column, conjunct) {
+            if !is_usable(columns, column, conjunct.condition) {
                 return false;
             }
         }

@@ -15,6 +15,7 @@ use crate::filter::ReadyFilter;
 use db_catalog::{Database, RowSpan};
 use plan_tree::range_of;
 use row_filter::RowFilter;
+use std::alloc::Global;
 
 // How many rows are marked at a time.
 const BLOCK: u64 = 64;
@@ -87,12 +88,13 @@ fn kept_in_blocks(db: &Database, filter: &ReadyFilter<'_>, ranges: &RowFilter) -
 }
 
 /// Among all rows, by the marks of ranges. Where one range tells the whole filter, its words are counted.
-pub(crate) fn kept_by_marks(db: &Database, filter: &ReadyFilter<'_>) -> u64
+pub(crate) fn kept_by_marks(alloc: Global, db: &Database, filter: &ReadyFilter<'_>) -> u64
     requires { IsOver db.now filter.now }
     ensures { result ≡ (relation_stats_of db.now.tables (own filter.now)).kept }
 {
     let relation = filter.relation;
     let ranges = RowFilter::new(
+        alloc,
         relation.columns.as_slice(),
         relation.filter.as_slice(),
         filter.texts,

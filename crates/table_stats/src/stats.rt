@@ -25,7 +25,7 @@ const WIDE: u64 = 100;
 // How many rows of its table the fixed conjuncts of a relation's filter keep. Without one these are all; where they ask for
 // nothing that an index can't use, its matches; else the rows that a narrow range of an index leads to are tried, or all rows
 // are marked.
-fn kept_rows(db: &Database, filter: &ReadyFilter<'_>, columns: &[IndexStats]) -> u64
+fn kept_rows(alloc: Global, db: &Database, filter: &ReadyFilter<'_>, columns: &[IndexStats]) -> u64
     requires ready { IsReadyFilter filter.now }
     requires fits { FitsTable db.now (own filter.now) }
     requires texts { filter.now.texts.now ≡ db.now.texts }
@@ -41,7 +41,7 @@ fn kept_rows(db: &Database, filter: &ReadyFilter<'_>, columns: &[IndexStats]) ->
     }
     match narrowest(filter, columns, rows / WIDE) {
         Some(index) => kept_within(db, filter, index.column),
-        None => kept_by_marks(db, filter),
+        None => kept_by_marks(alloc, db, filter),
     }
 }
 
@@ -56,10 +56,11 @@ fn relation_stats(
         ≡ relation_stats_of db.now.tables (relation_tree relation.now)) }
 {
     let columns = index_stats(alloc, db, relation)?;
-    let filter = ReadyFilter::new(alloc, relation, db.texts())?;
-    let kept = kept_rows(db, &filter, &columns);
+    let rows = db.rows(relation.table);
+    let filter = ReadyFilter::new(alloc, rows, relation, db.texts())?;
+    let kept = kept_rows(alloc, db, &filter, &columns);
     Ok(RelationStats {
-        rows: db.rows(relation.table),
+        rows,
         pages: db.pages(relation.table),
         kept,
         columns: Sequence::from(columns),

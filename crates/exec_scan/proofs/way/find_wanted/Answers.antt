@@ -5,8 +5,8 @@ use Rattle.query_block.specs.Meaning.{meets_filter}
 use Rattle.exec_scan.proofs.Relations.{first-kept}
 use Rattle.exec_scan.proofs.way.find_wanted.Goals as goal
 
-pub returns-then-meets_filter-clause-row : goal.returns-then-meets_filter-clause-row
-returns-then-meets_filter-clause-row c =
+pub returns-then-meets-clause-row : goal.returns-then-meets-clause-row
+returns-then-meets-clause-row c =
     let database = c.args.meter.now.database in
     let own = relation_tree c.args.relation.now in
     let words = c.in-Some.row.now in
@@ -14,7 +14,7 @@ returns-then-meets_filter-clause-row c =
     let meets : meets_filter own.filter (values_of database.texts own.columns words) ≡ true = search rules in
     rw c.loop-row.invariant.kept at (first-kept database.texts own _ _ words first (meets_filter own.filter) meets)
 
-pub meets_filter-requires-clause-words : goal.meets_filter-requires-clause-words
-meets_filter-requires-clause-words c =
+pub meets-requires-clause-words : goal.meets-requires-clause-words
+meets-requires-clause-words c =
     let first = rw (c.in-Some.is, c.loop-row.invariant.database) at c.in_ok-row.ensures.row in
-    rw (c.texts-texts.ensures, c.as_slice-in-Some.ensures) first.are.allowed
+    rw (c.texts-texts.ensures, c.as_slice-in-Some.ensures) first.are

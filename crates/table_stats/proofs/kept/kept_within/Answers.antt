@@ -1,5 +1,5 @@
-use Rattle.std.proofs.Common.{◌≡◌, ◌+◌, ◌++◌, ◌<◌, All, arith, filter, length, map, SFits, w64, sym, ap, subst, ◌∙◌, rules}
-use Rattle.std.specs.Prelude.{Bool, Contains, count_by}
+use Rattle.std.proofs.Common.{◌+◌, ◌++◌, ◌<◌, filter, length, SFits, w64, ◌∙◌, rules}
+use Rattle.std.specs.Prelude.{Bool, Contains}
 use Rattle.std.specs.List.Sorted.{IsPermutation}
 use Rattle.std.proofs.lemmas.Int.{to_z-of_z}
 use Rattle.std.proofs.lemmas.List.Elements.{All-contains, All-filter}

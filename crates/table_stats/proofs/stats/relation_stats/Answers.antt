@@ -31,4 +31,4 @@ returns c =
     let width : length relation.columns ≡ length table.columns = ap length c.requires.fits.columns ∙ length-map table.columns (λ (column : ColumnDef). column.kind) in
     let pages : c.pages.result ≡ pages_in tables relation = c.pages.ensures ∙ ap (λ n. pages_of n (length (table_rows tables relation))) (sym width) in
     let columns = c.from.ensures ∙ c.in_ok-columns.ensures in
-    λ i. record { rows = c.rows.ensures.count i; pages = pages i; kept = kept i; columns = columns i }
+    λ i. record { rows = c.rows-rows.ensures.count i; pages = pages i; kept = kept i; columns = columns i }

@@ -16,7 +16,7 @@ is_met-requires-clause-words c =
     let words = same-page c.args.meter.now.database c.loop-page.self.reader new c.page-page.result.now c.loop-page.invariant.words (ap (λ (way : TableWay). way.reader) c.next_candidate.ensures.moves) in
     let some : 0 < new.slot = omega (arith, c.loop-page-test.ensures.looks.some) in
     (last-row c.args.meter.now.database own c.requires.way.relation new on.reading.reader on.table c.page-page.result.now words some (length c.as_slice-width.result.now) (ap length c.as_slice-width.ensures)
-    c.last_row-row.result.now c.last_row-row.ensures).are.allowed
+    c.last_row-row.result.now c.last_row-row.ensures).are
 
 pub returns-then-is_exact-clause-row : goal.returns-then-is_exact-clause-row
 returns-then-is_exact-clause-row c =

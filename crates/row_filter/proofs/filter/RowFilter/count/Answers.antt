@@ -13,15 +13,15 @@ pub count-requires : goal.count-requires
 count-requires c =
     let is = c.requires.1 in (
       get_or is.tests 0 any,
-      union-at c.args.db.now c.args.table is.tests (take c.self.inside.count c.self.inside.unions) 0 (seen c.args.db.now c.args.table is.tests _ c.args.self.now c.self.view_is is.told)
+      union-at c.args.db.now c.args.table is.tests c.as_slice-unions.result.now 0 (seen c.args.db.now c.args.table is.tests _ c.args.self.now ((λ k. record { unions = c.as_slice-unions.ensures.value k; exact = c.self.inside.exact }) ∙ c.self.view_is) is.told)
           (omega (arith, c.if-unions-ne1.false)),
     )
 
 pub returns : goal.returns
 returns c = λ conditions is.
     let rows = (table_at c.args.db.now c.args.table).rows in
-    let unions = take c.self.inside.count c.self.inside.unions in
-    let told = seen c.args.db.now c.args.table is.tests _ c.args.self.now c.self.view_is is.told in
+    let unions = c.as_slice-unions.result.now in
+    let told = seen c.args.db.now c.args.table is.tests _ c.args.self.now ((λ k. record { unions = c.as_slice-unions.ensures.value k; exact = c.self.inside.exact }) ∙ c.self.view_is) is.told in
     let single : length is.tests ≡ 1 = zip-length (IsUnionIn c.args.db.now c.args.table) is.tests unions told ∙ c.if-unions-ne1.false in
     let exact = (λ k. (sym c.self.view_is k).exact) ∙ c.if-not-self.false in
     let same : (row : ValueRow) → get_or is.tests 0 any row ≡ meets_filter (fixed_of conditions) row = λ row. sym (one-of-all is.tests any row single) ∙ is.exact exact row in

@@ -15,7 +15,7 @@ marks-marks-requires-clause-union g c =
     let database = g.R.RowMarks.database c.args.rows.now in
     let is = c.requires.filter.1 in (
       get_or is.tests c.loop-union.union-index any,
-      union-at database c.args.table is.tests (take c.self.inside.count c.self.inside.unions) c.loop-union.union-index (seen database c.args.table is.tests _ c.args.self.now c.self.view_is is.told)
+      union-at database c.args.table is.tests c.deref-union-items.result.now c.loop-union.union-index (seen database c.args.table is.tests _ c.args.self.now ((λ k. record { unions = c.deref-union-items.ensures.value k; exact = c.self.inside.exact }) ∙ c.self.view_is) is.told)
           c.loop-union-test.true,
     )
 
@@ -31,7 +31,7 @@ pub loop-union-preserved : goal.loop-union-preserved
 loop-union-preserved g c = λ tests told.
     let database = g.R.RowMarks.database c.args.rows.now in
     let rows = rows_of_span c.args.span (table_at database c.args.table).rows in
-    let unions = take c.self.inside.count c.self.inside.unions in
+    let unions = c.deref-union-items.result.now in
     let i = c.loop-union.union-index in
     let below : i < length tests = omega (arith, c.loop-union-test.true, zip-length (IsUnionIn database c.args.table) tests unions told) in
     all-marked-more tests i any rows c.loop-union.marks c.marks-marks.result below
@@ -42,9 +42,9 @@ pub returns-then-marks-eq0 : goal.returns-then-marks-eq0
 returns-then-marks-eq0 g c = λ conditions is.
     let database = g.R.RowMarks.database c.args.rows.now in
     let rows = rows_of_span c.args.span (table_at database c.args.table).rows in
-    let unions = take c.self.inside.count c.self.inside.unions in
+    let unions = c.deref-union-items.result.now in
     let i = c.loop-union.union-index in
-    let told = seen database c.args.table is.tests _ c.args.self.now c.self.view_is is.told in
+    let told = seen database c.args.table is.tests _ c.args.self.now ((λ k. record { unions = c.deref-union-items.ensures.value k; exact = c.self.inside.exact }) ∙ c.self.view_is) is.told in
     let below : i < length is.tests = omega (arith, c.loop-union-test.true, zip-length (IsUnionIn database c.args.table) is.tests unions told) in
     let more = all-marked-more is.tests i any rows c.loop-union.marks c.marks-marks.result below
     (c.marks-marks.ensures _ (zip-at (IsUnionIn database c.args.table) is.tests unions i any _ told c.loop-union-test.true))
@@ -56,8 +56,8 @@ pub returns : goal.returns
 returns g c = λ conditions is.
     let database = g.R.RowMarks.database c.args.rows.now in
     let rows = rows_of_span c.args.span (table_at database c.args.table).rows in
-    let unions = take c.self.inside.count c.self.inside.unions in
-    let told = seen database c.args.table is.tests _ c.args.self.now c.self.view_is is.told in
+    let unions = c.deref-union-items.result.now in
+    let told = seen database c.args.table is.tests _ c.args.self.now ((λ k. record { unions = c.deref-union-items.ensures.value k; exact = c.self.inside.exact }) ∙ c.self.view_is) is.told in
     let whole : take c.loop-union.union-index is.tests ≡ is.tests = take_all c.loop-union.union-index is.tests (omega (arith, c.loop-union-test.false, zip-length (IsUnionIn database c.args.table) is.tests unions told)) in
     filter-marks _ _ conditions c.args.self.now is rows c.loop-union.marks
     (c.loop-union.invariant is.tests told ∙ ap (λ (tests : List (ValueRow → Bool)). marks_of (map (passes_all tests) rows)) whole)

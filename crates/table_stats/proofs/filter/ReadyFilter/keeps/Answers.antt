@@ -4,8 +4,7 @@ use Rattle.sql_values.specs.Stored.{values_of}
 use Rattle.sql_values.specs.declared.column.ColumnType.{ColumnType}
 use Rattle.query_block.specs.Meaning.{is_true, meets_filter}
 use Rattle.query_block.specs.Truth.{truth_of}
-use Rattle.std.specs.Borrow.{Bor}
-use Rattle.query_block.specs.declared.condition.Condition.{Condition}
+use Rattle.table_stats.specs.declared.filter.FixedConjunct.{FixedConjunct}
 use Rattle.table_stats.specs.Ready.{own_tree, own_values}
 use Rattle.query_block.specs.Blocks.{FitsColumns}
 use Rattle.table_stats.proofs.Fixed.{conjunct-fit}
@@ -18,10 +17,10 @@ is_met-requires-clause-fits c =
     let i = c.loop-conjunct.conjunct-index in
     let item = c.conjunct-item.result in
     let lent = c.deref-conjunct-items.ensures.value in
-    let below : i < length filter.conjuncts.items = subst (λ (all : List (Bor Condition)). i < length all) lent c.loop-conjunct-test.true in
-    let is : item ≡ get_or filter.conjuncts.items i item = c.conjunct-item.is ∙ ap (λ (all : List (Bor Condition)). get_or all i item) lent in
+    let below : i < length filter.conjuncts.items = subst (λ (all : List FixedConjunct). i < length all) lent c.loop-conjunct-test.true in
+    let is : item ≡ get_or filter.conjuncts.items i item = c.conjunct-item.is ∙ ap (λ (all : List FixedConjunct). get_or all i item) lent in
     rw c.as_slice-columns.ensures
-    (subst (λ (one : Bor Condition). FitsColumns [] filter.relation.now.columns (own_tree one)) (sym is) (conjunct-fit filter i item c.requires.ready below))
+    (subst (λ (one : FixedConjunct). FitsColumns [] filter.relation.now.columns (own_tree one)) (sym is) (conjunct-fit filter i item c.requires.ready below))
 
 pub returns-then-not-is_met : goal.returns-then-not-is_met
 returns-then-not-is_met c =
@@ -45,4 +44,4 @@ pub returns : goal.returns
 returns c =
     let row = own_values c.args.self.now c.args.row.now in
     sym (c.loop-conjunct.invariant
-    ∙ at_drop_all (λ (all : List (Bor Condition)). meets_filter (map own_tree all) row) c.deref-conjunct-items.result.now c.loop-conjunct.conjunct-index c.loop-conjunct-test.false)
+    ∙ at_drop_all (λ (all : List FixedConjunct). meets_filter (map own_tree all) row) c.deref-conjunct-items.result.now c.loop-conjunct.conjunct-index c.loop-conjunct-test.false)

@@ -3,8 +3,7 @@ use Rattle.std.specs.List.{list_all}
 use Rattle.std.proofs.lemmas.List.{at_drop_all}
 use Rattle.sql_values.specs.declared.column.ColumnType.{ColumnType}
 use Rattle.plan_tree.specs.Usable.{is_usable}
-use Rattle.std.specs.Borrow.{Bor}
-use Rattle.query_block.specs.declared.condition.Condition.{Condition}
+use Rattle.table_stats.specs.declared.filter.FixedConjunct.{FixedConjunct}
 use Rattle.table_stats.specs.Ready.{own_tree}
 use Rattle.table_stats.proofs.Ready.{all-next}
 use Rattle.table_stats.proofs.filter.ReadyFilter.uses_all.Goals as goal
@@ -31,4 +30,4 @@ pub returns : goal.returns
 returns c =
     let usable = is_usable c.args.self.now.relation.now.columns c.args.column in
     sym (c.loop-conjunct.invariant
-    ∙ at_drop_all (λ (all : List (Bor Condition)). list_all usable (map own_tree all)) c.deref-conjunct-items.result.now c.loop-conjunct.conjunct-index c.loop-conjunct-test.false)
+    ∙ at_drop_all (λ (all : List FixedConjunct). list_all usable (map own_tree all)) c.deref-conjunct-items.result.now c.loop-conjunct.conjunct-index c.loop-conjunct-test.false)
