@@ -49,7 +49,7 @@ fn measured(
 {
     let most = engine.max_work;
     let before = engine.meter.spent();
-    match engine.execute(alloc, plan, None) {
+    match engine.execute(alloc, plan, &[], None) {
         Ok(_) => {
             engine.space.result.release(0);
             let cost = costing.cost(plan, point);

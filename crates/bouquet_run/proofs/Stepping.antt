@@ -1,5 +1,6 @@
 -- From one execution of a run to the next.
 use Rattle.std.proofs.Common.{◌≡◌, ◌∙◌, ℕ, ◌+◌, ◌≤◌, List, [], length, refl, ap, subst, sym, arith}
+use Rattle.std.proofs.lemmas.List.Elements.{All-weaker}
 use Rattle.std.specs.Prelude.{All, Option, None, Some, Result, Ok, Err}
 use Rattle.row_stack.specs.declared.space.Space.{Space}
 use Rattle.query_block.specs.Blocks.{BlockTree, IsPutOf, block_tree}
@@ -164,18 +165,28 @@ keeps-on first old new before after = record {
 module _ (bouquet : BouquetTree) (ending : RunEnd) (first old new : Engine) (due : List Member) (schedule next : ScheduleState) (runs : ℕ) (attempt : AttemptTree)
     (is : IsUnderWay bouquet (block_tree first.block.now) first.max_work ending first.meter.now first.space.now due (run_state schedule old runs)) (keeps : KeepsEngine first old)
     (takes : TakesNext schedule next) (at : attempt ≡ attempt_at next) where
+  -- a plan of its bouquet is one of the block at hand
+  plan-at-hand : (p : PlanTree) → IsPutOf bouquet.costing.block (block_tree first.block.now) → IsPlan next.ladder.whole.costing.block p → IsPlan (block_tree old.block.now) p
+  plan-at-hand p put of =
+      let here = subst (λ (whole : BouquetTree). IsPlan whole.costing.block p) (takes.whole ∙ is.of) of in
+      subst (λ (block : BlockShape). IsPlan (block_tree block) p) (sym keeps.lent.block) (plan-of-put bouquet.costing.block (block_tree first.block.now) p put here)
+
+  -- and so are those that come
+  pub coming-at-hand : (plans : List Plan) → IsPutOf bouquet.costing.block (block_tree first.block.now) → All (λ p. IsPlan next.ladder.whole.costing.block (plan_tree p)) plans
+      → All (λ p. IsPlan (block_tree old.block.now) (plan_tree p)) plans
+  coming-at-hand plans put of =
+      All-weaker (λ p. IsPlan next.ladder.whole.costing.block (plan_tree p)) (λ p. IsPlan (block_tree old.block.now) (plan_tree p)) (λ p. plan-at-hand (plan_tree p) put) plans of
+
   -- its plan may be executed, where there were no work rows
   pub may-execute : (plan : Plan) → IsPutOf bouquet.costing.block (block_tree first.block.now) → IsPlan next.ladder.whole.costing.block (plan_tree plan) → first.space.now.work.rows ≡ []
       → MayExecute old plan
-  may-execute plan put of none =
-      let here = subst (λ (whole : BouquetTree). IsPlan whole.costing.block (plan_tree plan)) (takes.whole ∙ is.of) of in
-      record {
-        engine = keeps.engine;
-        runs = record {
-          plan = subst (λ (block : BlockShape). IsPlan (block_tree block) (plan_tree plan)) (sym keeps.lent.block) (plan-of-put bouquet.costing.block (block_tree first.block.now) (plan_tree plan) put here);
-          context = record { context = keeps.engine.context; work = keeps.leaves.leaves.work.rows ∙ none; result = is.rows };
-        };
-      }
+  may-execute plan put of none = record {
+    engine = keeps.engine;
+    runs = record {
+      plan = plan-at-hand (plan_tree plan) put of;
+      context = record { context = keeps.engine.context; work = keeps.leaves.leaves.work.rows ∙ none; result = is.rows };
+    };
+  }
 
   abbrev pub EngineTells : BlockShape → (most : ℕ) → DatabaseState → Result (Option Report) RunFault → Type 0
   EngineTells block most database told =

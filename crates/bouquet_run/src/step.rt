@@ -1,6 +1,8 @@
 // The step. It relies on the execution for rows and work; what it adds is what is told of it.
-ghost use Rattle.std.specs.Prelude.{◌≡◌};
+ghost use Rattle.std.specs.Prelude.{◌≡◌, All};
+ghost use Rattle.query_block.specs.Blocks.{block_tree};
 ghost use Rattle.plan_tree.specs.Plans.{plan_tree};
+ghost use Rattle.plan_tree.specs.Enumerated.{IsPlan};
 ghost use Rattle.exec_pipe.specs.Engines.{KeepsEngine, MayExecute};
 ghost use Rattle.exec_pipe.specs.Runs.{OnlyRuns};
 ghost use Rattle.bouquet_run.specs.Coming.{TellsEnd};
@@ -64,11 +66,13 @@ pub fn execute(
     attempt: Attempt<'_>,
     runs: u32,
 ) -> Result<Option<Report>, RunFault>
-    requires { MayExecute engine.old attempt.plan.now }
+    requires executes { MayExecute engine.old attempt.plan.now }
+    requires coming { All (λ p. IsPlan (block_tree engine.old.block.now) (plan_tree p))
+        attempt.coming.now }
     ensures tells { TellsExecution engine.old engine.new runs attempt.entry result }
     ensures keeps { KeepsEngine engine.old engine.new }
 {
-    match engine.execute(alloc, attempt.plan, attempt.budget) {
+    match engine.execute(alloc, attempt.plan, attempt.coming, attempt.budget) {
         Ok(Outcome::Done) => Ok(Some(report(alloc, attempt, runs, engine.meter, engine.space)?)),
         Ok(Outcome::Exhausted) => Ok(None),
         Err(stop) => Err(fault_of(stop, engine.max_work)),

@@ -1,5 +1,5 @@
 // The executions of a bouquet, one after another.
-ghost use Rattle.std.specs.Prelude.{◌≡◌, OnErr, OnOk, length};
+ghost use Rattle.std.specs.Prelude.{◌≡◌, All, OnErr, OnOk, length};
 ghost use Rattle.plan_tree.specs.Plans.{plan_tree};
 ghost use Rattle.plan_tree.specs.Enumerated.{IsPlan};
 ghost use Rattle.bouquet_type.specs.Cursor.{TakesNext, IsAtAttempt, IsWholeSchedule, IsSchedule};
@@ -24,6 +24,8 @@ pub struct Attempt<'b> {
     pub place: usize,
     /// What its contour costs, in units of work.
     pub cost: u128,
+    /// The plans of its contour that come behind it. None for the last execution.
+    pub coming: &'b [Plan],
 }
 
 /// The executions of a bouquet: the plans of the first contour in order, each under the contour's budget, then those of the
@@ -94,6 +96,9 @@ impl<L: Ladder> Schedule<L> {
         ensures place { result.place ≡ (schedule_of L.state self.now).given }
         ensures cost { result.cost ≡ (schedule_of L.state self.now).ladder.hand.cost }
         ensures plan { IsPlan (L.state self.now.ladder).whole.costing.block (plan_tree result.plan.now) }
+        ensures coming { All
+            (λ p. IsPlan (L.state self.now.ladder).whole.costing.block (plan_tree p))
+            result.coming.now }
     {
         let plans = self.ladder.plans();
         Attempt {
@@ -106,6 +111,7 @@ impl<L: Ladder> Schedule<L> {
             },
             place: self.given,
             cost: self.ladder.cost(),
+            coming: &plans[self.given..],
         }
     }
 }

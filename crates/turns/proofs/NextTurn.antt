@@ -1,9 +1,11 @@
 -- What a turn makes of a job that runs.
 use Rattle.std.proofs.Common.{◌≡◌, ◌∙◌, ℕ, ◌+◌, List, refl, sym, subst}
-use Rattle.std.specs.Prelude.{Option, Some, None, Result, Ok, Err}
+use Rattle.std.proofs.lemmas.List.Elements.{All-weaker}
+use Rattle.std.specs.Prelude.{All, Option, Some, None, Result, Ok, Err}
 use Rattle.row_stack.specs.declared.space.Space.{Space}
 use Rattle.query_block.specs.Blocks.{BlockTree, width_of}
-use Rattle.plan_tree.specs.Plans.{PlanTree}
+use Rattle.plan_tree.specs.declared.plan.Plan.{Plan}
+use Rattle.plan_tree.specs.Plans.{PlanTree, plan_tree}
 use Rattle.plan_tree.specs.Enumerated.{IsPlan}
 use Rattle.db_catalog.specs.Database.{DatabaseState}
 use Rattle.db_catalog.specs.Fits.{Fits}
@@ -31,10 +33,19 @@ module _ (meter : MeterState) (schedule : ScheduleState) (space : Space) (block 
   abbrev task : JobTask
   task = task_at meter.database schedule block most
 
+  -- a plan of its bouquet is one of its block
+  plan-on : (p : PlanTree) → IsPlan next.ladder.whole.costing.block p → IsPlan block p
+  plan-on p plan = plan-of-put schedule.ladder.whole.costing.block block p is.block (subst (λ (whole : BouquetTree). IsPlan whole.costing.block p) takes.whole plan)
+
+  -- and so are those that come
+  pub coming-on : (plans : List Plan) → All (λ p. IsPlan next.ladder.whole.costing.block (plan_tree p)) plans → All (λ p. IsPlan block (plan_tree p)) plans
+  coming-on plans are =
+      All-weaker (λ p. IsPlan next.ladder.whole.costing.block (plan_tree p)) (λ p. IsPlan block (plan_tree p)) (λ p. plan-on (plan_tree p)) plans are
+
   -- its plan may be executed
   pub may-run : (p : PlanTree) → IsPlan next.ladder.whole.costing.block p → IsPlan block p × IsEmptyContext meter block space
   may-run p plan = (
-    plan-of-put schedule.ladder.whole.costing.block block p is.block (subst (λ (whole : BouquetTree). IsPlan whole.costing.block p) takes.whole plan),
+    plan-on p plan,
     record { context = is.context; work = is.leaves.leaves.work.rows; result = is.has_run.rows },
   )
 

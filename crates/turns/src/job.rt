@@ -1,6 +1,8 @@
 // A job: a query that is answered by turns. It has a meter, two stacks and what its executions learned of its own.
-ghost use Rattle.std.specs.Prelude.{◌≡◌, ◌≤◌, false, option_map};
+ghost use Rattle.std.specs.Prelude.{◌≡◌, ◌≤◌, All, false, option_map};
 ghost use Rattle.query_block.specs.Blocks.{block_tree, IsPutOf};
+ghost use Rattle.plan_tree.specs.Plans.{plan_tree};
+ghost use Rattle.plan_tree.specs.Enumerated.{IsPlan};
 ghost use Rattle.db_catalog.specs.Fits.{Fits};
 ghost use Rattle.known_rows.specs.Remembering.{Remembers};
 ghost use Rattle.exec_pipe.specs.Counting.{Knows};
@@ -46,6 +48,8 @@ fn execute_over(
     runs: u32,
 ) -> Result<Option<Report>, RunFault>
     requires runs { MayRun executor.old.meter.now executor.old.block.now attempt.plan.now space.old }
+    requires coming { All (λ p. IsPlan (block_tree executor.old.block.now) (plan_tree p))
+        attempt.coming.now }
     requires known { Knows executor.old.meter.now executor.old.block.now executor.old.known.now }
     requires left { executor.old.meter.now.account.spent ≤ executor.old.most }
     ensures tells { TellsStep executor.old.meter.now.database (block_tree executor.old.block.now)

@@ -8,7 +8,7 @@ use Rattle.bouquet_type.specs.Runs.{end_of, run_end}
 use Rattle.bouquet_type.specs.Cursor.{IsWholeSchedule, attempt_tree, members_left, schedule_of}
 use Rattle.bouquet_type.specs.declared.report.Report.{Report}
 use Rattle.bouquet_run.specs.Outcomes.{AnswersRun, works_over}
-use Rattle.bouquet_run.proofs.Stepping.{EngineTells, begun, bounded, engine-steps, engine-tells, may-execute}
+use Rattle.bouquet_run.proofs.Stepping.{EngineTells, begun, bounded, coming-at-hand, engine-steps, engine-tells, may-execute}
 use Rattle.bouquet_run.proofs.attempts.run_schedule.Goals as goal
 
 pub steps-init : goal.steps-init
@@ -25,8 +25,8 @@ steps-init g c =
       keeps = search rules;
     }
 
-pub execute-requires : goal.execute-requires
-execute-requires g c =
+pub execute-requires-clause-executes : goal.execute-requires-clause-executes
+execute-requires-clause-executes g c =
     let state = schedule_of g.L.Ladder.state in
     let begun = (state c.new-schedule.result).ladder.whole in
     let first = c.args.engine.now in
@@ -34,6 +34,16 @@ execute-requires g c =
     may-execute begun (run_end begun (works_over first.meter.now.database (block_tree first.block.now))) first c.steps.engine c.steps.engine (members_left (state c.steps.schedule)) (state c.steps.schedule)
     (state c.next.new.self) c.steps.runs (attempt_tree c.attempt.result) c.steps.invariant.running c.steps.invariant.keeps c.in_ok-next.ensures.goes_on c.attempt.ensures.step
     c.attempt.result.plan.now put c.attempt.ensures.plan c.requires.context.work
+
+pub execute-requires-clause-coming : goal.execute-requires-clause-coming
+execute-requires-clause-coming g c =
+    let state = schedule_of g.L.Ladder.state in
+    let begun = (state c.new-schedule.result).ladder.whole in
+    let first = c.args.engine.now in
+    let put = subst (λ (whole : BouquetTree). IsPutOf whole.costing.block (block_tree first.block.now)) (sym c.new-schedule.ensures.whole) c.requires.block in
+    coming-at-hand begun (run_end begun (works_over first.meter.now.database (block_tree first.block.now))) first c.steps.engine c.steps.engine (members_left (state c.steps.schedule)) (state c.steps.schedule)
+    (state c.next.new.self) c.steps.runs (attempt_tree c.attempt.result) c.steps.invariant.running c.steps.invariant.keeps c.in_ok-next.ensures.goes_on c.attempt.ensures.step
+    c.attempt.result.coming.now put c.attempt.ensures.coming
 
 pub returns-in-Some-clause-answers : goal.returns-in-Some-clause-answers
 returns-in-Some-clause-answers g c =

@@ -11,7 +11,7 @@ use Rattle.bouquet_type.specs.Cursor.{IsWholeSchedule, attempt_tree, members_lef
 use Rattle.bouquet_type.proofs.Meets.{plans-of-bouquet}
 use Rattle.bouquet_type.specs.declared.report.Report.{Report}
 use Rattle.bouquet_run.specs.Running.{TellsExecution}
-use Rattle.bouquet_run.proofs.Stepping.{keeps-on, may-execute}
+use Rattle.bouquet_run.proofs.Stepping.{coming-at-hand, keeps-on, may-execute}
 use Rattle.learned_run.specs.declared.learned.Skip.{Skip}
 use Rattle.learned_run.specs.Raising.{IsLearned, RulesOut}
 use Rattle.learned_run.specs.Skips.{learned_end}
@@ -68,8 +68,8 @@ steps-preserved-in-Some c =
       keeps = c.steps.invariant.keeps;
     }
 
-pub execute-requires : goal.execute-requires
-execute-requires c =
+pub execute-requires-clause-executes : goal.execute-requires-clause-executes
+execute-requires-clause-executes c =
     let bouquet = bouquet_tree c.args.b.now in
     let first = c.args.engine.now in
     let old = c.steps.engine in
@@ -78,6 +78,17 @@ execute-requires c =
     let is = c.steps.invariant.learning in
     may-execute bouquet (learned_end bouquet (works_of first)) first old old (due_among bouquet is.exhausted (members_left now)) now (schedule_of ladder_of c.next.new.self) c.steps.runs (attempt_tree step)
     is.running c.steps.invariant.keeps c.in_ok-next.ensures.goes_on c.attempt-step.ensures.step step.plan.now c.requires.block c.attempt-step.ensures.plan c.requires.context.work
+
+pub execute-requires-clause-coming : goal.execute-requires-clause-coming
+execute-requires-clause-coming c =
+    let bouquet = bouquet_tree c.args.b.now in
+    let first = c.args.engine.now in
+    let old = c.steps.engine in
+    let now = schedule_of ladder_of c.steps.schedule in
+    let step = c.attempt-step.result in
+    let is = c.steps.invariant.learning in
+    coming-at-hand bouquet (learned_end bouquet (works_of first)) first old old (due_among bouquet is.exhausted (members_left now)) now (schedule_of ladder_of c.next.new.self) c.steps.runs (attempt_tree step)
+    is.running c.steps.invariant.keeps c.in_ok-next.ensures.goes_on c.attempt-step.ensures.step step.coming.now c.requires.block c.attempt-step.ensures.coming
 
 pub returns-in-Err-clause-answers : goal.returns-in-Err-clause-answers
 returns-in-Err-clause-answers c =

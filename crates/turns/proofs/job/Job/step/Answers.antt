@@ -7,7 +7,7 @@ use Rattle.bouquet_type.specs.Kept.{ladder_of}
 use Rattle.known_rows.specs.Known.{AreKnown}
 use Rattle.turns.specs.Jobs.{IsJobOf, JobShape, task_at}
 use Rattle.turns.specs.declared.progress.Progress.{Progress}
-use Rattle.turns.proofs.NextTurn.{is-job, may-run}
+use Rattle.turns.proofs.NextTurn.{coming-on, is-job, may-run}
 use Rattle.turns.proofs.job.Job.step.Goals as goal
 
 pub execute_over-made-requires-clause-runs : goal.execute_over-made-requires-clause-runs
@@ -19,6 +19,15 @@ execute_over-made-requires-clause-runs c =
     let may = may-run old.meter schedule old.space block old.max_work c.args.place (schedule_of ladder_of c.next.new.self) (attempt_tree c.attempt-attempt.result)
     is c.in_ok-next.ensures.goes_on c.attempt-attempt.ensures.step (plan_tree c.attempt-attempt.result.plan.now) c.attempt-attempt.ensures.plan in
     record { plan = may.0; context = may.1 }
+
+pub execute_over-made-requires-clause-coming : goal.execute_over-made-requires-clause-coming
+execute_over-made-requires-clause-coming c =
+    let old = c.self.inside in
+    let block = block_tree old.block.now in
+    let schedule = schedule_of ladder_of old.schedule in
+    let is = subst (IsJobOf (task_at old.meter.database schedule block old.max_work) old.meter schedule old.space) (ap (λ (job : JobShape). job.progress) c.self.view_is ∙ c.requires) c.self.invariant.0 in
+    coming-on old.meter schedule old.space block old.max_work c.args.place (schedule_of ladder_of c.next.new.self) (attempt_tree c.attempt-attempt.result)
+    is c.in_ok-next.ensures.goes_on c.attempt-attempt.ensures.step c.attempt-attempt.result.coming.now c.attempt-attempt.ensures.coming
 
 pub invariant_of-self-2 : goal.invariant_of-self-2
 invariant_of-self-2 c =
