@@ -38,11 +38,11 @@ TABLES = {
 }
 TASKS = {
     "load": None,
-    "look-up": ("SELECT * FROM SALES WHERE KEY = {key}", 30_000),
-    "scan": ("SELECT KEY, AMOUNT FROM SALES WHERE AMOUNT < {part}", 200),
-    "few": ("SELECT KEY, RANK FROM PERSONS, SALES WHERE ID = PERSON AND RANK < 10", 200),
-    "part": ("SELECT KEY, RANK FROM PERSONS, SALES WHERE ID = PERSON AND AMOUNT < {part}", 50),
-    "three": ("SELECT KEY, SIZE FROM REGIONS, PERSONS, SALES WHERE CODE = REGION AND ID = PERSON AND SIZE = 7", 200),
+    "look-up": ("SELECT * FROM SALES WHERE KEY = {key}", 100_000, 100_000),
+    "scan": ("SELECT KEY, AMOUNT FROM SALES WHERE AMOUNT < {part}", 500, 20),
+    "few": ("SELECT KEY, RANK FROM PERSONS, SALES WHERE ID = PERSON AND RANK < 10", 5000, 200),
+    "part": ("SELECT KEY, RANK FROM PERSONS, SALES WHERE ID = PERSON AND AMOUNT < {part}", 100, 3),
+    "three": ("SELECT KEY, SIZE FROM REGIONS, PERSONS, SALES WHERE CODE = REGION AND ID = PERSON AND SIZE = 7", 5000, 200),
 }
 
 
@@ -115,8 +115,8 @@ class Timed:
         if not os.path.exists(os.path.join(DATA, saved)):
             run(SQLITE, f"{begun['sqlite3']}.save {saved}\n", "rows-saved")
         begun["sqlite3"] = f".mode csv\n.restore {saved}\n"
-        query, times = TASKS[name]
-        more = {"bouquet": times, "sqlite3": max(3, times * SIZES[0] // size) if times < 1000 else times}
+        query, ours, theirs = TASKS[name]
+        more = {"bouquet": ours, "sqlite3": theirs}
         once, often = (
             self.least({side: begun[side] + asked(query, size, 1 + it * more[side]) for side in SIDES}, is_same=not it)
             for it in (0, 1)
